@@ -95,7 +95,7 @@ pub record Taken (place : ℕ) (o : Option Value) (r : Option (List (ℕ × Valu
   pub more : r ≡ Some rest
   pub whole : (place, first) ∷ rest ≡ all
 
-taken : (place : ℕ) (o : Option Value) (r : Option (List (ℕ × Value))) (all : List (ℕ × Value)) → field_and_defaults place o r ≡ Some all → Taken place o r all
+pub taken : (place : ℕ) (o : Option Value) (r : Option (List (ℕ × Value))) (all : List (ℕ × Value)) → field_and_defaults place o r ≡ Some all → Taken place o r all
 taken place (Some x) (Some rest) all e = record { first = x; rest = rest; one = refl; more = refl; whole = some_same ((place, x) ∷ rest) all e }
 taken place o r all e = absurd (cc)
 

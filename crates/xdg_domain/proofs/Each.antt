@@ -2,11 +2,11 @@
 use Rattle.std.proofs.Common.{◌≡◌, ℕ, ◌<◌, ◌≤◌, ◌+◌, zero, suc, List, [], ◌∷◌, ◌++◌, map, Option, Some, inl, inr, ap, ap₂, sym, ◌∙◌, arith}
 use Rattle.std.specs.List.{range_with_len}
 use Rattle.std.proofs.lemmas.List.{map-append}
-use Rattle.std.specs.Prelude.{◌==◌}
-use Rattle.std.proofs.lemmas.Bool.{cond-true, cond-false, cases_eq, eq-eqb, ne_eqb}
+use Rattle.std.proofs.lemmas.Bool.{cases_eq}
 use Rattle.xdg_domain.specs.Valencies.{said_at, KeysRise}
 use Rattle.xdg_domain.specs.Values.{AllBelow, EachSaid}
 use Rattle.xdg_domain.specs.Defaults.{for_each_key}
+use Rattle.xdg_domain.proofs.Keyed.{at_head, after_head}
 use Rattle.xdg_domain.proofs.Sorting.{range_more}
 use Rattle.xdg_facts.proofs.Options.{some_same}
 
@@ -14,31 +14,33 @@ use Rattle.xdg_facts.proofs.Options.{some_same}
 pub each_more : {V : Type 0} (n : ℕ) (x : V) → for_each_key n x ++ (n, x) ∷ [] ≡ for_each_key (n + 1) x
 each_more {V} n x = let said : ℕ → ℕ × V = λ key. (key, x) in sym (map-append said (range_with_len 0 n) (n ∷ [])) ∙ ap (map said) (range_more n)
 
-rise_from : {V : Type 0} (x : V) (first count : ℕ) → KeysRise first (map (λ key. (key, x)) (range_with_len first count))
-rise_from x first zero = tt
-rise_from x first (suc count) = (omega arith, rise_from x (first + 1) count)
+-- of each key from the first on something is said
+abbrev pub keyed : {V : Type 0} → (ℕ → V) → ℕ → ℕ → List (ℕ × V)
+keyed g first count = map (λ key. (key, g key)) (range_with_len first count)
+
+pub keyed_rises : {V : Type 0} (g : ℕ → V) (first count : ℕ) → KeysRise first (keyed g first count)
+keyed_rises g first zero = tt
+keyed_rises g first (suc count) = (omega arith, keyed_rises g (first + 1) count)
 
 pub each_rises : {V : Type 0} (x : V) (count : ℕ) → KeysRise 0 (for_each_key count x)
-each_rises x count = rise_from x 0 count
+each_rises x count = keyed_rises (λ _. x) 0 count
 
-each_from : {V : Type 0} (P : ℕ → V → Type 0) (x : V) (bound first count : ℕ) → first + count ≤ bound → ((key : ℕ) → key < bound → P key x) → EachSaid P (map (λ key. (key, x)) (range_with_len first count))
-each_from P x bound first zero within holds = tt
-each_from P x bound first (suc count) within holds = (holds first (omega (arith, within)), each_from P x bound (first + 1) count (omega (arith, within)) holds)
+pub keyed_each : {V : Type 0} (P : ℕ → V → Type 0) (g : ℕ → V) (bound first count : ℕ) → first + count ≤ bound → ((key : ℕ) → key < bound → P key (g key)) → EachSaid P (keyed g first count)
+keyed_each P g bound first zero within holds = tt
+keyed_each P g bound first (suc count) within holds = (holds first (omega (arith, within)), keyed_each P g bound (first + 1) count (omega (arith, within)) holds)
 
 pub each_holds : {V : Type 0} (P : ℕ → V → Type 0) (x : V) (count : ℕ) → ((key : ℕ) → key < count → P key x) → EachSaid P (for_each_key count x)
-each_holds P x count holds = each_from P x count 0 count (omega arith) holds
+each_holds P x count holds = keyed_each P (λ _. x) count 0 count (omega arith) holds
 
-said_from : {V : Type 0} (x : V) (first count key : ℕ) → first ≤ key → key < first + count → said_at (map (λ key. (key, x)) (range_with_len first count)) key ≡ Some x
-said_from x first zero key above below = absurd (omega (arith, above, below))
-said_from x first (suc count) key above below = elim (cases_eq first key) [
-  | inl e ↦ cond-true (first == key) (Some x) (said_at (map (λ key. (key, x)) (range_with_len (first + 1) count)) key) (eq-eqb first key e)
-  | inr other ↦
-      cond-false (first == key) (Some x) (said_at (map (λ key. (key, x)) (range_with_len (first + 1) count)) key) (ne_eqb first key other)
-      ∙ said_from x (first + 1) count key (omega (arith, above, other)) (omega (arith, below))
+pub keyed_said : {V : Type 0} (g : ℕ → V) (first count key : ℕ) → first ≤ key → key < first + count → said_at (keyed g first count) key ≡ Some (g key)
+keyed_said g first zero key above below = absurd (omega (arith, above, below))
+keyed_said g first (suc count) key above below = elim (cases_eq first key) [
+  | inl e ↦ at_head (first, g first) (keyed g (first + 1) count) key e ∙ ap (λ k. Some (g k)) e
+  | inr other ↦ after_head (first, g first) (keyed g (first + 1) count) key other ∙ keyed_said g (first + 1) count key (omega (arith, above, other)) (omega (arith, below))
 ]
 
 pub each_said : {V : Type 0} (x : V) (count key : ℕ) → key < count → said_at (for_each_key count x) key ≡ Some x
-each_said x count key below = said_from x 0 count key (omega arith) (omega (arith, below))
+each_said x count key below = keyed_said (λ _. x) 0 count key (omega arith) (omega (arith, below))
 
 below_from : (bound first count : ℕ) → first + count ≤ bound → AllBelow bound (range_with_len first count)
 below_from bound first zero within = tt

@@ -18,7 +18,7 @@ next_field fs k f within is = at_drop_more seen fs k f within ∙ ap (λ (g : Li
 pub one_type : (fs : List (List ℕ × Ty)) (k : ℕ) (f : List ℕ × Ty) → k < length fs → f ≡ get_or fs k f → AreTypes (seen (drop k fs)) → IsType (shape f.1) × AreTypes (seen (drop (k + 1) fs))
 one_type fs k f within is right = subst AreTypes (next_field fs k f within is) right
 
-after_more : (made : List (ℕ × Value)) (place : ℕ) (x : Value) (rest : Option (List (ℕ × Value))) → behind (made ++ (place, x) ∷ []) rest ≡ behind made (field_and_defaults place (Some x) rest)
+pub after_more : (made : List (ℕ × Value)) (place : ℕ) (x : Value) (rest : Option (List (ℕ × Value))) → behind (made ++ (place, x) ∷ []) rest ≡ behind made (field_and_defaults place (Some x) rest)
 after_more made place x None = refl
 after_more made place x (Some rest) = ap Some (append_assoc made ((place, x) ∷ []) rest)
 

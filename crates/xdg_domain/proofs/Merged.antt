@@ -1,12 +1,13 @@
 -- Two lists with rising keys put together, in the order of their keys.
 use Rattle.std.proofs.Common.{◌≡◌, ◌⊎◌, ℕ, ◌≤◌, ◌+◌, List, [], ◌∷◌, ◌++◌, length, drop, refl, ap, sym, ◌∙◌, arith, inl, inr, subst, append_assoc}
 use Rattle.std.specs.Prelude.{Option, None, Some, MatchOption}
+use Rattle.std.proofs.lemmas.List.{append-nil, drop_all}
 use Rattle.std.proofs.lemmas.Bool.{cases_eq}
 use Rattle.xdg_domain.specs.Valencies.{said_at, KeysRise}
 use Rattle.xdg_domain.specs.Values.{EachSaid}
 use Rattle.xdg_domain.specs.Joins.{Both, SaysBoth, OnBoth, OnSome}
 use Rattle.xdg_domain.specs.Joined.{behind, behind_joined, merged}
-use Rattle.xdg_domain.proofs.Merging.{by_order, append_nothing, nothing_left}
+use Rattle.xdg_domain.proofs.Merging.{by_order}
 use Rattle.xdg_domain.proofs.Keyed.{at_head, after_head, unsaid, both_along, on_along, on_none, both_none}
 
 -- ---- behind what is made
@@ -23,11 +24,11 @@ take_rest : {V : Type 0} (f : ℕ → V → V → Option V) (xs ys made rest mor
 take_rest f xs ys made rest more (inl e) left =
     ap (λ s. Some s) (append_assoc made rest more) ∙ ap (λ s. Some (made ++ (s ++ more))) e ∙ sym (ap (λ s. behind made (merged f s more)) e) ∙ left
 take_rest f xs ys made rest more (inr e) left =
-    ap (λ s. Some ((made ++ rest) ++ s)) e ∙ ap (λ s. Some s) (append_nothing (made ++ rest)) ∙ sym (ap (λ o. behind made o) (ap (λ s. merged f rest s) e ∙ nothing_more f rest)) ∙ left
+    ap (λ s. Some ((made ++ rest) ++ s)) e ∙ ap (λ s. Some s) (append-nil (made ++ rest)) ∙ sym (ap (λ o. behind made o) (ap (λ s. merged f rest s) e ∙ nothing_more f rest)) ∙ left
 
 -- what is made, with what is left where nothing is left of one list, is the whole
 pub take_all : {V : Type 0} (f : ℕ → V → V → Option V) (xs ys made out : List (ℕ × V)) (i j : ℕ) → (length xs ≤ i) ⊎ (length ys ≤ j) → out ≡ (made ++ drop i xs) ++ drop j ys → Left f xs ys made (drop i xs) (drop j ys) → Some out ≡ merged f xs ys
-take_all f xs ys made out i j over is left = ap (λ s. Some s) is ∙ take_rest f xs ys made (drop i xs) (drop j ys) (elim over [ inl h ↦ inl (nothing_left xs i h) | inr h ↦ inr (nothing_left ys j h) ]) left
+take_all f xs ys made out i j over is left = ap (λ s. Some s) is ∙ take_rest f xs ys made (drop i xs) (drop j ys) (elim over [ inl h ↦ inl (drop_all i xs h) | inr h ↦ inr (drop_all j ys h) ]) left
 
 -- ---- what the whole says
 

@@ -2,6 +2,7 @@
 use Rattle.std.proofs.Common.{◌≡◌, ◌⊎◌, ℕ, ◌<◌, ◌≤◌, ◌+◌, zero, suc, List, [], ◌∷◌, ◌++◌, length, get_or, drop, refl, ap, sym, ◌∙◌, arith, inl, inr, subst, append_assoc}
 use Rattle.std.specs.Prelude.{Bool, true, false, nat_lt, ◌&&◌, ◌||◌, ◌==◌}
 use Rattle.std.specs.List.Sorted.{IsStrictlyIncreasing}
+use Rattle.std.proofs.lemmas.List.{append-nil, drop_all}
 use Rattle.std.proofs.lemmas.Bool.{cases_eq, cases_lt, lt-ltb, le-ltb, ne_eqb}
 use Rattle.xdg_facts.proofs.Truths.{and_false, or_false, or_true, and_swap, or_assoc}
 use Rattle.xdg_domain.specs.Joins.{IsUnion, IsMeet}
@@ -144,25 +145,15 @@ together_is either a b c h k is =
 
 -- ---- the end
 
-pub append_nothing : {A : Type 0} (s : List A) → s ++ [] ≡ s
-append_nothing [] = refl
-append_nothing (x ∷ s) = ap (λ t. x ∷ t) (append_nothing s)
-
-pub nothing_left : {A : Type 0} (s : List A) (i : ℕ) → length s ≤ i → drop i s ≡ []
-nothing_left [] zero h = refl
-nothing_left [] (suc i) h = refl
-nothing_left (x ∷ s) zero h = absurd (omega (arith, h))
-nothing_left (x ∷ s) (suc i) h = nothing_left s i (omega (arith, h))
-
 one_left : (either : Bool) (rest more : List ℕ) → (rest ≡ []) ⊎ (more ≡ []) → left_over either (rest ++ more) ≡ together either rest more
 one_left either [] more h = refl
-one_left either (x ∷ rest) [] h = ap (left_over either) (append_nothing (x ∷ rest))
+one_left either (x ∷ rest) [] h = ap (left_over either) (append-nil (x ∷ rest))
 one_left either (x ∷ rest) (y ∷ more) h = absurd (elim h [ inl e ↦ cc | inr e ↦ cc ])
 
 -- what is made, with what is left where nothing is left of one list
 ended : (either : Bool) (xs ys made : List ℕ) (i j : ℕ) → (length xs ≤ i) ⊎ (length ys ≤ j) → made ++ together either (drop i xs) (drop j ys) ≡ together either xs ys
     → made ++ left_over either (drop i xs ++ drop j ys) ≡ together either xs ys
-ended either xs ys made i j h is = ap (λ s. made ++ s) (one_left either (drop i xs) (drop j ys) (elim h [ inl k ↦ inl (nothing_left xs i k) | inr k ↦ inr (nothing_left ys j k) ])) ∙ is
+ended either xs ys made i j h is = ap (λ s. made ++ s) (one_left either (drop i xs) (drop j ys) (elim h [ inl k ↦ inl (drop_all i xs k) | inr k ↦ inr (drop_all j ys k) ])) ∙ is
 
 pub united : (xs ys made out : List ℕ) (i j : ℕ) → IsStrictlyIncreasing xs → IsStrictlyIncreasing ys → (length xs ≤ i) ⊎ (length ys ≤ j)
     → made ++ together true (drop i xs) (drop j ys) ≡ together true xs ys → out ≡ (made ++ drop i xs) ++ drop j ys → IsUnion xs ys out
@@ -170,4 +161,4 @@ united xs ys made out i j h k over is told = together_is true xs ys out h k (tol
 
 pub met : (xs ys made : List ℕ) (i j : ℕ) → IsStrictlyIncreasing xs → IsStrictlyIncreasing ys → (length xs ≤ i) ⊎ (length ys ≤ j)
     → made ++ together false (drop i xs) (drop j ys) ≡ together false xs ys → IsMeet xs ys made
-met xs ys made i j h k over is = together_is false xs ys made h k (sym (append_nothing made) ∙ ended false xs ys made i j over is)
+met xs ys made i j h k over is = together_is false xs ys made h k (sym (append-nil made) ∙ ended false xs ys made i j over is)

@@ -51,7 +51,7 @@ numbers_increase bound p = increasing_of_rises 0 (numbers_below bound p) (from_r
 
 -- ---- bounds
 
-has_beyond_above : (s : List ℕ) (n : ℕ) → above s ≤ n → has s n ≡ false
+pub has_beyond_above : (s : List ℕ) (n : ℕ) → above s ≤ n → has s n ≡ false
 has_beyond_above [] n order = refl
 has_beyond_above (x ∷ s) n order = has_after x s n (λ i. omega (arith, i, order)) ∙ has_beyond_above s n (omega (arith, order))
 

@@ -16,7 +16,7 @@ fields_mapped : (fs : List (List ℕ × Ty)) → fields_of (map (λ f. (f.0, sha
 fields_mapped [] = refl
 fields_mapped (f ∷ fs) = ap (λ r. field_then f.0 (shape f.1) r) (fields_mapped fs)
 
-shape_record : (fs : List (List ℕ × Ty)) → shape (t.Rec fs) ≡ fields (fields_in fs)
+pub shape_record : (fs : List (List ℕ × Ty)) → shape (t.Rec fs) ≡ fields (fields_in fs)
 shape_record fs = fold_out-Ty Shape layer (t.Rec fs) ∙ ap (λ l. layer (map-Ty Ty Shape shape l)) (t.outs-Rec fs) ∙ ap fields (fields_mapped fs)
 
 opened : (s s' : Shape) (x y : Value) (a b : Value-F Value) → s ≡ s' → out-Value x ≡ a → out-Value y ≡ b → joined_in s' a b ≡ joined s x y

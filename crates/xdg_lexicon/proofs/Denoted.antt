@@ -1,10 +1,9 @@
 -- What a body denotes, form by form.
 use Rattle.std.proofs.Common.{◌≡◌, ℕ, ◌<◌, ◌≤◌, ◌+◌, ◌-◌, List, [], ◌∷◌, ◌++◌, length, drop, get_or, ap, sym, ◌∙◌, arith, subst, append_assoc, Option}
-use Rattle.std.proofs.lemmas.List.{drop_all, get_or_default}
+use Rattle.std.proofs.lemmas.List.{append-nil, drop_all, get_or_default}
 use Rattle.xdg_ast.specs.declared.names.Name.{Name}
 use Rattle.xdg_ast.specs.declared.expressions.ExprKind.{ExprKind}
 use Rattle.xdg_ast.specs.declared.expressions.ExprKind.TheVariants as v
-use Rattle.xdg_domain.proofs.Merging.{append_nothing}
 use Rattle.xdg_terms.specs.Forms.{Bindings}
 use Rattle.xdg_classes.specs.Bodies.{Pairs, Expr, Body, either, both, saying, calling, no_body, given, body}
 use Rattle.xdg_classes.proofs.Bodied.{trees, body_dim, body_use}
@@ -44,7 +43,7 @@ module _ (checked : Parts) (bs : Bindings) (items : List Expr) (i : ℕ) (made :
 
   pub either_denotes : length items ≤ i → EitherSoFar checked bs items i made → Denotes checked.types.dims (named_bodies checked.classes) bs (either (trees items)) made
   either_denotes past so_far =
-      den.disjunction bs (trees items) made (subst (DenotesEither checked.types.dims (named_bodies checked.classes) bs (trees items)) (append_nothing made)
+      den.disjunction bs (trees items) made (subst (DenotesEither checked.types.dims (named_bodies checked.classes) bs (trees items)) (append-nil made)
       (so_far [] (subst (λ l. DenotesEither checked.types.dims (named_bodies checked.classes) bs (trees l) []) (sym (drop_all i items past)) (den.all_listed bs))))
 
 -- ---- conjunctions, from the last to the first

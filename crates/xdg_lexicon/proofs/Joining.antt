@@ -1,8 +1,7 @@
 -- Lists of joins, made one by one.
 use Rattle.std.proofs.Common.{◌≡◌, ℕ, zero, suc, ◌<◌, ◌≤◌, ◌+◌, List, [], ◌∷◌, ◌++◌, length, take, get_or, refl, ap, ap₂, sym, ◌∙◌, arith, subst, append_assoc, length-append}
 use Rattle.std.specs.Prelude.{Option, None, Some, MatchOption, option_to_list}
-use Rattle.std.proofs.lemmas.List.{take_more, take_all}
-use Rattle.xdg_domain.proofs.Merging.{append_nothing}
+use Rattle.std.proofs.lemmas.List.{append-nil, take_more, take_all}
 use Rattle.xdg_types.specs.declared.table.DimType.{DimType}
 use Rattle.xdg_lexicon.specs.Denotes.{JoinsEach, no_other, clashes, joins, JoinsAll, no_first, first_then}
 use Rattle.xdg_lexicon.specs.Partial.{Partial, IsPartial, ArePartial, PartialsJoin, PartialsClash}
@@ -34,7 +33,7 @@ EachSoFar dims m ns old i made = (js : List Partial) × ((made ≡ old ++ js) ×
 
 module _ (dims : List DimType) (m : Partial) (ns old : List Partial) (i : ℕ) (made : List Partial) where
   pub each_begun : made ≡ old → EachSoFar dims m ns old 0 made
-  each_begun is = ([], (is ∙ sym (append_nothing old), (no_other, tt)))
+  each_begun is = ([], (is ∙ sym (append-nil old), (no_other, tt)))
 
   pub each_clashes : (n : Partial) → i < length ns → n ≡ get_or ns i n → EachSoFar dims m ns old i made → PartialsClash dims m n → EachSoFar dims m ns old (i + 1) made
   each_clashes n within is (js, (grown, (e, p))) h =
@@ -57,7 +56,7 @@ module _ (dims : List DimType) (m : Partial) (ns old : List Partial) (i : ℕ) (
 -- ---- each with each
 
 all_more : (dims : List DimType) (m : Partial) (ms ns js ks : List Partial) → JoinsAll dims ms ns ks → JoinsEach dims m ns js → JoinsAll dims (ms ++ m ∷ []) ns (ks ++ js)
-all_more dims m _ ns js _ (no_first _) e = subst (JoinsAll dims (m ∷ []) ns) (append_nothing js) (first_then m [] ns js [] e (no_first ns))
+all_more dims m _ ns js _ (no_first _) e = subst (JoinsAll dims (m ∷ []) ns) (append-nil js) (first_then m [] ns js [] e (no_first ns))
 all_more dims m _ _ js _ (first_then a rest ns ls ks d d2) e = subst (JoinsAll dims (a ∷ rest ++ m ∷ []) ns) (sym (append_assoc ls ks js)) (first_then a (rest ++ m ∷ []) ns ls (ks ++ js) d (all_more dims m rest ns js ks d2 e))
 
 module _ (dims : List DimType) (ms ns : List Partial) (i : ℕ) (made : List Partial) where
@@ -104,10 +103,10 @@ module _ (dims : List DimType) (first second rest others : List Partial) (o p : 
       let a = taken_out first rest o one popped is single.0 in
       let b = taken_out second others p other taken there single.1 in
       subst (λ l. JoinsAll dims l second made) (sym a.1) (subst (λ l. JoinsAll dims (one ∷ []) l made) (sym b.1) (subst (JoinsAll dims (one ∷ []) (other ∷ [])) (sym (now ∙ ap (λ l. l ++ new) a.0))
-      (subst (JoinsAll dims (one ∷ []) (other ∷ [])) (append_nothing new) (first_then one [] (other ∷ []) new [] each (no_first (other ∷ []))))))
+      (subst (JoinsAll dims (one ∷ []) (other ∷ [])) (append-nil new) (first_then one [] (other ∷ []) new [] each (no_first (other ∷ []))))))
 
   pub single_clash : told ≡ None → JoinsAll dims first second rest
-  single_clash none = lists [] (clashes other [] [] (told_clash dims one other other told refl h none) no_other) rest (sym (append_nothing rest))
+  single_clash none = lists [] (clashes other [] [] (told_clash dims one other other told refl h none) no_other) rest (sym (append-nil rest))
 
   pub single_join : (both : Partial) (made : List Partial) → told ≡ Some both → made ≡ rest ++ both ∷ [] → JoinsAll dims first second made
   single_join both made some now = lists (both ∷ []) (joins other both [] [] (told_join dims one other other told refl h both some).0 no_other) made now

@@ -1,5 +1,6 @@
 -- Records made feature after feature.
 use Rattle.std.proofs.Common.{◌≡◌, ℕ, zero, suc, ◌<◌, ◌≤◌, ◌+◌, List, [], ◌∷◌, ◌++◌, length, get_or, refl, ap, sym, ◌∙◌, arith, inl, inr, subst}
+use Rattle.std.proofs.lemmas.List.{append-nil}
 use Rattle.std.proofs.lemmas.Bool.{cases_eq, cases_lt, eq-eqb, ne_eqb}
 use Rattle.std.specs.Prelude.{Option, None, Some}
 use Rattle.xdg_domain.specs.Keys.{KeysBelow}
@@ -7,7 +8,6 @@ use Rattle.xdg_domain.specs.Valencies.{said_at, KeysRise}
 use Rattle.xdg_domain.specs.Values.{EachSaid}
 use Rattle.xdg_domain.proofs.Keyed.{at_head, after_head}
 use Rattle.xdg_domain.proofs.KeyAfterKey.{rises_more, below_more}
-use Rattle.xdg_domain.proofs.Merging.{append_nothing}
 use Rattle.xdg_terms.proofs.Saying.{below_skip}
 use Rattle.xdg_lexicon.specs.Made.{entry, IsMade}
 
@@ -35,9 +35,9 @@ module _ {V : Type 0} (P : ℕ → Option V → Type 0) where
 
   more_with : (at : ℕ) (made : List (ℕ × V)) (said : Option V) → IsMade P at made → P at said → IsMade P (at + 1) (made ++ entry at said)
   more_with at made None m p = record {
-    rises = subst (KeysRise 0) (sym (append_nothing made)) m.rises;
-    below = subst (KeysBelow (at + 1)) (sym (append_nothing made)) (below_skip made at m.below);
-    each = λ key h. subst (λ l. P key (said_at l key)) (sym (append_nothing made)) (elim (cases_eq at key) [
+    rises = subst (KeysRise 0) (sym (append-nil made)) m.rises;
+    below = subst (KeysBelow (at + 1)) (sym (append-nil made)) (below_skip made at m.below);
+    each = λ key h. subst (λ l. P key (said_at l key)) (sym (append-nil made)) (elim (cases_eq at key) [
       | inl i ↦ subst (λ k. P k (said_at made k)) i (subst (P at) (sym (beyond made at at m.below (omega arith))) p)
       | inr other ↦ m.each key (omega (arith, h, other))
     ]);

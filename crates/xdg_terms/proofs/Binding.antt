@@ -8,7 +8,7 @@ use Rattle.xdg_ast.specs.declared.names.Name.{Name}
 use Rattle.xdg_ast.specs.declared.terms.TermKind.{TermKind, out-TermKind}
 use Rattle.xdg_ast.specs.declared.terms.ElemKind.{ElemKind}
 use Rattle.xdg_ast.specs.declared.terms.ElemKind.TheOpen.{TermKind-F}
-use Rattle.xdg_domain.specs.Shapes.{Shape, domain, tuple, truth, integer, text, set, iset, card, valency, mapping, fields, Fields, no_field, field_then, sizes}
+use Rattle.xdg_domain.specs.Shapes.{Shape, tuple, integer, set, iset, card, valency, mapping, fields, Fields, no_field, field_then, sizes}
 use Rattle.xdg_terms.specs.Forms.{Term, Bindings, Look, with_bound, with_open, unless_open, bound, bound_in, bound_to, bound_or, constant_of, constant_in, number_of, number_in, card_of, card_in, generator_of, generator_in, bracket_of, bracket_in, constants_of, brackets_of, counts_of, pairs_of, braces_in, plain_elem, bracketed_elem, counted_elem, keyed_elem}
 use Rattle.xdg_terms.specs.Offences.{is_some, has_form, has_set_form, all_told, OfSeen, OffendsIn, OffendsUnder, OffendsBy, Offends}
 use Rattle.xdg_terms.specs.Wanted.{Want, free_in, free_of, or_inside, params_in, params_under, params_inside}
@@ -21,69 +21,31 @@ use Rattle.xdg_facts.proofs.In.{in_flat_map, flat_map_in}
 -- ---- a term of a wanted form is no parameter
 
 module _ (t : Term) (name : Name) (is : out-TermKind t.kind ≡ TermKind-F.Param name) where
-  no_constant : is_some (constant_of t) ≡ false
-  unfolding constant_of
-  no_constant = ap (λ l. is_some (constant_in l)) is
-
-  no_number : is_some (number_of t) ≡ false
-  unfolding number_of
-  no_number = ap (λ l. is_some (number_in l)) is
-
-  no_card : is_some (card_of t) ≡ false
-  unfolding card_of
-  no_card = ap (λ l. is_some (card_in l)) is
-
-  no_generator : is_some (generator_of t) ≡ false
-  unfolding generator_of
-  no_generator = ap (λ l. is_some (generator_in l)) is
-
-  no_bracket : (n : ℕ) → is_some (bracket_of n t) ≡ false
-  unfolding bracket_of
-  no_bracket n = ap (λ l. is_some (bracket_in n l)) is
-
-  no_constants : is_some (constants_of t) ≡ false
-  unfolding constants_of
-  no_constants = ap (λ l. is_some (braces_in plain_elem l)) is
-
-  no_brackets : (n : ℕ) → is_some (brackets_of n t) ≡ false
-  unfolding brackets_of
-  no_brackets n = ap (λ l. is_some (braces_in (bracketed_elem n) l)) is
-
-  no_counts : is_some (counts_of t) ≡ false
-  unfolding counts_of
-  no_counts = ap (λ l. is_some (braces_in counted_elem l)) is
-
-  no_pairs : is_some (pairs_of t) ≡ false
-  unfolding pairs_of
-  no_pairs = ap (λ l. is_some (braces_in keyed_elem l)) is
+  none_read : {A : Type 0} (read : TermKind-F ElemKind TermKind → Option A) → is_some (read (TermKind-F.Param name)) ≡ false → is_some (read (out-TermKind t.kind)) ≡ false
+  none_read read none = ap (λ l. is_some (read l)) is ∙ none
 
   no_set : (s : Shape) → has_set_form s t ≡ false
-  no_set (tuple ss) = ap₂ (λ (a b : Bool). a || b) (no_brackets (length (sizes ss))) no_generator
-  no_set s = no_constants
+  unfolding constants_of brackets_of generator_of
+  no_set (tuple ss) = ap₂ (λ (a b : Bool). a || b) (none_read (braces_in (bracketed_elem (length (sizes ss)))) refl) (none_read generator_in refl)
+  no_set s = none_read (braces_in plain_elem) refl
 
   pub no_form : (s : Shape) → has_form s t ≡ false
-  no_form (domain cs) = no_constant
-  no_form (tuple ss) = no_bracket (length (sizes ss))
-  no_form truth = no_constant
-  no_form integer = no_number
-  no_form text = no_constant
+  unfolding constant_of number_of card_of bracket_of counts_of pairs_of
+  no_form (tuple ss) = none_read (bracket_in (length (sizes ss))) refl
+  no_form integer = none_read number_in refl
   no_form (set s) = no_set s
   no_form (iset s) = no_set s
-  no_form card = no_card
-  no_form (valency k) = no_counts
-  no_form (mapping k u) = no_pairs
-  no_form (fields fs) = no_pairs
+  no_form card = none_read card_in refl
+  no_form (valency k) = none_read (braces_in counted_elem) refl
+  no_form (mapping k u) = none_read (braces_in keyed_elem) refl
+  no_form (fields fs) = none_read (braces_in keyed_elem) refl
+  no_form s = none_read constant_in refl
 
 -- so it stands for itself
 
 itself_by : (bs : Bindings) (s : Shape) (t : Term) → has_form s t ≡ true → (l : TermKind-F ElemKind TermKind) → out-TermKind t.kind ≡ l → bound_in bs t l ≡ t
-itself_by bs s t form (TermKind-F.TermKind::Const name) is = refl
 itself_by bs s t form (TermKind-F.Param name) is = absurd (true≢false (sym form ∙ no_form t name is s))
-itself_by bs s t form (TermKind-F.Number n) is = refl
-itself_by bs s t form (TermKind-F.Card written) is = refl
-itself_by bs s t form (TermKind-F.Braces elems) is = refl
-itself_by bs s t form (TermKind-F.TermKind::Tuple names) is = refl
-itself_by bs s t form (TermKind-F.Gen written) is = refl
+itself_by bs s t form l is = refl
 
 pub itself : (bs : Bindings) (s : Shape) (t : Term) → has_form s t ≡ true → bound bs t ≡ t
 unfolding bound
@@ -108,13 +70,8 @@ unfolding free_of with_open
 other_by free t l is none some = looked_at (ap (free_in free) is ∙ none) (ap (unless_open free t) is ∙ some)
 
 seen_by : (free : List (List ℕ)) (t : Term) (l : TermKind-F ElemKind TermKind) → out-TermKind t.kind ≡ l → Seen free t
-seen_by free t (TermKind-F.TermKind::Const name) is = other_by free t (TermKind-F.TermKind::Const name) is refl refl
 seen_by free t (TermKind-F.Param name) is = param_by free t name is (is_among free name.text) refl
-seen_by free t (TermKind-F.Number n) is = other_by free t (TermKind-F.Number n) is refl refl
-seen_by free t (TermKind-F.Card written) is = other_by free t (TermKind-F.Card written) is refl refl
-seen_by free t (TermKind-F.Braces elems) is = other_by free t (TermKind-F.Braces elems) is refl refl
-seen_by free t (TermKind-F.TermKind::Tuple names) is = other_by free t (TermKind-F.TermKind::Tuple names) is refl refl
-seen_by free t (TermKind-F.Gen written) is = other_by free t (TermKind-F.Gen written) is refl refl
+seen_by free t l is = other_by free t l is refl refl
 
 pub seen : (free : List (List ℕ)) (t : Term) → Seen free t
 seen free t = seen_by free t (out-TermKind t.kind) refl
@@ -125,17 +82,9 @@ abbrev pub RightIn : Look → Shape → Term → Type 0
 RightIn look s t = (f : Fault) → OffendsIn look s t f → ⊥
 
 pub here_of : (look : Look) (s : Shape) (t : Term) → RightIn look s t → RightHere s t
-here_of look (domain cs) t h f w = h f w
-here_of look (tuple ss) t h f w = h f w
-here_of look truth t h f w = h f w
-here_of look integer t h f w = h f w
-here_of look text t h f w = h f w
-here_of look (set s) t h f w = h f w
-here_of look (iset s) t h f w = h f w
-here_of look card t h f w = h f w
-here_of look (valency k) t h f w = h f w
 here_of look (mapping k u) t h f w = h f (inl w)
 here_of look (fields fs) t h f w = h f (inl w)
+here_of look s t h f w = h f w
 
 -- of a right term what is looked at is right, and it has the form
 abbrev pub RightBy : Look → Shape → Term → Type 0
@@ -169,15 +118,6 @@ module _ (free : List (List ℕ)) (bs : Bindings) (P : List ℕ → Shape → Ty
 
   mutual
     pub right : (s : Shape) (t : Term) → Known (params_in free s t) → RightBy (with_open free) s t → RightBy (with_bound bs) s t
-    right (domain cs) t known h = plain (domain cs) t (λ h. h) [] known h
-    right (tuple ss) t known h = plain (tuple ss) t (λ h. h) [] known h
-    right truth t known h = plain truth t (λ h. h) [] known h
-    right integer t known h = plain integer t (λ h. h) [] known h
-    right text t known h = plain text t (λ h. h) [] known h
-    right (set s) t known h = plain (set s) t (λ h. h) [] known h
-    right (iset s) t known h = plain (iset s) t (λ h. h) [] known h
-    right card t known h = plain card t (λ h. h) [] known h
-    right (valency k) t known h = plain (valency k) t (λ h. h) [] known h
     right (mapping k u) t known h = elim (seen free t) [
       | open_param name is means ↦ at_param (mapping k u) t (params_inside free (mapping k u) t) name is means known
       | looked_at is some ↦ (
@@ -200,6 +140,7 @@ module _ (free : List (List ℕ)) (bs : Bindings) (P : List ℕ → Shape → Ty
             | inr b ↦ right_under fs b.0 (λ p v i. below p v (flat_map_in (params_under free fs) (all_told (pairs_of t)) b.0 (p, v) b.1.0 i)) (λ g x. inner g (inr (b.0, (b.1.0, x)))) f b.1.1
           ]))
     ]
+    right s t known h = plain s t (λ h. h) [] known h
 
     right_under : (fs : Fields) (pair : Name × Term) → Known (params_under free fs pair) → ((f : Fault) → OffendsUnder (with_open free) fs pair f → ⊥) → (f : Fault) → OffendsUnder (with_bound bs) fs pair f → ⊥
     right_under no_field pair known h f w = w
@@ -217,44 +158,26 @@ unfolding free_of
 none_free t = by (out-TermKind t.kind)
   where
     by : (l : TermKind-F ElemKind TermKind) → free_in [] l ≡ None
-    by (TermKind-F.TermKind::Const name) = refl
     by (TermKind-F.Param name) = refl
-    by (TermKind-F.Number n) = refl
-    by (TermKind-F.Card written) = refl
-    by (TermKind-F.Braces elems) = refl
-    by (TermKind-F.TermKind::Tuple names) = refl
-    by (TermKind-F.Gen written) = refl
+    by l = refl
 
 pub all_looked_at : (t : Term) → with_open [] t ≡ Some t
 unfolding with_open
 all_looked_at t = by (out-TermKind t.kind)
   where
     by : (l : TermKind-F ElemKind TermKind) → unless_open [] t l ≡ Some t
-    by (TermKind-F.TermKind::Const name) = refl
     by (TermKind-F.Param name) = refl
-    by (TermKind-F.Number n) = refl
-    by (TermKind-F.Card written) = refl
-    by (TermKind-F.Braces elems) = refl
-    by (TermKind-F.TermKind::Tuple names) = refl
-    by (TermKind-F.Gen written) = refl
+    by l = refl
 
 not_here : (s : Shape) (t : Term) (inside : List Want) (w : Want) → (In inside w → ⊥) → In (or_inside (free_of [] t) s inside) w → ⊥
 not_here s t inside w none h = none (subst (λ (o : Option Name). In (or_inside o s inside) w) (none_free t) h)
 
 mutual
   no_params : (s : Shape) (t : Term) (w : Want) → In (params_in [] s t) w → ⊥
-  no_params (domain cs) t w = not_here (domain cs) t [] w (λ k. k)
-  no_params (tuple ss) t w = not_here (tuple ss) t [] w (λ k. k)
-  no_params truth t w = not_here truth t [] w (λ k. k)
-  no_params integer t w = not_here integer t [] w (λ k. k)
-  no_params text t w = not_here text t [] w (λ k. k)
-  no_params (set s) t w = not_here (set s) t [] w (λ k. k)
-  no_params (iset s) t w = not_here (iset s) t [] w (λ k. k)
-  no_params card t w = not_here card t [] w (λ k. k)
-  no_params (valency k) t w = not_here (valency k) t [] w (λ j. j)
   no_params (mapping k u) t w = not_here (mapping k u) t (params_inside [] (mapping k u) t) w
       (λ h. let r = in_flat_map (λ (pair : Name × Term). params_in [] u pair.1) (all_told (pairs_of t)) w h in no_params u r.0.1 w r.1.1)
   no_params (fields fs) t w = not_here (fields fs) t (params_inside [] (fields fs) t) w (λ h. let r = in_flat_map (params_under [] fs) (all_told (pairs_of t)) w h in none_under fs r.0 w r.1.1)
+  no_params s t w = not_here s t [] w (λ k. k)
 
   none_under : (fs : Fields) (pair : Name × Term) (w : Want) → In (params_under [] fs pair) w → ⊥
   none_under no_field pair w h = h

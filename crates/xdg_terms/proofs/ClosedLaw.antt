@@ -1,5 +1,5 @@
 -- A term with open parameters is right without parameters once right terms stand in their places.
-use Rattle.std.proofs.Common.{◌≡◌, inl, inr, ℕ, Bool, true, List, [], ◌∷◌, map, Option, Some, None, length, refl, sym, ap, ap₂, ◌∙◌, subst}
+use Rattle.std.proofs.Common.{◌≡◌, inl, inr, ℕ, Bool, true, false, List, [], ◌∷◌, map, Option, Some, None, length, refl, sym, ap, ap₂, ◌∙◌, subst}
 use Rattle.std.specs.Prelude.{if◌then◌else◌, bytes_eq, option_map}
 use Rattle.std.proofs.lemmas.Bool.{true≢false, false≢true, false_from_ne_true, or_cases}
 use Rattle.xdg_base.specs.declared.faults.Fault.{Fault}
@@ -12,12 +12,13 @@ use Rattle.xdg_ast.specs.declared.terms.ElemKind.TheVariants as e
 use Rattle.xdg_ast.specs.declared.terms.ElemKind.TheOpen.{TermKind-F, ElemKind-F}
 use Rattle.xdg_domain.specs.Shapes as d
 use Rattle.xdg_domain.specs.Shapes.{Shape, domain, tuple, truth, integer, text, set, iset, card, valency, mapping, fields, Fields, no_field, field_then, sizes}
-use Rattle.xdg_terms.specs.Forms.{Term, Card, Bindings, with_open, bound, bound_in, bound_to, bound_or, constant_of, constant_in, number_of, number_in, card_of, card_in, generator_of, generator_in, bracket_of, bracket_in, constants_of, brackets_of, counts_of, pairs_of, braces_in, all_of, then_also, plain_in, plain_elem, bracketed_in, bracketed_elem, counted_in, counted_elem, keyed_in, keyed_elem}
+use Rattle.xdg_terms.specs.Forms.{Term, Card, Bindings, with_open, bound, bound_in, bound_to, bound_or, constant_of, constant_in, number_of, number_in, card_of, card_in, generator_of, generator_in, bracket_of, bracket_in, constants_of, brackets_of, counts_of, pairs_of, braces_in, all_of, then_also, plain_elem, bracketed_elem, counted_elem, keyed_in, keyed_elem}
 use Rattle.xdg_terms.specs.Offences.{is_some, has_form, has_set_form, all_told, keys_of, asked_in, OffendsHere, OfSeen, OffendsIn, OffendsUnder}
 use Rattle.xdg_terms.specs.Closed.{closed, closed_by, closing, kind_by, closing_kind, closing_elem}
 use Rattle.xdg_terms.specs.Wanted.{Want, free_in, free_of, or_inside, params_in, params_under, params_inside}
 use Rattle.xdg_terms.specs.Replaced.{IsOpenRight, AreBoundRight}
-use Rattle.xdg_terms.proofs.Right.{formed, told}
+use Rattle.xdg_terms.proofs.Right.{HoldsNone, formed, told}
+use Rattle.xdg_terms.proofs.Formed.{plain_is, bracketed_is, counted_is}
 use Rattle.xdg_terms.proofs.Replacing.{closed_is}
 use Rattle.xdg_terms.proofs.Binding.{open_param, looked_at, seen, no_form, RightIn, RightBy, here_of, right_in, all_looked_at}
 use Rattle.xdg_facts.proofs.Texts.{is_same, same_text}
@@ -28,10 +29,8 @@ module _ (bs : Bindings) where
   -- ---- elements without terms stay
 
   unkeyed_by : (kind : ElemKind) (l : ElemKind-F ElemKind TermKind) → keyed_in l ≡ None → kind_by bs kind l ≡ kind
-  unkeyed_by kind (ElemKind-F.Count name written) none = refl
   unkeyed_by kind (ElemKind-F.Keyed name t) none = absurd (true≢false (ap is_some none))
-  unkeyed_by kind (ElemKind-F.ElemKind::Const name) none = refl
-  unkeyed_by kind (ElemKind-F.ElemKind::Tuple names) none = refl
+  unkeyed_by kind l none = refl
 
   unkeyed : (elem : Spanned ElemKind) → keyed_elem elem ≡ None → closing_elem bs elem ≡ elem
   unfolding keyed_elem closing_kind
@@ -39,9 +38,7 @@ module _ (bs : Bindings) where
 
   both_some : {A : Type 0} (o : Option A) (os : Option (List A)) → is_some (then_also o os) ≡ true → (is_some o ≡ true) × (is_some os ≡ true)
   both_some (Some x) (Some xs) h = (refl, refl)
-  both_some (Some x) None h = absurd (false≢true h)
-  both_some None (Some xs) h = absurd (false≢true h)
-  both_some None None h = absurd (false≢true h)
+  both_some o os h = absurd (false≢true h)
 
   each_same : {A : Type 0} (form : Spanned ElemKind → Option A) → ((elem : Spanned ElemKind) (x : A) → form elem ≡ Some x → keyed_elem elem ≡ None) → (elems : List (Spanned ElemKind)) → is_some (all_of form elems) ≡ true → map (closing_elem bs) elems ≡ elems
   unfolding all_of
@@ -51,107 +48,55 @@ module _ (bs : Bindings) where
       let x = told (form elem) b.0 in
       ap₂ (λ (y : Spanned ElemKind) (ys : List (Spanned ElemKind)). y ∷ ys) (unkeyed elem (un elem x.0 x.1)) (each_same form un elems b.1)
 
-  plain_layer : (l : ElemKind-F ElemKind TermKind) (x : Name) → plain_in l ≡ Some x → keyed_in l ≡ None
-  plain_layer (ElemKind-F.Count name written) x h = refl
-  plain_layer (ElemKind-F.Keyed name t) x h = absurd (true≢false (sym (ap is_some h)))
-  plain_layer (ElemKind-F.ElemKind::Const name) x h = refl
-  plain_layer (ElemKind-F.ElemKind::Tuple names) x h = refl
-
   plain_unkeyed : (elem : Spanned ElemKind) (x : Name) → plain_elem elem ≡ Some x → keyed_elem elem ≡ None
   unfolding plain_elem keyed_elem
-  plain_unkeyed elem x h = plain_layer (out-ElemKind elem.kind) x h
-
-  bracketed_layer : (n : ℕ) (l : ElemKind-F ElemKind TermKind) (x : List Name) → bracketed_in n l ≡ Some x → keyed_in l ≡ None
-  bracketed_layer n (ElemKind-F.Count name written) x h = refl
-  bracketed_layer n (ElemKind-F.Keyed name t) x h = absurd (true≢false (sym (ap is_some h)))
-  bracketed_layer n (ElemKind-F.ElemKind::Const name) x h = refl
-  bracketed_layer n (ElemKind-F.ElemKind::Tuple names) x h = refl
+  plain_unkeyed elem x h = ap keyed_in (plain_is (out-ElemKind elem.kind) x h)
 
   bracketed_unkeyed : (n : ℕ) (elem : Spanned ElemKind) (x : List Name) → bracketed_elem n elem ≡ Some x → keyed_elem elem ≡ None
   unfolding bracketed_elem keyed_elem
-  bracketed_unkeyed n elem x h = bracketed_layer n (out-ElemKind elem.kind) x h
-
-  counted_layer : (l : ElemKind-F ElemKind TermKind) (x : Name × Card) → counted_in l ≡ Some x → keyed_in l ≡ None
-  counted_layer (ElemKind-F.Count name written) x h = refl
-  counted_layer (ElemKind-F.Keyed name t) x h = absurd (true≢false (sym (ap is_some h)))
-  counted_layer (ElemKind-F.ElemKind::Const name) x h = refl
-  counted_layer (ElemKind-F.ElemKind::Tuple names) x h = refl
+  bracketed_unkeyed n elem x h = ap keyed_in (bracketed_is n (out-ElemKind elem.kind) x h)
 
   counted_unkeyed : (elem : Spanned ElemKind) (x : Name × Card) → counted_elem elem ≡ Some x → keyed_elem elem ≡ None
   unfolding counted_elem keyed_elem
-  counted_unkeyed elem x h = counted_layer (out-ElemKind elem.kind) x h
+  counted_unkeyed elem x h = ap keyed_in (counted_is (out-ElemKind elem.kind) x h)
 
   -- ---- terms without terms in them stay
-
-  -- the type wants terms in which no others stand
-  abbrev HoldsNone : Shape → Type 0
-  HoldsNone (mapping key u) = ⊥
-  HoldsNone (fields fs) = ⊥
-  HoldsNone s = Unit {0}
 
   module _ (t : Term) (elems : List (Spanned ElemKind)) (is : out-TermKind t.kind ≡ TermKind-F.Braces elems) where
     abbrev Stay : Type 0
     Stay = map (closing_elem bs) elems ≡ elems
 
-    of_constant : is_some (constant_of t) ≡ true → Stay
-    unfolding constant_of
-    of_constant h = absurd (true≢false (sym h ∙ ap (λ l. is_some (constant_in l)) is))
+    not_read : {A : Type 0} (read : TermKind-F ElemKind TermKind → Option A) → is_some (read (TermKind-F.Braces elems)) ≡ false → is_some (read (out-TermKind t.kind)) ≡ true → Stay
+    not_read read none h = absurd (true≢false (sym h ∙ ap (λ l. is_some (read l)) is ∙ none))
 
-    of_number : is_some (number_of t) ≡ true → Stay
-    unfolding number_of
-    of_number h = absurd (true≢false (sym h ∙ ap (λ l. is_some (number_in l)) is))
-
-    of_card : is_some (card_of t) ≡ true → Stay
-    unfolding card_of
-    of_card h = absurd (true≢false (sym h ∙ ap (λ l. is_some (card_in l)) is))
-
-    of_generator : is_some (generator_of t) ≡ true → Stay
-    unfolding generator_of
-    of_generator h = absurd (true≢false (sym h ∙ ap (λ l. is_some (generator_in l)) is))
-
-    of_bracket : (n : ℕ) → is_some (bracket_of n t) ≡ true → Stay
-    unfolding bracket_of
-    of_bracket n h = absurd (true≢false (sym h ∙ ap (λ l. is_some (bracket_in n l)) is))
-
-    of_constants : is_some (constants_of t) ≡ true → Stay
-    unfolding constants_of
-    of_constants h = each_same plain_elem plain_unkeyed elems (sym (ap (λ l. is_some (braces_in plain_elem l)) is) ∙ h)
-
-    of_brackets : (n : ℕ) → is_some (brackets_of n t) ≡ true → Stay
-    unfolding brackets_of
-    of_brackets n h = each_same (bracketed_elem n) (bracketed_unkeyed n) elems (sym (ap (λ l. is_some (braces_in (bracketed_elem n) l)) is) ∙ h)
-
-    of_counts : is_some (counts_of t) ≡ true → Stay
-    unfolding counts_of
-    of_counts h = each_same counted_elem counted_unkeyed elems (sym (ap (λ l. is_some (braces_in counted_elem l)) is) ∙ h)
+    each : {A : Type 0} (form : Spanned ElemKind → Option A) → ((elem : Spanned ElemKind) (x : A) → form elem ≡ Some x → keyed_elem elem ≡ None) → is_some (braces_in form (out-TermKind t.kind)) ≡ true → Stay
+    each form un h = each_same form un elems (sym (ap (λ l. is_some (braces_in form l)) is) ∙ h)
 
     of_set : (s : Shape) → has_set_form s t ≡ true → Stay
-    of_set (tuple ss) h = elim (or_cases (is_some (brackets_of (length (sizes ss)) t)) (is_some (generator_of t)) h) [ inl a ↦ of_brackets (length (sizes ss)) a | inr b ↦ of_generator b ]
-    of_set s h = of_constants h
+    unfolding constants_of brackets_of generator_of
+    of_set (tuple ss) h =
+        let n = length (sizes ss) in
+        elim (or_cases (is_some (brackets_of n t)) (is_some (generator_of t)) h) [ inl a ↦ each (bracketed_elem n) (bracketed_unkeyed n) a | inr b ↦ not_read generator_in refl b ]
+    of_set s h = each plain_elem plain_unkeyed h
 
     of_form : (s : Shape) → HoldsNone s → has_form s t ≡ true → Stay
-    of_form (domain cs) none h = of_constant h
-    of_form (tuple ss) none h = of_bracket (length (sizes ss)) h
-    of_form truth none h = of_constant h
-    of_form integer none h = of_number h
-    of_form text none h = of_constant h
+    unfolding constant_of number_of card_of bracket_of counts_of
+    of_form (tuple ss) none h = not_read (bracket_in (length (sizes ss))) refl h
+    of_form integer none h = not_read number_in refl h
     of_form (set s) none h = of_set s h
     of_form (iset s) none h = of_set s h
-    of_form card none h = of_card h
-    of_form (valency key) none h = of_counts h
+    of_form card none h = not_read card_in refl h
+    of_form (valency key) none h = each counted_elem counted_unkeyed h
     of_form (mapping key u) none h = absurd none
     of_form (fields fs) none h = absurd none
+    of_form s none h = not_read constant_in refl h
 
   same_by : (s : Shape) (t : Term) → HoldsNone s → has_form s t ≡ true → (l : TermKind-F ElemKind TermKind) → out-TermKind t.kind ≡ l → closed_by bs t l ≡ t
-  same_by s t none form (TermKind-F.TermKind::Const name) is = refl
   same_by s t none form (TermKind-F.Param name) is = absurd (true≢false (sym form ∙ no_form t name is s))
-  same_by s t none form (TermKind-F.Number n) is = refl
-  same_by s t none form (TermKind-F.Card written) is = refl
   same_by s t none form (TermKind-F.Braces elems) is =
       ap (λ (xs : List (Spanned ElemKind)). record { kind = k.Braces xs; span = t.span }) (of_form t elems is s none form)
       ∙ ap (λ (z : TermKind). record { kind = z; span = t.span }) (sym (k.rolls-Braces elems) ∙ ap roll-TermKind (sym is) ∙ roll-out-TermKind t.kind)
-  same_by s t none form (TermKind-F.TermKind::Tuple names) is = refl
-  same_by s t none form (TermKind-F.Gen written) is = refl
+  same_by s t none form l is = refl
 
   stays : (s : Shape) (t : Term) → HoldsNone s → has_form s t ≡ true → closed bs t ≡ t
   unfolding closing
@@ -159,13 +104,8 @@ module _ (bs : Bindings) where
 
   -- a parameter is what it is bound to
   param_by : (free : List (List ℕ)) (t : Term) (name : Name) (l : TermKind-F ElemKind TermKind) → free_in free l ≡ Some name → closed_by bs t l ≡ bound_in bs t l
-  param_by free t name (TermKind-F.TermKind::Const other) h = absurd (true≢false (sym (ap is_some h)))
   param_by free t name (TermKind-F.Param other) h = refl
-  param_by free t name (TermKind-F.Number n) h = absurd (true≢false (sym (ap is_some h)))
-  param_by free t name (TermKind-F.Card written) h = absurd (true≢false (sym (ap is_some h)))
-  param_by free t name (TermKind-F.Braces elems) h = absurd (true≢false (sym (ap is_some h)))
-  param_by free t name (TermKind-F.TermKind::Tuple names) h = absurd (true≢false (sym (ap is_some h)))
-  param_by free t name (TermKind-F.Gen written) h = absurd (true≢false (sym (ap is_some h)))
+  param_by free t name l h = absurd (true≢false (sym (ap is_some h)))
 
   param_bound : (free : List (List ℕ)) (t : Term) (name : Name) → free_of free t ≡ Some name → closed bs t ≡ bound bs t
   unfolding closing bound free_of
@@ -177,10 +117,8 @@ module _ (bs : Bindings) where
   pair_closed pair = (pair.0, closed bs pair.1)
 
   keyed_by : (kind : ElemKind) (l : ElemKind-F ElemKind TermKind) → out-ElemKind kind ≡ l → keyed_in (out-ElemKind (kind_by bs kind l)) ≡ option_map pair_closed (keyed_in l)
-  keyed_by kind (ElemKind-F.Count name written) is = ap keyed_in is
   keyed_by kind (ElemKind-F.Keyed name t) is = ap keyed_in (e.outs-Keyed name (closed bs t))
-  keyed_by kind (ElemKind-F.ElemKind::Const name) is = ap keyed_in is
-  keyed_by kind (ElemKind-F.ElemKind::Tuple names) is = ap keyed_in is
+  keyed_by kind l is = ap keyed_in is
 
   keyed_closed : (elem : Spanned ElemKind) → keyed_elem (closing_elem bs elem) ≡ option_map pair_closed (keyed_elem elem)
   unfolding keyed_elem closing_kind
@@ -188,9 +126,7 @@ module _ (bs : Bindings) where
 
   also_closed : (o : Option (Name × Term)) (os : Option (List (Name × Term))) → then_also (option_map pair_closed o) (option_map (map pair_closed) os) ≡ option_map (map pair_closed) (then_also o os)
   also_closed (Some x) (Some xs) = refl
-  also_closed (Some x) None = refl
-  also_closed None (Some xs) = refl
-  also_closed None None = refl
+  also_closed o os = refl
 
   all_closed : (elems : List (Spanned ElemKind)) → all_of keyed_elem (map (closing_elem bs) elems) ≡ option_map (map pair_closed) (all_of keyed_elem elems)
   unfolding all_of
@@ -198,13 +134,8 @@ module _ (bs : Bindings) where
   all_closed (elem ∷ elems) = ap₂ (λ (o : Option (Name × Term)) (os : Option (List (Name × Term))). then_also o os) (keyed_closed elem) (all_closed elems) ∙ also_closed (keyed_elem elem) (all_of keyed_elem elems)
 
   pairs_by : (t : Term) (l : TermKind-F ElemKind TermKind) (pairs : List (Name × Term)) → out-TermKind t.kind ≡ l → braces_in keyed_elem l ≡ Some pairs → braces_in keyed_elem (out-TermKind (closed_by bs t l).kind) ≡ Some (map pair_closed pairs)
-  pairs_by t (TermKind-F.TermKind::Const name) pairs is h = absurd (true≢false (sym (ap is_some h)))
-  pairs_by t (TermKind-F.Param name) pairs is h = absurd (true≢false (sym (ap is_some h)))
-  pairs_by t (TermKind-F.Number n) pairs is h = absurd (true≢false (sym (ap is_some h)))
-  pairs_by t (TermKind-F.Card written) pairs is h = absurd (true≢false (sym (ap is_some h)))
   pairs_by t (TermKind-F.Braces elems) pairs is h = ap (braces_in keyed_elem) (k.outs-Braces (map (closing_elem bs) elems)) ∙ all_closed elems ∙ ap (option_map (map pair_closed)) h
-  pairs_by t (TermKind-F.TermKind::Tuple names) pairs is h = absurd (true≢false (sym (ap is_some h)))
-  pairs_by t (TermKind-F.Gen written) pairs is h = absurd (true≢false (sym (ap is_some h)))
+  pairs_by t l pairs is h = absurd (true≢false (sym (ap is_some h)))
 
   pairs_closed : (t : Term) (pairs : List (Name × Term)) → pairs_of t ≡ Some pairs → pairs_of (closed bs t) ≡ Some (map pair_closed pairs)
   unfolding pairs_of closing
@@ -274,15 +205,6 @@ module _ (bs : Bindings) where
 
     mutual
       pub replaced : (s : Shape) (t : Term) → Known (params_in free s t) → RightBy (with_open free) s t → RightIn (with_open []) s (closed bs t)
-      replaced (domain cs) t known h = plain (domain cs) t tt (λ h. h) [] known h
-      replaced (tuple ss) t known h = plain (tuple ss) t tt (λ h. h) [] known h
-      replaced truth t known h = plain truth t tt (λ h. h) [] known h
-      replaced integer t known h = plain integer t tt (λ h. h) [] known h
-      replaced text t known h = plain text t tt (λ h. h) [] known h
-      replaced (set s) t known h = plain (set s) t tt (λ h. h) [] known h
-      replaced (iset s) t known h = plain (iset s) t tt (λ h. h) [] known h
-      replaced card t known h = plain card t tt (λ h. h) [] known h
-      replaced (valency key) t known h = plain (valency key) t tt (λ h. h) [] known h
       replaced (mapping key u) t known h = elim (seen free t) [
         | open_param name is means ↦ at_param (mapping key u) t (params_inside free (mapping key u) t) name is means known
         | looked_at is some ↦ (
@@ -312,6 +234,7 @@ module _ (bs : Bindings) where
                   replaced_under fs one.0 (λ p v i. below p v (flat_map_in (params_under free fs) (all_told (pairs_of t)) one.0 (p, v) among i)) (λ g x. inner g (inr (one.0, (among, x)))) f (subst (λ z. OffendsUnder (with_open []) fs z f) (sym one.1.1) b.1.1))
             ])
       ]
+      replaced s t known h = plain s t tt (λ h. h) [] known h
 
       replaced_under : (fs : Fields) (pair : Name × Term) → Known (params_under free fs pair) → ((f : Fault) → OffendsUnder (with_open free) fs pair f → ⊥) → (f : Fault) → OffendsUnder (with_open []) fs (pair_closed pair) f → ⊥
       replaced_under no_field pair known h f w = w

@@ -2,17 +2,16 @@
 use Rattle.std.proofs.Common.{◌≡◌, ℕ, ◌+◌, ◌<◌, ◌≤◌, List, [], ◌∷◌, Option, None, Some, length, drop, get_or, refl, ap, ap₂, sym, ◌∙◌, arith, subst, min, inl, inr, add-one, drop-cons}
 use Rattle.std.specs.Prelude.{Bool, true, false, nat_lt, nat_le, ◌==◌, ◌&&◌, ◌||◌}
 use Rattle.std.specs.List.{list_any}
-use Rattle.std.proofs.lemmas.Bool.{cases_eq, cases_lt, eq-eqb, ne_eqb}
-use Rattle.std.proofs.lemmas.Bool.Decides.{nat_tests}
+use Rattle.std.proofs.lemmas.Bool.{cases_eq, cases_lt, eq-eqb, ne_eqb, lt-ltb, le-ltb, le-leb, lt-leb}
 use Rattle.std.proofs.lemmas.List.{drop_all}
 use Rattle.xdg_ast.specs.declared.names.Num.{Num}
 use Rattle.xdg_ast.specs.declared.terms.CardKind.{CardKind}
 use Rattle.xdg_ast.specs.declared.terms.CardKind.TheVariants as c
 use Rattle.xdg_facts.proofs.Truths.{and_false, or_false, or_true}
-use Rattle.xdg_domain.specs.Cards.{cards, with_card, IsCards}
+use Rattle.xdg_domain.specs.Cards.{cards, IsCards}
 use Rattle.xdg_terms.specs.Built.{some_or_all, card_numbers}
 use Rattle.xdg_terms.specs.Counted.{told, AreCards}
-use Rattle.xdg_facts.specs.Rises.{has, numbers_below}
+use Rattle.xdg_facts.specs.Rises.{has}
 use Rattle.xdg_facts.proofs.Rising.{numbers_agree, none_of}
 
 -- ---- what was found
@@ -81,28 +80,16 @@ numbers_end nums i made over so_far n small =
 abbrev pub within : ℕ → ℕ → ℕ → Bool
 within low high n = nat_le low n && nat_le n high
 
-lt_true : (n k : ℕ) → n < k → nat_lt n k ≡ true
-lt_true n k h = grind (arith, nat_tests)
-
-lt_false : (n k : ℕ) → k ≤ n → nat_lt n k ≡ false
-lt_false n k h = grind (arith, nat_tests)
-
-le_true : (n k : ℕ) → n ≤ k → nat_le n k ≡ true
-le_true n k h = grind (arith, nat_tests)
-
-le_false : (n k : ℕ) → k < n → nat_le n k ≡ false
-le_false n k h = grind (arith, nat_tests)
-
 pub interval_begins : (low high n : ℕ) → false ≡ (nat_lt n low && within low high n)
 interval_begins low high n = elim (cases_lt n low) [
-  | inl less ↦ sym (ap (λ b. nat_lt n low && (b && nat_le n high)) (le_false low n less) ∙ and_false (nat_lt n low))
-  | inr more ↦ sym (ap (λ b. b && within low high n) (lt_false n low more))
+  | inl less ↦ sym (ap (λ b. nat_lt n low && (b && nat_le n high)) (lt-leb low n less) ∙ and_false (nat_lt n low))
+  | inr more ↦ sym (ap (λ b. b && within low high n) (le-ltb n low more))
 ]
 
 same_side : (n k : ℕ) → (n ≡ k → ⊥) → nat_lt n k ≡ nat_lt n (k + 1)
 same_side n k other = elim (cases_lt n k) [
-  | inl less ↦ lt_true n k less ∙ sym (lt_true n (k + 1) (omega (arith, less)))
-  | inr more ↦ lt_false n k more ∙ sym (lt_false n (k + 1) (omega (arith, more, other)))
+  | inl less ↦ lt-ltb n k less ∙ sym (lt-ltb n (k + 1) (omega (arith, less)))
+  | inr more ↦ le-ltb n k more ∙ sym (le-ltb n (k + 1) (omega (arith, more, other)))
 ]
 
 pub interval_grows : (low high k : ℕ) (made : Option (List ℕ)) (s : List ℕ) → low ≤ k → k ≤ high → ((n : ℕ) → has s n ≡ ((n == k) || told made n))
@@ -110,43 +97,23 @@ pub interval_grows : (low high k : ℕ) (made : Option (List ℕ)) (s : List ℕ
 interval_grows low high k made s above below more so_far n = more n ∙ elim (cases_eq n k) [
   | inl e ↦
       ap (λ b. b || told made n) (eq-eqb n k e)
-      ∙ sym (ap₂ (λ a b. a && (b && nat_le n high)) (lt_true n (k + 1) (omega (arith, e))) (le_true low n (omega (arith, e, above))) ∙ le_true n high (omega (arith, e, below)))
+      ∙ sym (ap₂ (λ a b. a && (b && nat_le n high)) (lt-ltb n (k + 1) (omega (arith, e))) (le-leb low n (omega (arith, e, above))) ∙ le-leb n high (omega (arith, e, below)))
   | inr other ↦ ap (λ b. b || told made n) (ne_eqb n k other) ∙ so_far n ∙ ap (λ b. b && within low high n) (same_side n k other)
 ]
 
 pub interval_ends : (low high k : ℕ) (made : Option (List ℕ)) → min high 127 < k → ((n : ℕ) → told made n ≡ (nat_lt n k && within low high n)) → (n : ℕ) → n < 128 → told made n ≡ within low high n
 interval_ends low high k made over so_far n small = so_far n ∙ elim (cases_lt high n) [
   | inl beyond ↦
-      let none : within low high n ≡ false = ap (λ b. nat_le low n && b) (le_false n high beyond) ∙ and_false (nat_le low n) in
+      let none : within low high n ≡ false = ap (λ b. nat_le low n && b) (lt-leb n high beyond) ∙ and_false (nat_le low n) in
       ap (λ b. nat_lt n k && b) none ∙ and_false (nat_lt n k) ∙ sym none
-  | inr inside ↦ ap (λ b. b && within low high n) (lt_true n k (omega (arith, inside, small, over)))
+  | inr inside ↦ ap (λ b. b && within low high n) (lt-ltb n k (omega (arith, inside, small, over)))
 ]
 
 -- ---- each form
 
-pub one_made : (kind : CardKind) (made : List ℕ) → kind ≡ c.One → made ≡ 1 ∷ [] → made ≡ card_numbers kind
-unfolding card_numbers numbers_below
-one_made kind made is e = e ∙ sym (ap card_numbers is)
+pub of_form : (kind form : CardKind) (made : List ℕ) → kind ≡ form → made ≡ card_numbers form → made ≡ card_numbers kind
+of_form kind form made is e = e ∙ sym (ap card_numbers is)
 
-pub maybe_made : (kind : CardKind) (none made : List ℕ) → kind ≡ c.Maybe → none ≡ 0 ∷ [] → made ≡ with_card none 1 → made ≡ card_numbers kind
-unfolding card_numbers numbers_below
-maybe_made kind none made is start e = e ∙ ap (λ s. with_card s 1) start ∙ sym (ap card_numbers is)
-
-pub any_made : (kind : CardKind) (made : List ℕ) → kind ≡ c.Any → made ≡ cards (λ _. true) → made ≡ card_numbers kind
-unfolding card_numbers numbers_below
-any_made kind made is e = e ∙ sym (ap card_numbers is)
-
-some_within : (n : ℕ) → n < 128 → within 1 127 n ≡ nat_lt 0 n
-some_within n below = ap (λ b. nat_le 1 n && b) (le_true n 127 (omega (arith, below))) ∙ and_true (nat_le 1 n)
-
-pub some_made : (kind : CardKind) (made : List ℕ) → kind ≡ c.Some1 → made ≡ some_or_all (cards (within 1 127)) → made ≡ card_numbers kind
+pub some_numbers : some_or_all (cards (within 1 127)) ≡ card_numbers c.Some1
 unfolding card_numbers
-some_made kind made is e = e ∙ ap some_or_all (numbers_agree 128 (within 1 127) (λ n. nat_lt 0 n) some_within) ∙ sym (ap card_numbers is)
-
-pub numbers_made : (kind : CardKind) (nums given : List Num) (made : List ℕ) → kind ≡ c.Numbers nums → given ≡ nums → made ≡ some_or_all (cards (stands_in given)) → made ≡ card_numbers kind
-unfolding card_numbers
-numbers_made kind nums given made is same e = e ∙ ap (λ ns. some_or_all (cards (stands_in ns))) same ∙ sym (ap card_numbers is)
-
-pub interval_made : (kind : CardKind) (low high : Num) (made : List ℕ) → kind ≡ c.Interval low high → made ≡ some_or_all (cards (within low.value high.value)) → made ≡ card_numbers kind
-unfolding card_numbers
-interval_made kind low high made is e = e ∙ sym (ap card_numbers is)
+some_numbers = ap some_or_all (numbers_agree 128 (within 1 127) (λ n. nat_lt 0 n) (λ n below. ap (λ b. nat_le 1 n && b) (le-leb n 127 (omega (arith, below))) ∙ and_true (nat_le 1 n)))

@@ -58,9 +58,7 @@ Both {A} o os xs = (x : A) × ((ys : List A) × ((o ≡ Some x) × ((os ≡ Some
 
 both : {A : Type 0} (o : Option A) (os : Option (List A)) (xs : List A) → then_also o os ≡ Some xs → Both o os xs
 both (Some x) (Some ys) xs h = (x, (ys, (refl, (refl, cc))))
-both (Some x) None xs h = absurd (cc)
-both None (Some ys) xs h = absurd (cc)
-both None None xs h = absurd (cc)
+both o os xs h = absurd (cc)
 
 -- what holds of each element of the form holds of all
 pub told_as : {A B : Type 0} (form : Spanned ElemKind → Option A) (g : A → List B) (h : Spanned ElemKind → List B) → ((e : Spanned ElemKind) (x : A) → form e ≡ Some x → h e ≡ g x)
@@ -96,70 +94,32 @@ sum_told xs ys zs parts whole one other a b sum = sum ∙ ap₂ earlier a b ∙ 
 
 -- ---- one element
 
-plain_layer : (texts : List (List ℕ)) (l : ElemKind-F ElemKind TermKind) (x : Name) → plain_in l ≡ Some x → spec.plain_missing_in texts l ≡ spec.missing causes.NotMember texts x
-plain_layer texts (ElemKind-F.ElemKind::Const name) x h = let e : name ≡ x = cc in ap (spec.missing causes.NotMember texts) e
-plain_layer texts (ElemKind-F.Count name written) x h = absurd (cc)
-plain_layer texts (ElemKind-F.Keyed name t) x h = absurd (cc)
-plain_layer texts (ElemKind-F.ElemKind::Tuple names) x h = absurd (cc)
+pub plain_is : (l : ElemKind-F ElemKind TermKind) (x : Name) → plain_in l ≡ Some x → l ≡ ElemKind-F.ElemKind::Const x
+plain_is (ElemKind-F.ElemKind::Const name) x h = let e : name ≡ x = cc in ap ElemKind-F.ElemKind::Const e
+plain_is l x h = absurd (cc)
 
 pub so_many : (b : Bool) (names xs : List Name) → (if b then Some names else None) ≡ Some xs → names ≡ xs
 so_many true names xs h = cc
 so_many false names xs h = absurd (cc)
 
-bracket_layer : (ss : Shapes) (n : ℕ) (l : ElemKind-F ElemKind TermKind) (x : List Name) → bracketed_in n l ≡ Some x → spec.bracket_missing_in ss l ≡ spec.missing_in_turn (d.constants_of ss) x
-bracket_layer ss n (ElemKind-F.ElemKind::Tuple names) x h = ap (spec.missing_in_turn (d.constants_of ss)) (so_many (eqb (length names) n) names x h)
-bracket_layer ss n (ElemKind-F.ElemKind::Const name) x h = absurd (cc)
-bracket_layer ss n (ElemKind-F.Count name written) x h = absurd (cc)
-bracket_layer ss n (ElemKind-F.Keyed name t) x h = absurd (cc)
+pub bracketed_is : (n : ℕ) (l : ElemKind-F ElemKind TermKind) (x : List Name) → bracketed_in n l ≡ Some x → l ≡ ElemKind-F.ElemKind::Tuple x
+bracketed_is n (ElemKind-F.ElemKind::Tuple names) x h = ap ElemKind-F.ElemKind::Tuple (so_many (eqb (length names) n) names x h)
+bracketed_is n l x h = absurd (cc)
 
-count_layer : (l : ElemKind-F ElemKind TermKind) (x : Name × Card) → counted_in l ≡ Some x → spec.count_faults_in l ≡ spec.card_faults x.1
-count_layer (ElemKind-F.Count name written) x h = let e : (name, written) ≡ x = cc in ap (λ (p : Name × Card). spec.card_faults p.1) e
-count_layer (ElemKind-F.ElemKind::Const name) x h = absurd (cc)
-count_layer (ElemKind-F.Keyed name t) x h = absurd (cc)
-count_layer (ElemKind-F.ElemKind::Tuple names) x h = absurd (cc)
+pub counted_is : (l : ElemKind-F ElemKind TermKind) (x : Name × Card) → counted_in l ≡ Some x → l ≡ ElemKind-F.Count x.0 x.1
+counted_is (ElemKind-F.Count name written) x h = let e : (name, written) ≡ x = cc in ap (λ (p : Name × Card). ElemKind-F.Count p.0 p.1) e
+counted_is l x h = absurd (cc)
 
-key_counted : (rule : Name → List Fault) (l : ElemKind-F ElemKind TermKind) (x : Name × Card) → counted_in l ≡ Some x → spec.key_faults_in rule l ≡ rule x.0
-key_counted rule (ElemKind-F.Count name written) x h = let e : (name, written) ≡ x = cc in ap (λ (p : Name × Card). rule p.0) e
-key_counted rule (ElemKind-F.ElemKind::Const name) x h = absurd (cc)
-key_counted rule (ElemKind-F.Keyed name t) x h = absurd (cc)
-key_counted rule (ElemKind-F.ElemKind::Tuple names) x h = absurd (cc)
-
-key_keyed : (rule : Name → List Fault) (l : ElemKind-F ElemKind TermKind) (x : Name × Term) → keyed_in l ≡ Some x → spec.key_faults_in rule l ≡ rule x.0
-key_keyed rule (ElemKind-F.Keyed name t) x h = let e : (name, t) ≡ x = cc in ap (λ (p : Name × Term). rule p.0) e
-key_keyed rule (ElemKind-F.ElemKind::Const name) x h = absurd (cc)
-key_keyed rule (ElemKind-F.Count name written) x h = absurd (cc)
-key_keyed rule (ElemKind-F.ElemKind::Tuple names) x h = absurd (cc)
-
-counted_key : (l : ElemKind-F ElemKind TermKind) (x : Name × Card) → counted_in l ≡ Some x → spec.key_in l ≡ x.0 ∷ []
-counted_key (ElemKind-F.Count name written) x h = let e : (name, written) ≡ x = cc in ap (λ (p : Name × Card). p.0 ∷ []) e
-counted_key (ElemKind-F.ElemKind::Const name) x h = absurd (cc)
-counted_key (ElemKind-F.Keyed name t) x h = absurd (cc)
-counted_key (ElemKind-F.ElemKind::Tuple names) x h = absurd (cc)
-
-keyed_key : (l : ElemKind-F ElemKind TermKind) (x : Name × Term) → keyed_in l ≡ Some x → spec.key_in l ≡ x.0 ∷ []
-keyed_key (ElemKind-F.Keyed name t) x h = let e : (name, t) ≡ x = cc in ap (λ (p : Name × Term). p.0 ∷ []) e
-keyed_key (ElemKind-F.ElemKind::Const name) x h = absurd (cc)
-keyed_key (ElemKind-F.Count name written) x h = absurd (cc)
-keyed_key (ElemKind-F.ElemKind::Tuple names) x h = absurd (cc)
-
-value_layer : (look : Look) (s : Shape) (l : ElemKind-F ElemKind TermKind) (x : Name × Term) → keyed_in l ≡ Some x → spec.value_faults_in look s l ≡ spec.faults look s x.1
-value_layer look s (ElemKind-F.Keyed name t) x h = let e : (name, t) ≡ x = cc in ap (λ (p : Name × Term). spec.faults look s p.1) e
-value_layer look s (ElemKind-F.ElemKind::Const name) x h = absurd (cc)
-value_layer look s (ElemKind-F.Count name written) x h = absurd (cc)
-value_layer look s (ElemKind-F.ElemKind::Tuple names) x h = absurd (cc)
-
-field_layer : (look : Look) (fs : Fields) (l : ElemKind-F ElemKind TermKind) (x : Name × Term) → keyed_in l ≡ Some x → spec.elem_faults_in look fs l ≡ spec.field_faults look fs x
-field_layer look fs (ElemKind-F.Keyed name t) x h = let e : (name, t) ≡ x = cc in ap (spec.field_faults look fs) e
-field_layer look fs (ElemKind-F.ElemKind::Const name) x h = absurd (cc)
-field_layer look fs (ElemKind-F.Count name written) x h = absurd (cc)
-field_layer look fs (ElemKind-F.ElemKind::Tuple names) x h = absurd (cc)
+pub keyed_is : (l : ElemKind-F ElemKind TermKind) (x : Name × Term) → keyed_in l ≡ Some x → l ≡ ElemKind-F.Keyed x.0 x.1
+keyed_is (ElemKind-F.Keyed name t) x h = let e : (name, t) ≡ x = cc in ap (λ (p : Name × Term). ElemKind-F.Keyed p.0 p.1) e
+keyed_is l x h = absurd (cc)
 
 -- ---- all elements
 
 pub constants_right : (texts : List (List ℕ)) (t : Term) (es : List (Spanned ElemKind)) → t.kind ≡ k.Braces es → true ≡ is_some (all_of plain_elem es) → flat_map (spec.plain_missing texts) es ≡ spec.constants_faults texts t
 unfolding spec.constants_faults constants_of plain_elem spec.plain_missing
 constants_right texts t es is h =
-    braces_right plain_elem (spec.all_missing causes.NotMember texts) (flat_map (spec.plain_missing texts) es) t es is h (λ xs a. told_as plain_elem (spec.missing causes.NotMember texts) (spec.plain_missing texts) (λ e. plain_layer texts (out-ElemKind e.kind)) es xs a)
+    braces_right plain_elem (spec.all_missing causes.NotMember texts) (flat_map (spec.plain_missing texts) es) t es is h (λ xs a. told_as plain_elem (spec.missing causes.NotMember texts) (spec.plain_missing texts) (λ e x k. ap (spec.plain_missing_in texts) (plain_is (out-ElemKind e.kind) x k)) es xs a)
 
 pub constants_wrong : (texts : List (List ℕ)) (t : Term) (es : List (Spanned ElemKind)) → t.kind ≡ k.Braces es → false ≡ is_some (all_of plain_elem es) → spec.wrong_kind t ≡ spec.constants_faults texts t
 unfolding spec.constants_faults constants_of
@@ -179,7 +139,7 @@ brackets_told n m t es rows is many h = ap (braces_in (bracketed_elem m)) (out_b
 
 bracket_each : (ss : Shapes) (n : ℕ) (e : Spanned ElemKind) (x : List Name) → bracketed_elem n e ≡ Some x → spec.bracket_missing ss e ≡ spec.missing_in_turn (d.constants_of ss) x
 unfolding bracketed_elem spec.bracket_missing
-bracket_each ss n e x h = bracket_layer ss n (out-ElemKind e.kind) x h
+bracket_each ss n e x h = ap (spec.bracket_missing_in ss) (bracketed_is n (out-ElemKind e.kind) x h)
 
 pub tuples_right : (ss : Shapes) (n : ℕ) (t : Term) (es : List (Spanned ElemKind)) → t.kind ≡ k.Braces es → n ≡ length (sizes ss) → true ≡ is_some (all_of (bracketed_elem n) es) → flat_map (spec.bracket_missing ss) es ≡ spec.tuples_faults ss t
 tuples_right ss n t es is many h =
@@ -223,7 +183,8 @@ valency_right : (texts : List (List ℕ)) (t : Term) (es : List (Spanned ElemKin
     → (flat_map (spec.key_faults (spec.missing causes.NotMember texts)) es ++ spec.all_twice [] (spec.keys es)) ++ flat_map spec.count_faults es ≡ spec.valency_faults texts t
 unfolding spec.valency_faults counts_of counted_elem spec.count_faults spec.key_faults spec.key_of
 valency_right texts t es is h =
-    pairs_right counted_elem (λ e. counted_key (out-ElemKind e.kind)) (λ rule e. key_counted rule (out-ElemKind e.kind)) (spec.missing causes.NotMember texts) (λ p. spec.card_faults p.1) spec.count_faults (λ e. count_layer (out-ElemKind e.kind)) t es is h
+    pairs_right counted_elem (λ e p k. ap spec.key_in (counted_is (out-ElemKind e.kind) p k)) (λ rule e p k. ap (spec.key_faults_in rule) (counted_is (out-ElemKind e.kind) p k)) (spec.missing causes.NotMember texts)
+    (λ p. spec.card_faults p.1) spec.count_faults (λ e p k. ap spec.count_faults_in (counted_is (out-ElemKind e.kind) p k)) t es is h
 
 pub valency_wrong : (texts : List (List ℕ)) (t : Term) (es : List (Spanned ElemKind)) → t.kind ≡ k.Braces es → false ≡ is_some (all_of counted_elem es) → spec.wrong_kind t ≡ spec.valency_faults texts t
 unfolding spec.valency_faults counts_of
@@ -233,7 +194,8 @@ mapping_right : (look : Look) (texts : List (List ℕ)) (s : Shape) (t : Term) (
     → (flat_map (spec.key_faults (spec.missing causes.NotMember texts)) es ++ spec.all_twice [] (spec.keys es)) ++ flat_map (spec.value_faults look s) es ≡ spec.mapping_faults look texts s t
 unfolding spec.mapping_faults pairs_of keyed_elem spec.value_faults spec.key_faults spec.key_of
 mapping_right look texts s t es is h =
-    pairs_right keyed_elem (λ e. keyed_key (out-ElemKind e.kind)) (λ rule e. key_keyed rule (out-ElemKind e.kind)) (spec.missing causes.NotMember texts) (λ p. spec.faults look s p.1) (spec.value_faults look s) (λ e. value_layer look s (out-ElemKind e.kind)) t es is h
+    pairs_right keyed_elem (λ e p k. ap spec.key_in (keyed_is (out-ElemKind e.kind) p k)) (λ rule e p k. ap (spec.key_faults_in rule) (keyed_is (out-ElemKind e.kind) p k)) (spec.missing causes.NotMember texts)
+    (λ p. spec.faults look s p.1) (spec.value_faults look s) (λ e p k. ap (spec.value_faults_in look s) (keyed_is (out-ElemKind e.kind) p k)) t es is h
 
 pub mapping_wrong : (look : Look) (texts : List (List ℕ)) (s : Shape) (t : Term) (es : List (Spanned ElemKind)) → t.kind ≡ k.Braces es → false ≡ is_some (all_of keyed_elem es) → spec.wrong_kind t ≡ spec.mapping_faults look texts s t
 unfolding spec.mapping_faults pairs_of
@@ -243,7 +205,8 @@ record_right : (look : Look) (fs : Fields) (t : Term) (es : List (Spanned ElemKi
     → (flat_map (spec.key_faults (spec.missing causes.UnknownName (names_of fs))) es ++ spec.all_twice [] (spec.keys es)) ++ flat_map (spec.elem_faults look fs) es ≡ spec.record_faults look fs t
 unfolding spec.record_faults pairs_of keyed_elem spec.elem_faults spec.key_faults spec.key_of
 record_right look fs t es is h =
-    pairs_right keyed_elem (λ e. keyed_key (out-ElemKind e.kind)) (λ rule e. key_keyed rule (out-ElemKind e.kind)) (spec.missing causes.UnknownName (names_of fs)) (spec.field_faults look fs) (spec.elem_faults look fs) (λ e. field_layer look fs (out-ElemKind e.kind)) t es is h
+    pairs_right keyed_elem (λ e p k. ap spec.key_in (keyed_is (out-ElemKind e.kind) p k)) (λ rule e p k. ap (spec.key_faults_in rule) (keyed_is (out-ElemKind e.kind) p k)) (spec.missing causes.UnknownName (names_of fs))
+    (spec.field_faults look fs) (spec.elem_faults look fs) (λ e p k. ap (spec.elem_faults_in look fs) (keyed_is (out-ElemKind e.kind) p k)) t es is h
 
 pub record_wrong : (look : Look) (fs : Fields) (t : Term) (es : List (Spanned ElemKind)) → t.kind ≡ k.Braces es → false ≡ is_some (all_of keyed_elem es) → spec.wrong_kind t ≡ spec.record_faults look fs t
 unfolding spec.record_faults pairs_of

@@ -25,6 +25,7 @@ use Rattle.xdg_names.proofs.First.{tells_as, first-tells}
 use Rattle.xdg_terms.specs.Forms.{Term, Card, Look, all_of, bracketed_elem, braces_in, generator_in, constant_of, number_of, card_of, generator_of, bracket_of, constants_of, brackets_of, counts_of, pairs_of}
 use Rattle.xdg_terms.specs.Offences.{fault_at, has_form, has_set_form, asked_in_set, is_some, one_told, all_told, Asked, asked_in, asked_in_turn, asked, keys, field_keys, known_fields, cards, keys_of, gen_names, IsWrongKind, IsNotMember, IsTwice, IsUnknownField, IsOutOfRange, CardOffends, OffendsHere, OfSeen, OffendsIn, OffendsUnder, OffendsBy}
 use Rattle.xdg_terms.specs.Faults as spec
+use Rattle.xdg_terms.proofs.Right.{HoldsNone}
 use Rattle.xdg_names.specs.Texts.{has_text}
 use Rattle.xdg_names.proofs.Texts.{has_among, among_has}
 use Rattle.xdg_facts.proofs.Texts.{same_text, is_same}
@@ -287,13 +288,9 @@ generated_by ss t gen =
 
 tuples_layer : (ss : Shapes) (t : Term) (n : ℕ) (l : TermKind-F ElemKind TermKind)
     → spec.either_faults ss (braces_in (bracketed_elem n) l) (generator_in l) t ≡ rows (is_some (braces_in (bracketed_elem n) l) || is_some (generator_in l)) t (asked_of_tuples ss (braces_in (bracketed_elem n) l) (generator_in l)) [] [] [] []
-tuples_layer ss t n (TermKind-F.TermKind::Const name) = refl
-tuples_layer ss t n (TermKind-F.Param name) = refl
-tuples_layer ss t n (TermKind-F.Number number) = refl
-tuples_layer ss t n (TermKind-F.Card written) = refl
 tuples_layer ss t n (TermKind-F.Braces elems) = bracketed_by ss t (all_of (bracketed_elem n) elems)
-tuples_layer ss t n (TermKind-F.TermKind::Tuple names) = refl
 tuples_layer ss t n (TermKind-F.Gen gen) = generated_by ss t gen
+tuples_layer ss t n l = refl
 
 tuples_same : (ss : Shapes) (t : Term) → spec.tuples_faults ss t ≡ rows (has_set_form (tuple ss) t) t (asked_in_set (tuple ss) t) [] [] [] []
 unfolding spec.tuples_faults brackets_of generator_of
@@ -307,30 +304,6 @@ set_same : (s : Shape) (t : Term) → spec.set_faults s t ≡ rows (has_set_form
 set_same (tuple ss) t = tuples_same ss t
 set_same s t = constants_same (d.constants s) t
 
-constant_same : (texts : List (List ℕ)) (t : Term) → spec.constant_faults texts t ≡ here (domain texts) t
-unfolding spec.constant_faults
-constant_same texts t = constant_by texts t (constant_of t)
-
-truth_same : (t : Term) → spec.constant_faults spec.truth_texts t ≡ here truth t
-unfolding spec.constant_faults
-truth_same t = constant_by spec.truth_texts t (constant_of t)
-
-tuple_same : (ss : Shapes) (t : Term) → spec.tuple_faults ss t ≡ here (tuple ss) t
-unfolding spec.tuple_faults
-tuple_same ss t = tuple_by ss t (bracket_of (length (sizes ss)) t)
-
-number_same : (t : Term) → spec.number_faults t ≡ here integer t
-unfolding spec.number_faults
-number_same t = anything_by t (number_of t)
-
-text_same_too : (t : Term) → spec.text_faults t ≡ here text t
-unfolding spec.text_faults
-text_same_too t = anything_by t (constant_of t)
-
-card_same : (t : Term) → spec.cardinality_faults t ≡ here card t
-unfolding spec.cardinality_faults
-card_same t = card_by t (card_of t)
-
 regroup : (xs ys zs : List Fault) → (xs ++ ys) ++ zs ≡ xs ++ (ys ++ zs)
 regroup xs ys zs = append_assoc xs ys zs
 
@@ -342,9 +315,19 @@ valency_by texts t (Some pairs) =
     regroup (spec.all_missing causes.NotMember texts names) (spec.all_twice [] names) (flat_map (λ (pair : Name × Card). spec.card_faults pair.1) pairs)
     ∙ ap₂ (λ (xs ys : List Fault). xs ++ (spec.all_twice [] names ++ ys)) (in_one texts names) (sym (flat_map-map spec.card_faults (λ (pair : Name × Card). pair.1) pairs))
 
-valency_same : (k : Shape) (t : Term) → spec.valency_faults (d.constants k) t ≡ here (valency k) t
-unfolding spec.valency_faults
-valency_same k t = valency_by (d.constants k) t (counts_of t)
+-- of types whose terms hold no others
+plain_same : (look : Look) (s : Shape) (t : Term) → HoldsNone s → spec.faults_in look s t ≡ here s t
+unfolding spec.constant_faults spec.tuple_faults spec.number_faults spec.text_faults spec.cardinality_faults spec.valency_faults
+plain_same look (domain cs) t none = constant_by cs t (constant_of t)
+plain_same look (tuple ss) t none = tuple_by ss t (bracket_of (length (sizes ss)) t)
+plain_same look truth t none = constant_by spec.truth_texts t (constant_of t)
+plain_same look integer t none = anything_by t (number_of t)
+plain_same look text t none = anything_by t (constant_of t)
+plain_same look (set s) t none = set_same s t
+plain_same look (iset s) t none = set_same s t
+plain_same look card t none = card_by t (card_of t)
+plain_same look (valency k) t none = valency_by (d.constants k) t (counts_of t)
+plain_same look s t none = absurd none
 
 -- with what is wrong inside
 mapping_by : (texts : List (List ℕ)) (inside : Name × Term → List Fault) (t : Term) (o : Option (List (Name × Term)))
@@ -376,15 +359,6 @@ of_field look name u fs pair b = if b then spec.faults look u pair.1 else spec.f
 
 mutual
   sound : (look : Look) (s : Shape) (t : Term) (f : Fault) → In (spec.faults_in look s t) f → OffendsIn look s t f
-  sound look (domain cs) t f h = here_sound (domain cs) t f (subst (λ xs. In xs f) (constant_same cs t) h)
-  sound look (tuple ss) t f h = here_sound (tuple ss) t f (subst (λ xs. In xs f) (tuple_same ss t) h)
-  sound look truth t f h = here_sound truth t f (subst (λ xs. In xs f) (truth_same t) h)
-  sound look integer t f h = here_sound integer t f (subst (λ xs. In xs f) (number_same t) h)
-  sound look text t f h = here_sound text t f (subst (λ xs. In xs f) (text_same_too t) h)
-  sound look (set s) t f h = here_sound (set s) t f (subst (λ xs. In xs f) (set_same s t) h)
-  sound look (iset s) t f h = here_sound (iset s) t f (subst (λ xs. In xs f) (set_same s t) h)
-  sound look card t f h = here_sound card t f (subst (λ xs. In xs f) (card_same t) h)
-  sound look (valency k) t f h = here_sound (valency k) t f (subst (λ xs. In xs f) (valency_same k t) h)
   sound look (mapping k u) t f h =
       let inside = λ (pair : Name × Term). spec.faults look u pair.1 in
       let pairs = all_told (pairs_of t) in
@@ -399,6 +373,7 @@ mutual
         | inl a ↦ inl (here_sound (fields fs) t f a)
         | inr b ↦ inr (let one = in_flat_map inside pairs f b in (one.0, (one.1.0, field_sound look fs one.0 f one.1.1)))
       ]
+  sound look s t f h = here_sound s t f (subst (λ xs. In xs f) (plain_same look s t tt) h)
 
   field_sound : (look : Look) (fs : Fields) (pair : Name × Term) (f : Fault) → In (spec.field_faults look fs pair) f → OffendsUnder look fs pair f
   field_sound look no_field pair f h = h
@@ -410,15 +385,6 @@ mutual
 
 mutual
   complete : (look : Look) (s : Shape) (t : Term) (f : Fault) → OffendsIn look s t f → In (spec.faults_in look s t) f
-  complete look (domain cs) t f h = subst (λ xs. In xs f) (sym (constant_same cs t)) (here_complete (domain cs) t f h)
-  complete look (tuple ss) t f h = subst (λ xs. In xs f) (sym (tuple_same ss t)) (here_complete (tuple ss) t f h)
-  complete look truth t f h = subst (λ xs. In xs f) (sym (truth_same t)) (here_complete truth t f h)
-  complete look integer t f h = subst (λ xs. In xs f) (sym (number_same t)) (here_complete integer t f h)
-  complete look text t f h = subst (λ xs. In xs f) (sym (text_same_too t)) (here_complete text t f h)
-  complete look (set s) t f h = subst (λ xs. In xs f) (sym (set_same s t)) (here_complete (set s) t f h)
-  complete look (iset s) t f h = subst (λ xs. In xs f) (sym (set_same s t)) (here_complete (iset s) t f h)
-  complete look card t f h = subst (λ xs. In xs f) (sym (card_same t)) (here_complete card t f h)
-  complete look (valency k) t f h = subst (λ xs. In xs f) (sym (valency_same k t)) (here_complete (valency k) t f h)
   complete look (mapping k u) t f h =
       let inside = λ (pair : Name × Term). spec.faults look u pair.1 in
       let pairs = all_told (pairs_of t) in
@@ -433,6 +399,7 @@ mutual
         | inl a ↦ in_left (here (fields fs) t) (flat_map inside pairs) f (here_complete (fields fs) t f a)
         | inr b ↦ in_right (here (fields fs) t) (flat_map inside pairs) f (flat_map_in inside pairs b.0 f b.1.0 (field_complete look fs b.0 f b.1.1))
       ])
+  complete look s t f h = subst (λ xs. In xs f) (sym (plain_same look s t tt)) (here_complete s t f h)
 
   field_complete : (look : Look) (fs : Fields) (pair : Name × Term) (f : Fault) → OffendsUnder look fs pair f → In (spec.field_faults look fs pair) f
   field_complete look no_field pair f h = h

@@ -14,6 +14,7 @@ use Rattle.xdg_domain.specs.Values.{EachSaid, IsIn, IsFieldOf, IsValue}
 use Rattle.xdg_domain.specs.declared.values.Value.{Value, out-Value}
 use Rattle.xdg_domain.specs.declared.values.Value.TheVariants as v
 use Rattle.xdg_domain.specs.declared.values.Value.TheOpen.{Value-F}
+use Rattle.xdg_domain.proofs.DefaultLaws.{each_wider}
 use Rattle.xdg_terms.specs.Forms.{Term, Card, Bindings, bound, constant_of, number_of, card_of, bracket_of, counts_of, pairs_of, counted_elem, keyed_elem}
 use Rattle.xdg_terms.specs.Offences.{one_told, all_told, asked_in, asked_in_turn, Offends, OffendsField}
 use Rattle.xdg_terms.specs.Means.{IsAt, truth_text, AllowedBy, written_for, Said, MeansIn, MeansField, Means}
@@ -116,10 +117,6 @@ fits_mapped (valency k) x h = tt
 fits_mapped (mapping k u) x h = tt
 fits_mapped u x h = absurd h
 
-each_weaker : {V : Type 0} (P Q : ℕ → V → Type 0) → ((key : ℕ) (x : V) → P key x → Q key x) → (s : List (ℕ × V)) → EachSaid P s → EachSaid Q s
-each_weaker P Q to [] h = tt
-each_weaker P Q to (e ∷ s) h = (to e.0 e.1 h.0, each_weaker P Q to s h.1)
-
 put_weaker : {A V : Type 0} (P Q : ℕ → V → Type 0) (make : A → V) (at : ℕ) (rest : List (ℕ × V)) (o : Option A) → (EachSaid P rest → EachSaid Q rest) → ((w : A) → o ≡ Some w → P at (make w) → Q at (make w)) → EachSaid P (put make at o rest) → EachSaid Q (put make at o rest)
 put_weaker P Q make at rest None later here h = later h
 put_weaker P Q make at rest (Some w) later here h = (here w refl h.0, later h.1)
@@ -191,8 +188,8 @@ mutual
         (rises, λ key. (let e : 0 + key ≡ key = omega arith in subst (λ j. MeansField bs fs pairs key (said_at (fields_from bs fs elems 0) j)) e (fields_law bs fs elems pairs 0 type.0 type.1 same each key))),
         λ fits. (
           rises,
-          each_weaker (FieldFrom IsFieldOf fs 0) (IsFieldOf fs) (λ key x h. (let e : h.0 ≡ key = omega (arith, h.1.0) in subst (λ j. IsFieldOf fs j x) e h.1.1)) (fields_from bs fs elems 0)
-              (fields_value bs fs elems pairs 0 type.0 type.1 same each (each_weaker (FitsField fs) (EachFrom fs 0) (λ key x h j is. (let e : key ≡ j = omega (arith, is) in subst (λ i. FitsField fs i x) e h)) (fields_from bs fs elems 0) fits)),
+          each_wider (FieldFrom IsFieldOf fs 0) (IsFieldOf fs) (λ key x h. (let e : h.0 ≡ key = omega (arith, h.1.0) in subst (λ j. IsFieldOf fs j x) e h.1.1)) (fields_from bs fs elems 0)
+              (fields_value bs fs elems pairs 0 type.0 type.1 same each (each_wider (FitsField fs) (EachFrom fs 0) (λ key x h j is. (let e : key ≡ j = omega (arith, is) in subst (λ i. FitsField fs i x) e h)) (fields_from bs fs elems 0) fits)),
         ),
       )
 
@@ -215,9 +212,9 @@ mutual
       let make : Term → Value = λ w. built bs u w in
       let rest = fields_from bs fs elems (at + 1) in
       put_weaker (EachFrom (field_then name u fs) at) (FieldFrom IsFieldOf (field_then name u fs) at) make at rest (first_for keyed_elem elems name)
-      (λ h. each_weaker (FieldFrom IsFieldOf fs (at + 1)) (FieldFrom IsFieldOf (field_then name u fs) at) (λ key x k. (suc k.0, (omega (arith, k.1.0), k.1.1))) rest
+      (λ h. each_wider (FieldFrom IsFieldOf fs (at + 1)) (FieldFrom IsFieldOf (field_then name u fs) at) (λ key x k. (suc k.0, (omega (arith, k.1.0), k.1.1))) rest
       (fields_value bs fs elems pairs (at + 1) differ.1 types.1 same (later_right bs name u fs pairs differ.0 right)
-      (each_weaker (EachFrom (field_then name u fs) at) (EachFrom fs (at + 1)) (λ key x k j is. k (suc j) (omega (arith, is))) rest h)))
+      (each_wider (EachFrom (field_then name u fs) at) (EachFrom fs (at + 1)) (λ key x k j is. k (suc j) (omega (arith, is))) rest h)))
       (λ w e h. (0, (omega arith, (law bs u w types.0 (first_right bs name u fs pairs w right (sym (same name) ∙ e))).1 (h 0 (omega arith)))))
       fits
 

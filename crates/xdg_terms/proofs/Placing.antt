@@ -3,7 +3,7 @@ use Rattle.std.proofs.Common.{◌≡◌, ℕ, ◌<◌, ◌≤◌, ◌+◌, zero,
 use Rattle.std.specs.Prelude.{Bool, true, false, if◌then◌else◌, bytes_eq, Result, Ok, Err, IfOk}
 use Rattle.std.specs.declared.alloc.AllocError.{AllocError}
 use Rattle.std.specs.List.Sorted.{IsStrictlyIncreasing}
-use Rattle.std.proofs.lemmas.List.{drop_all}
+use Rattle.std.proofs.lemmas.List.{append-nil, drop_all}
 use Rattle.std.proofs.lemmas.Slice.Eq.{bytes_eq-Decides}
 use Rattle.xdg_ast.specs.declared.names.Name.{Name}
 use Rattle.xdg_domain.specs.declared.types.Ty.{Ty}
@@ -11,7 +11,6 @@ use Rattle.xdg_domain.specs.Shapes.{Shape, tuple, Shapes, no_shape, shape_then, 
 use Rattle.xdg_domain.specs.Sized.{sizes_of}
 use Rattle.xdg_domain.specs.Tuples.{InRange}
 use Rattle.xdg_domain.specs.Values.{AllBelow}
-use Rattle.xdg_domain.proofs.Merging.{append_nothing}
 use Rattle.xdg_domain.proofs.Sizing.{domains_small}
 use Rattle.xdg_terms.specs.Built.{Elem, place_from, places_behind, constants_each, constants_in, listed, as_set}
 use Rattle.xdg_terms.specs.Means.{chosen}
@@ -77,7 +76,7 @@ chosen_by found s ss name names ns (Some m) e later h =
     }
 
 pub are_chosen : (found : List ℕ) (ss : Shapes) (names : List Name) (ns : List ℕ) → places_behind found (constants_of ss) names ≡ Some ns → Chosen found ss names ns
-are_chosen found no_shape [] ns h = let e : found ≡ ns = cc in record { rest = []; parts = sym e ∙ sym (append_nothing found); range = tt; texts = refl }
+are_chosen found no_shape [] ns h = let e : found ≡ ns = cc in record { rest = []; parts = sym e ∙ sym (append-nil found); range = tt; texts = refl }
 are_chosen found no_shape (n ∷ names) ns h = absurd (cc)
 are_chosen found (shape_then s ss) [] ns h = absurd (cc)
 are_chosen found (shape_then s ss) (n ∷ names) ns h = chosen_by found s ss n names ns (place_from 0 (constants s) n.text) refl (λ m. are_chosen (found ++ m ∷ []) ss names ns) h
@@ -97,6 +96,6 @@ small_fields s sizes h is = absurd h
 pub listed_set : (s : Shape) (elems : List Elem) (i : ℕ) (numbers found : List ℕ) (r : Result (List ℕ) AllocError) → length elems ≤ i → numbers ++ listed s (drop i elems) ≡ listed s elems → found ≡ numbers
     → IfOk r (λ made. (n : ℕ) → has made n ≡ has found n) → IfOk r IsStrictlyIncreasing → IfOk r (λ made. made ≡ as_set (listed s elems))
 listed_set s elems i numbers found (Ok made) ended whole is same rises =
-    let all : found ≡ listed s elems = is ∙ sym (append_nothing numbers) ∙ ap (λ (l : List Elem). numbers ++ listed s l) (sym (drop_all i elems ended)) ∙ whole in
+    let all : found ≡ listed s elems = is ∙ sym (append-nil numbers) ∙ ap (λ (l : List Elem). numbers ++ listed s l) (sym (drop_all i elems ended)) ∙ whole in
     is_set made (listed s elems) rises (λ n. same n ∙ ap (λ l. has l n) all)
 listed_set s elems i numbers found (Err e) ended whole is same rises = tt

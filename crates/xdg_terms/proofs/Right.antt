@@ -1,16 +1,15 @@
 -- What a term without an offence has: its form, its constants, its cardinalities.
-use Rattle.std.proofs.Common.{◌≡◌, inl, inr, ℕ, ◌<◌, ◌≤◌, ◌+◌, List, [], ◌∷◌, Option, Some, None, refl, sym, ap, ◌∙◌, subst, arith}
+use Rattle.std.proofs.Common.{◌≡◌, inl, inr, ℕ, ◌<◌, ◌+◌, List, [], ◌∷◌, Option, Some, None, refl, sym, ap, ◌∙◌, subst, arith}
 use Rattle.std.specs.Prelude.{Bool, true, false, nat_lt, nat_le, ◌&&◌, ◌==◌, if◌then◌else◌, bytes_eq}
 use Rattle.std.specs.List.{list_any}
-use Rattle.std.proofs.lemmas.Bool.{true≢false, false≢true, or_left, eq-eqb, cases_lt, lt-ltb}
-use Rattle.std.proofs.lemmas.Bool.Decides.{nat_tests}
+use Rattle.std.proofs.lemmas.Bool.{true≢false, false≢true, or_left, eq-eqb, cases_lt, lt-ltb, le-ltb, le-leb}
 use Rattle.xdg_base.specs.declared.faults.Cause.TheVariants as causes
 use Rattle.xdg_base.specs.declared.faults.Fault.{Fault}
 use Rattle.xdg_ast.specs.declared.names.Name.{Name}
 use Rattle.xdg_ast.specs.declared.terms.CardKind.{CardKind}
 use Rattle.xdg_ast.specs.declared.terms.CardKind.TheVariants as c
 use Rattle.xdg_domain.specs.Cards.{cards, IsCards}
-use Rattle.xdg_domain.specs.Shapes.{Shape}
+use Rattle.xdg_domain.specs.Shapes.{Shape, mapping, fields}
 use Rattle.xdg_terms.specs.Forms.{Term, Card}
 use Rattle.xdg_terms.specs.Offences.{fault_at, has_form, is_some, asked, CardOffends, OffendsHere}
 use Rattle.xdg_terms.specs.Offences as o
@@ -25,6 +24,12 @@ use Rattle.xdg_facts.proofs.Rising.{numbers_agree, has_beyond, has_of, rises_of}
 -- nothing is wrong with the term itself
 abbrev pub RightHere : Shape → Term → Type 0
 RightHere s t = (f : Fault) → OffendsHere s t f → ⊥
+
+-- the type wants terms in which no others stand
+abbrev pub HoldsNone : Shape → Type 0
+HoldsNone (mapping key u) = ⊥
+HoldsNone (fields fs) = ⊥
+HoldsNone s = Unit {0}
 
 -- ---- forms
 
@@ -69,9 +74,6 @@ CardRight card = (f : Fault) → CardOffends card card.kind f → ⊥
 pub card_right : (s : Shape) (t : Term) (card : Card) → RightHere s t → In (o.cards s t) card → CardRight card
 card_right s t card h among f bad = h f (inr (inr (inr (inr (record { card = card; stands = among; offends = bad })))))
 
-le_true : (a b : ℕ) → a ≤ b → nat_le a b ≡ true
-le_true a b h = grind (arith, nat_tests)
-
 -- a number that is allowed
 abbrev Witness : CardKind → Type 0
 Witness kind = (n : ℕ) × ((n < 128) × (allows kind n ≡ true))
@@ -99,9 +101,9 @@ witness written (c.Interval low high) h = (
       | inl below ↦ below
       | inr beyond ↦ absurd (h (fault_at causes.CardRange low.span.start) (inl (omega (arith, beyond), refl)))
     ],
-    and_2 (nat_le low.value low.value) (nat_le low.value high.value) (le_true low.value low.value (omega arith)) (elim (cases_lt high.value low.value) [
+    and_2 (nat_le low.value low.value) (nat_le low.value high.value) (le-leb low.value low.value (omega arith)) (elim (cases_lt high.value low.value) [
       | inl below ↦ absurd (h (fault_at causes.CardRange high.span.start) (inr (inr below, refl)))
-      | inr beyond ↦ le_true low.value high.value beyond
+      | inr beyond ↦ le-leb low.value high.value beyond
     ]),
   ),
 )
@@ -113,13 +115,10 @@ all_kept : (s : List ℕ) → (s ≡ [] → ⊥) → s ≡ some_or_all s
 all_kept [] h = absurd (h refl)
 all_kept (n ∷ ns) h = refl
 
-not_below : (n bound : ℕ) → bound ≤ n → nat_lt n bound ≡ false
-not_below n bound h = grind (arith, nat_tests)
-
 has_cards : (p : ℕ → Bool) (n : ℕ) → has (cards p) n ≡ (nat_lt n 128 && p n)
 has_cards p n = elim (cases_lt n 128) [
   | inl below ↦ has_of 128 p n below ∙ ap (λ b. b && p n) (sym (lt-ltb n 128 below))
-  | inr beyond ↦ has_beyond 128 p n beyond ∙ ap (λ b. b && p n) (sym (not_below n 128 beyond))
+  | inr beyond ↦ has_beyond 128 p n beyond ∙ ap (λ b. b && p n) (sym (le-ltb n 128 beyond))
 ]
 
 are_allowed : (p : ℕ → Bool) (n : ℕ) → n < 128 → p n ≡ true → IsCards (cards p)

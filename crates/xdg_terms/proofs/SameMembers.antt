@@ -1,16 +1,16 @@
 -- Rising lists with the same members are the same, and a list of the numbers that pass a test, made number by number.
-use Rattle.std.proofs.Common.{◌≡◌, ℕ, ◌<◌, ◌≤◌, ◌+◌, List, [], ◌∷◌, ◌++◌, refl, ap, sym, ◌∙◌, arith, inl, inr}
-use Rattle.std.specs.Prelude.{Bool, true, false, cond, ◌==◌, filter}
+use Rattle.std.proofs.Common.{◌≡◌, ℕ, ◌+◌, List, [], ◌∷◌, ◌++◌, refl, ap, sym, ◌∙◌, inl, inr}
+use Rattle.std.proofs.lemmas.List.{append-nil}
+use Rattle.std.specs.Prelude.{Bool, true, false, cond, filter}
 use Rattle.std.specs.List.{range_with_len}
 use Rattle.std.specs.List.Sorted.{IsStrictlyIncreasing}
-use Rattle.std.proofs.lemmas.Bool.{cases_lt, eqb-true, false≢true, or_cases}
+use Rattle.std.proofs.lemmas.Bool.{cases_lt}
 use Rattle.std.proofs.lemmas.List.Elements.{filter-append}
 use Rattle.xdg_domain.proofs.Sorting.{range_more}
-use Rattle.xdg_domain.proofs.Merging.{append_nothing}
 use Rattle.xdg_terms.specs.Built.{above, as_set}
 use Rattle.xdg_facts.specs.Rises.{has, numbers_below}
 use Rattle.xdg_facts.proofs.Rising.{has_beyond, has_of}
-use Rattle.xdg_domain.proofs.Numbers.{increasing_same, numbers_increase}
+use Rattle.xdg_domain.proofs.Numbers.{has_beyond_above, increasing_same, numbers_increase}
 
 -- ---- rising lists
 
@@ -26,24 +26,13 @@ pub below_more : (p : ℕ → Bool) (n : ℕ) (made : List ℕ) → made ≡ num
 below_more p n made is passes = ap (λ l. l ++ n ∷ []) is ∙ ap (λ b. numbers_below n p ++ cond b (n ∷ []) []) (sym passes) ∙ sym (more_by p n)
 
 pub below_same : (p : ℕ → Bool) (n : ℕ) (made : List ℕ) → made ≡ numbers_below n p → p n ≡ false → made ≡ numbers_below (n + 1) p
-below_same p n made is fails = is ∙ sym (append_nothing (numbers_below n p)) ∙ ap (λ b. numbers_below n p ++ cond b (n ∷ []) []) (sym fails) ∙ sym (more_by p n)
+below_same p n made is fails = is ∙ sym (append-nil (numbers_below n p)) ∙ ap (λ b. numbers_below n p ++ cond b (n ∷ []) []) (sym fails) ∙ sym (more_by p n)
 
 -- ---- sets of a list
 
-above_all : (ns : List ℕ) (n : ℕ) → has ns n ≡ true → n < above ns
-above_all [] n h = absurd (false≢true h)
-above_all (m ∷ ns) n h = elim (or_cases (m == n) (has ns n) h) [ inl e ↦ (let is = eqb-true m n e in omega (arith, is)) | inr k ↦ (let rest = above_all ns n k in omega (arith, rest)) ]
-
-has_not : (ns : List ℕ) (n : ℕ) → above ns ≤ n → has ns n ≡ false
-has_not ns n beyond = not_true (has ns n) (λ h. (let l = above_all ns n h in omega (arith, l, beyond)))
-  where
-    not_true : (b : Bool) → (b ≡ true → ⊥) → b ≡ false
-    not_true true no_true = absurd (no_true refl)
-    not_true false no_true = refl
-
 pub as_set_has : (ns : List ℕ) (n : ℕ) → has (as_set ns) n ≡ has ns n
 unfolding as_set
-as_set_has ns n = elim (cases_lt n (above ns)) [ inl below ↦ has_of (above ns) (has ns) n below | inr beyond ↦ has_beyond (above ns) (has ns) n beyond ∙ sym (has_not ns n beyond) ]
+as_set_has ns n = elim (cases_lt n (above ns)) [ inl below ↦ has_of (above ns) (has ns) n below | inr beyond ↦ has_beyond (above ns) (has ns) n beyond ∙ sym (has_beyond_above ns n beyond) ]
 
 pub as_set_rises : (ns : List ℕ) → IsStrictlyIncreasing (as_set ns)
 unfolding as_set

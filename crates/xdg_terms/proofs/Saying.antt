@@ -1,14 +1,13 @@
 -- What is said of keys, key after key.
-use Rattle.std.proofs.Common.{◌≡◌, ℕ, ◌<◌, ◌+◌, zero, suc, List, [], ◌∷◌, ◌++◌, length, get_or, drop, map, Option, None, Some, refl, ap, ap₂, sym, ◌∙◌, arith, subst, append_assoc}
+use Rattle.std.proofs.Common.{◌≡◌, ℕ, ◌<◌, ◌+◌, zero, suc, List, [], ◌∷◌, ◌++◌, length, get_or, drop, Option, None, Some, ap, ap₂, sym, ◌∙◌, arith, subst, append_assoc}
 use Rattle.xdg_domain.specs.declared.types.Ty.{Ty}
 use Rattle.xdg_domain.specs.declared.types.Ty.TheVariants as ty
-use Rattle.xdg_domain.specs.declared.types.Ty.TheOpen.{Ty-F}
-use Rattle.xdg_domain.specs.declared.types.Ty.TheFolds.{fold-roll-Ty}
 use Rattle.xdg_domain.specs.declared.values.Value.{Value}
 use Rattle.xdg_domain.specs.declared.values.Value.TheVariants as v
 use Rattle.xdg_domain.specs.Keys.{KeysBelow}
-use Rattle.xdg_domain.specs.Shapes.{Shape, shape, layer, fields, field_then, fields_of, IsType, AreTypes}
+use Rattle.xdg_domain.specs.Shapes.{shape, fields, field_then, IsType, AreTypes}
 use Rattle.xdg_domain.proofs.KeyAfterKey.{below_more}
+use Rattle.xdg_domain.proofs.Opened.{shape_record}
 use Rattle.xdg_domain.specs.Values.{EachSaid}
 use Rattle.xdg_terms.specs.Fitting.{FitsIn, FitsField, Fits}
 use Rattle.xdg_terms.specs.Forms.{Term, Bindings, bound, keyed_elem}
@@ -55,10 +54,6 @@ module _ (bs : Bindings) (elems : List Elem) (fs : List (List ℕ × Ty)) (k : �
       → made ++ put (λ (written : Term). built bs (shape f.1) written) k (first_for keyed_elem elems f.0) (fields_from bs (fields_in (drop (k + 1) fs)) elems (k + 1)) ≡ whole
   field_turn within is before = sym (ap (λ l. made ++ fields_from bs l elems k) (next_fields fs k f within is)) ∙ before
 
-  pub field_none : k < length fs → f ≡ get_or fs k f → first_for keyed_elem elems f.0 ≡ None → made ++ fields_from bs (fields_in (drop k fs)) elems k ≡ whole → made ++ fields_from bs (fields_in (drop (k + 1) fs)) elems (k + 1) ≡ whole
-  field_none within is none before =
-      sym (ap (λ o. made ++ put (λ (written : Term). built bs (shape f.1) written) k o (fields_from bs (fields_in (drop (k + 1) fs)) elems (k + 1))) none) ∙ field_turn within is before
-
   pub field_some : (written : Term) (v : Value) (key : ℕ) (new : List (ℕ × Value)) → k < length fs → f ≡ get_or fs k f → first_for keyed_elem elems f.0 ≡ Some written → v ≡ built bs (shape f.1) written → key ≡ k → new ≡ made ++ (key, v) ∷ []
       → made ++ fields_from bs (fields_in (drop k fs)) elems k ≡ whole → new ++ fields_from bs (fields_in (drop (k + 1) fs)) elems (k + 1) ≡ whole
   field_some written v key new within is some value same pushed before =
@@ -70,23 +65,16 @@ module _ (bs : Bindings) (elems : List Elem) (fs : List (List ℕ × Ty)) (k : �
 
 -- ---- record types
 
-fields_mapped : (fs : List (List ℕ × Ty)) → fields_of (map (λ (f : List ℕ × Ty). (f.0, shape f.1)) fs) ≡ fields_in fs
-fields_mapped [] = refl
-fields_mapped (f ∷ fs) = ap (λ l. field_then f.0 (shape f.1) l) (fields_mapped fs)
-
-pub shape-Rec : (fs : List (List ℕ × Ty)) → shape (ty.Rec fs) ≡ fields (fields_in fs)
-shape-Rec fs = ap shape (sym (ty.rolls-Rec fs)) ∙ fold-roll-Ty Shape layer (Ty-F.Rec fs) ∙ ap fields (fields_mapped fs)
-
 pub field_types : (type : Ty) (fs items : List (List ℕ × Ty)) → type ≡ ty.Rec fs → items ≡ fs → IsType (shape type) → AreTypes (fields_in items)
 field_types type fs items is same h =
-    let e : shape type ≡ fields (fields_in items) = ap shape is ∙ shape-Rec fs ∙ ap (λ l. fields (fields_in l)) (sym same) in
+    let e : shape type ≡ fields (fields_in items) = ap shape is ∙ shape_record fs ∙ ap (λ l. fields (fields_in l)) (sym same) in
     (subst IsType e h).1
 
 pub record_built : (type : Ty) (fs items : List (List ℕ × Ty)) (bs : Bindings) (t inner : Term) (elems : List Elem) (made : List (ℕ × Value)) → type ≡ ty.Rec fs → items ≡ fs → inner ≡ bound bs t → elems ≡ elems_of inner
     → made ≡ fields_from bs (fields_in items) elems 0 → v.Rec made ≡ built bs (shape type) t
 record_built type fs items bs t inner elems made is same below parts whole =
     ap v.Rec (whole ∙ ap₂ (λ (l : List (List ℕ × Ty)) (es : List Elem). fields_from bs (fields_in l) es 0) same (parts ∙ ap elems_of below))
-    ∙ sym (ap (λ s. built bs s t) (ap shape is ∙ shape-Rec fs))
+    ∙ sym (ap (λ s. built bs s t) (ap shape is ∙ shape_record fs))
 
 -- ---- the numbers of fields are in range
 
@@ -104,5 +92,5 @@ field_fits (g ∷ fs) (suc k) f x within is h = field_fits fs k f x (omega (arit
 
 pub record_fits : (type : Ty) (fs items : List (List ℕ × Ty)) (made : List (ℕ × Value)) → type ≡ ty.Rec fs → items ≡ fs → EachSaid (FitsField (fields_in items)) made → Fits (shape type) (v.Rec made)
 record_fits type fs items made is same h =
-    let e : shape type ≡ fields (fields_in items) = ap shape is ∙ shape-Rec fs ∙ ap (λ l. fields (fields_in l)) (sym same) in
+    let e : shape type ≡ fields (fields_in items) = ap shape is ∙ shape_record fs ∙ ap (λ l. fields (fields_in l)) (sym same) in
     subst (λ s. Fits s (v.Rec made)) (sym e) (subst (FitsIn (fields (fields_in items))) (sym (v.outs-Rec made)) h)
