@@ -1,5 +1,5 @@
 -- The daughters of a mother as a set.
-use Rattle.std.proofs.Common.{◌≡◌, ◌≢◌, ℕ, ◌<◌, ◌+◌, ◌↔◌, not, IsTrue, List, get_or, ap, sym, ◌∙◌, arith, refl}
+use Rattle.std.proofs.Common.{◌≡◌, ◌≢◌, ℕ, ◌<◌, ◌+◌, ◌↔◌, Bool, not, IsTrue, List, get_or, ap, subst, sym, ◌∙◌, arith, refl}
 use Rattle.std.specs.Prelude.{◌&&◌, ◌==◌, nat_lt}
 use Rattle.std.proofs.lemmas.Bool.{and_parts, and_from, eqb-false, lt-ltb, ltb-true, ne_eqb, not-true}
 use Rattle.std.proofs.lemmas.Option.{slice_get-get_or}
@@ -8,9 +8,13 @@ use Rattle.xdg_problem.specs.Analyses.{IsPlace}
 use Rattle.xdg_problem.specs.Arguments.{no_plan}
 use Rattle.xdg_problem.specs.Boxes.{May, Must}
 use Rattle.xdg_problem.specs.Places.{edge, nodes}
-use Rattle.xdg_problem.specs.Problems.{IsProblem}
+use Rattle.xdg_facts.proofs.Truths.{and_swap}
+use Rattle.xdg_problem.specs.declared.analysis.Edge.{Edge}
+use Rattle.xdg_trail.specs.Trailed.{Trailed}
 use Rattle.xdg_store.specs.InRange.{HasEdges}
 use Rattle.xdg_store.specs.Layout.{bits_of, box_in, edge_row, is_set}
+use Rattle.xdg_store.specs.States.{State, Keeps}
+use Rattle.xdg_store.proofs.Histories.{seen}
 use Rattle.xdg_store.proofs.Pairs.{IsPair, edge_is_pair, may_has, must_has}
 use Rattle.xdg_facts.specs.Rises.{has}
 
@@ -33,32 +37,30 @@ without_mother met set mother node e = (
   λ h. e node ∙ and_from (not (node == mother)) (has met node) (ap not (ne_eqb node mother (λ s. h.0 (sym s)))) h.1,
 )
 
-module _ (parts : Parts) (words : List ℕ) (n dim mother label row : ℕ) (p : IsProblem parts) (m : n ≡ nodes parts) (h : HasEdges parts dim mother label) (r : row ≡ edge_row n dim mother label) (all got met set : List ℕ) (whole : (k : ℕ) → has all k ≡ nat_lt k (nodes parts)) (taken : (k : ℕ) → has set k ≡ (not (k == mother) && has met k)) (node : ℕ) where
+module _ {parts : Parts} {t : Trailed} {turns : ℕ} {s : State} (keeps : Keeps parts t) (is : seen parts t turns ≡ s) {n dim mother label row : ℕ} (m : n ≡ nodes parts) (has_them : HasEdges s.parts dim mother label) (r : row ≡ edge_row n dim mother label) (all got met set : List ℕ) (whole : (k : ℕ) → has all k ≡ nat_lt k (nodes parts)) (taken : (k : ℕ) → has set k ≡ (not (k == mother) && has met k)) (node : ℕ) where
   pair : node < nodes parts → mother ≢ node → IsPair parts (edge dim mother label node) (row + node)
-  pair l d = edge_is_pair parts (edge dim mother label node) n row (row + node) p (out_is_place parts dim mother label node h l d) m r refl
+  pair l d = edge_is_pair parts (edge dim mother label node) n row (row + node) keeps.problem (out_is_place parts dim mother label node (subst (λ s. HasEdges s.parts dim mother label) (sym is) has_them) l d) m r refl
 
   small : node < nodes parts → node < 128
-  small l = let most = p.most in omega (arith, l, most)
+  small l = let most = keeps.problem.most in omega (arith, l, most)
 
-  pub daughters_may_exact : ((k : ℕ) → k < 128 → has got k ≡ is_set words (row + k)) → ((k : ℕ) → has met k ≡ (has got k && has all k)) → IsTrue (has set node) ↔ ((node < nodes parts) × (mother ≢ node) × May parts (box_in (bits_of parts) words) (edge dim mother label node))
-  daughters_may_exact read both =
-      let w = without_mother met set mother node taken in (
+  -- for the edges that may be present, and for those that must be
+  exact : (P : Parts → List (List Bool) → Edge → Type 0) (it : Bool) → has met node ≡ (it && has all node) → ((l : node < nodes parts) (d : mother ≢ node) → IsTrue it ↔ P parts (box_in (bits_of parts) t.words) (edge dim mother label node)) → IsTrue (has set node) ↔ ((node < nodes s.parts) × (mother ≢ node) × P s.parts s.now (edge dim mother label node))
+  exact P it both says =
+      let w = without_mother met set mother node taken in
+      subst (λ s. IsTrue (has set node) ↔ ((node < nodes s.parts) × (mother ≢ node) × P s.parts s.now (edge dim mother label node))) is (
         λ i.
             let q = w.0 i in
-            let b = and_parts (has got node) (has all node) (sym (both node) ∙ q.1) in
+            let b = and_parts it (has all node) (sym both ∙ q.1) in
             let l = ltb-true node (nodes parts) (sym (whole node) ∙ b.1) in
-            (l, q.0, (may_has parts (edge dim mother label node) (row + node) words (has got node) (pair l q.0) (read node (small l))).0 b.0),
-        λ (l, d, may). w.1 (d, both node ∙ and_from (has got node) (has all node) ((may_has parts (edge dim mother label node) (row + node) words (has got node) (pair l d) (read node (small l))).1 may) (whole node ∙ lt-ltb node (nodes parts) l)),
+            (l, q.0, (says l q.0).0 b.0),
+        λ (l, d, holds). w.1 (d, both ∙ and_from it (has all node) ((says l d).1 holds) (whole node ∙ lt-ltb node (nodes parts) l)),
       )
 
-  pub daughters_must_exact : ((k : ℕ) → k < 128 → has got k ≡ is_set words ((row + 128) + k)) → ((k : ℕ) → has met k ≡ (has all k && not (has got k))) → IsTrue (has set node) ↔ ((node < nodes parts) × (mother ≢ node) × Must parts (box_in (bits_of parts) words) (edge dim mother label node))
+  pub daughters_may_exact : ((k : ℕ) → k < 128 → has got k ≡ is_set t.words (row + k)) → ((k : ℕ) → has met k ≡ (has got k && has all k)) → IsTrue (has set node) ↔ ((node < nodes s.parts) × (mother ≢ node) × May s.parts s.now (edge dim mother label node))
+  daughters_may_exact read both = exact May (has got node) (both node) (λ l d. may_has t.words (pair l d) (read node (small l)))
+
+  pub daughters_must_exact : ((k : ℕ) → k < 128 → has got k ≡ is_set t.words ((row + 128) + k)) → ((k : ℕ) → has met k ≡ (has all k && not (has got k))) → IsTrue (has set node) ↔ ((node < nodes s.parts) × (mother ≢ node) × Must s.parts s.now (edge dim mother label node))
   daughters_must_exact read both =
       let turned : (row + 128) + node ≡ (row + node) + 128 = omega arith in
-      let w = without_mother met set mother node taken in (
-        λ i.
-            let q = w.0 i in
-            let b = and_parts (has all node) (not (has got node)) (sym (both node) ∙ q.1) in
-            let l = ltb-true node (nodes parts) (sym (whole node) ∙ b.0) in
-            (l, q.0, (must_has parts (edge dim mother label node) (row + node) words (has got node) (pair l q.0) (read node (small l) ∙ ap (is_set words) turned)).0 b.1),
-        λ (l, d, must). w.1 (d, both node ∙ and_from (has all node) (not (has got node)) (whole node ∙ lt-ltb node (nodes parts) l) ((must_has parts (edge dim mother label node) (row + node) words (has got node) (pair l d) (read node (small l) ∙ ap (is_set words) turned)).1 must)),
-      )
+      exact Must (not (has got node)) (both node ∙ and_swap (has all node) (not (has got node))) (λ l d. must_has t.words (pair l d) (read node (small l) ∙ ap (is_set t.words) turned))

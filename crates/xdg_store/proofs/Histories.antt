@@ -4,7 +4,6 @@ use Rattle.std.proofs.lemmas.List.{take-append-le, take_all, get_or-take, length
 use Rattle.xdg_problem.specs.declared.parts.Parts.{Parts}
 use Rattle.std.specs.Prelude.{sum}
 use Rattle.xdg_problem.specs.Boxes.{IsBox}
-use Rattle.xdg_problem.specs.Problems.{IsProblem}
 use Rattle.xdg_problem.specs.Vectors.{shape}
 use Rattle.xdg_trail.specs.Trailed.{Trailed, states, past}
 use Rattle.xdg_store.specs.Layout.{bits_of, box_in}
@@ -53,13 +52,16 @@ last_box bits ws before =
     let f = length-append (oldest bits before) (box_in bits ws ∷ []) in
     get_or_push (oldest bits before) (box_in bits ws) [] (length (oldest bits (ws ∷ before)) - 1) (omega (arith, f))
 
-pub known_of : (parts : Parts) (total turns : ℕ) (t : Trailed) → IsProblem parts → Sound (shape parts) total (bits_of parts) (past t) → Known (seen parts t turns)
-known_of parts total turns t p s = record {
-  problem = p;
-  is_box = (present (shape parts) total (bits_of parts) t s).1;
+pub known_of : (parts : Parts) (turns : ℕ) (t : Trailed) → Keeps parts t → Known (seen parts t turns)
+known_of parts turns t keeps = record {
+  problem = keeps.problem;
+  is_box = (present (shape parts) (sum (shape parts)) (bits_of parts) t keeps.sound).1;
   some = (let e = history_length (bits_of parts) t in omega (arith, e));
   last = subst (λ xs. get_or (oldest (bits_of parts) xs) (length (oldest (bits_of parts) xs) - 1) [] ≡ box_in (bits_of parts) t.words) (sym (split_states t.words t.records)) (last_box (bits_of parts) t.words (earlier t.words t.records));
 }
+
+pub known_seen : {parts : Parts} {t : Trailed} {turns : ℕ} {s : State} → Keeps parts t → seen parts t turns ≡ s → Known s
+known_seen {parts} {t} {turns} keeps is = subst Known is (known_of parts turns t keeps)
 
 -- ---- undo
 
@@ -90,8 +92,8 @@ cut_last h m l =
     let e : length (take (m + 1) h) - 1 ≡ m = omega (arith, n) in
     ap (λ i. get_or (take (m + 1) h) i []) e ∙ get_or-take (m + 1) h m [] (omega arith)
 
-pub keeps_undone : (parts : Parts) (old new : Trailed) (mark : ℕ) → Keeps parts old → length new.words ≡ length old.words → new.spare + length new.records ≡ old.spare + length old.records → past new ≡ drop (length old.records - mark) (past old) → Keeps parts new
-keeps_undone parts old new mark keeps len room e = record {
+pub keeps_undone : {parts : Parts} {old : Trailed} (new : Trailed) (mark : ℕ) → Keeps parts old → length new.words ≡ length old.words → new.spare + length new.records ≡ old.spare + length old.records → past new ≡ drop (length old.records - mark) (past old) → Keeps parts new
+keeps_undone {parts} {old} new mark keeps len room e = record {
   problem = keeps.problem;
   long = (let l = keeps.long in omega (arith, len, l));
   spare = (let s = keeps.spare in omega (arith, room, s));
@@ -100,12 +102,16 @@ keeps_undone parts old new mark keeps len room e = record {
 
 -- ---- marks
 
--- the number of records is the number of boxes before this one
-pub marked : (parts : Parts) (t : Trailed) (turns mark : ℕ) (now : State) → seen parts t turns ≡ now → mark ≡ length t.records → mark + 1 ≡ length now.history
-marked parts t turns mark now is e =
-    let n = history_length (bits_of parts) t in
-    let h : length (oldest (bits_of parts) (past t)) ≡ length now.history = ap (λ s. length s.history) is in
-    omega (arith, n, h, e)
+module _ {parts : Parts} {turns : ℕ} {s : State} (t : Trailed) (is : seen parts t turns ≡ s) where
+  records_are : length s.history ≡ length t.records + 1
+  records_are = ap (λ s. length s.history) (sym is) ∙ history_length (bits_of parts) t
+
+  -- the number of records is the number of boxes before this one
+  pub marked : {mark : ℕ} → mark ≡ length t.records → mark + 1 ≡ length s.history
+  marked e = let n = records_are in omega (arith, n, e)
+
+  pub mark_within : {mark : ℕ} → mark < length s.history → mark ≤ length t.records
+  mark_within l = let n = records_are in omega (arith, n, l)
 
 pub last_at : (now : State) (mark : ℕ) → Known now → mark + 1 ≡ length now.history → get_or now.history mark [] ≡ now.now
 last_at now mark known e =

@@ -23,9 +23,11 @@ use Rattle.xdg_store.specs.Across.{AreFull, AreKept, AreMothers, Fits, FitsIn, F
 use Rattle.xdg_store.specs.Change.{Removes}
 use Rattle.xdg_store.specs.Decisions.{IsDecision, number_of}
 use Rattle.xdg_store.specs.InRange.{HasEdges}
+use Rattle.xdg_store.specs.Labels.{AreTold}
+use Rattle.xdg_store.specs.declared.labels.LabelsInto.{LabelsInto}
 use Rattle.xdg_store.specs.Layout.{bit_count, bits_of, box_in, edge_bit, edge_row, is_set}
 use Rattle.xdg_store.specs.Naming.{AreSteps, IsStep, SameBut}
-use Rattle.xdg_store.specs.States.{Keeps, Known, oldest}
+use Rattle.xdg_store.specs.States.{State, Keeps, Known, oldest}
 use Rattle.xdg_store.specs.declared.across.Mothers.{Mothers}
 use Rattle.xdg_store.specs.declared.change.Change.{Change}
 use Rattle.xdg_store.specs.declared.change.Change.TheVariants as changes
@@ -33,6 +35,7 @@ use Rattle.xdg_store.specs.declared.decision.Decision.{Decision}
 use Rattle.xdg_store.specs.declared.decision.Decision.TheVariants as decisions
 use Rattle.xdg_store.proofs.Renewed.{daughter_is, kept_beside}
 use Rattle.xdg_store.proofs.Boxed.{has_place}
+use Rattle.xdg_store.proofs.Noting.{IsOneStep, Leaves, LeavesOne, one_step}
 use Rattle.xdg_store.proofs.Histories.{cut_last, history_cut, history_length, known_of, seen}
 use Rattle.xdg_store.proofs.Located.{edge_located, place_found}
 use Rattle.xdg_store.proofs.Pairs.{IsPair, edge_is_pair, may_has, may_read, must_has, must_read}
@@ -102,15 +105,6 @@ place_has parts e is =
       label_in = subst (λ (q : DimPlan). e.label.0 < length q.labels) (sym read) is.label;
     }
 
--- those behind a mark
-pub all_decided : (parts : Parts) (t : Trailed) (removed : List Decision) (room mark : ℕ) → AreSteps parts (oldest (bits_of parts) (past t)) removed room → All (IsDecision parts) (drop mark removed)
-all_decided parts t removed room mark steps k d l =
-    let size = length-drop mark removed in
-    subst (IsDecision parts) (sym (get_or-drop mark removed k d)) (steps.each (mark + k) (omega (arith, size, l)) d).0
-
-pub all_fit : (parts : Parts) (t : Trailed) (removed : List Decision) (room rows words mark : ℕ) → IsProblem parts → AreSteps parts (oldest (bits_of parts) (past t)) removed room → row_count parts ≤ rows → bit_count parts ≤ 64 * words → All (FitsIn (nodes parts) rows words) (drop mark removed)
-all_fit parts t removed room rows words mark p steps long wide k d l = decision_fits parts (get_or (drop mark removed) k d) rows words p (all_decided parts t removed room mark steps k d l) long wide
-
 -- the code's count of them
 pub rows_are : (parts shown : Parts) (n d : ℕ) → shown ≡ parts → n ≡ length shown.words → d ≡ length shown.dims → row_count parts ≤ d * n * 32
 rows_are parts shown n d s e f =
@@ -121,6 +115,12 @@ rows_are parts shown n d s e f =
 
 -- ---- words that say the same of an edge
 
+-- a node is a mother of a daughter by a label as a row says, on both sides
+abbrev AreFrom : Parts → List (List Bool) → ℕ → ℕ → ℕ → Mothers → ℕ → Type 0
+AreFrom parts box dim label daughter row node =
+    (IsTrue (has row.may node) ↔ ((node < nodes parts) × (node ≢ daughter) × May parts box (edge dim node label daughter)))
+    × (IsTrue (has row.must node) ↔ ((node < nodes parts) × (node ≢ daughter) × Must parts box (edge dim node label daughter)))
+
 module _ (parts : Parts) (p : IsProblem parts) where
   pub pair : (e : Edge) → IsPlace parts e → IsPair parts e (edge_bit (nodes parts) e)
   pair e is = edge_is_pair parts e (nodes parts) (edge_row (nodes parts) e.dim.0 e.mother.0 e.label.0) (edge_bit (nodes parts) e) p is refl refl refl
@@ -128,29 +128,25 @@ module _ (parts : Parts) (p : IsProblem parts) where
   pub stays : (e : Edge) (old new : List ℕ) (rows : List Mothers) → IsPlace parts e → get_or (box_in (bits_of parts) new) (edge_decision parts e) [] ≡ get_or (box_in (bits_of parts) old) (edge_decision parts e) [] → IsKept (nodes parts) old rows e → IsKept (nodes parts) new rows e
   stays e old new rows is same kept =
       let at = pair e is in
-      let may : is_set old (edge_bit (nodes parts) e) ≡ is_set new (edge_bit (nodes parts) e) = sym (may_read parts e (edge_bit (nodes parts) e) old at) ∙ ap (λ row. get_or row 0 false) (sym same) ∙ may_read parts e (edge_bit (nodes parts) e) new at in
-      let must : is_set old (edge_bit (nodes parts) e + 128) ≡ is_set new (edge_bit (nodes parts) e + 128) = sym (must_read parts e (edge_bit (nodes parts) e) old at) ∙ ap (λ row. get_or row 1 false) (sym same) ∙ must_read parts e (edge_bit (nodes parts) e) new at in
+      let may : is_set old (edge_bit (nodes parts) e) ≡ is_set new (edge_bit (nodes parts) e) = sym (may_read old at) ∙ ap (λ row. get_or row 0 false) (sym same) ∙ may_read new at in
+      let must : is_set old (edge_bit (nodes parts) e + 128) ≡ is_set new (edge_bit (nodes parts) e + 128) = sym (must_read old at) ∙ ap (λ row. get_or row 1 false) (sym same) ∙ must_read new at in
       record { may = kept.may ∙ may; must = kept.must ∙ ap not must }
 
   -- ---- a removal
 
-  same_but : (change : Change) (t u : Trailed) (turns d v : ℕ) → Removes change (seen parts t turns) (seen parts u turns) d v → SameBut (box_in (bits_of parts) t.words) (box_in (bits_of parts) u.words) d
-  same_but changes.Same t u turns d v r e n = ap (λ s. get_or s.now e []) r.1
-  same_but changes.Changed t u turns d v r e n = ap (λ s. get_or s.now e []) r.2 ∙ get_or-set_other (box_in (bits_of parts) t.words) d e (set (get_or (box_in (bits_of parts) t.words) d []) v false) [] n
-  same_but changes.Emptied t u turns d v r e n = ap (λ s. get_or s.now e []) r.2
+  same_but : (change : Change) (t u : Trailed) (turns d : ℕ) → IsOneStep change (seen parts t turns) (seen parts u turns) d → SameBut (box_in (bits_of parts) t.words) (box_in (bits_of parts) u.words) d
+  same_but changes.Same t u turns d step e n = ap (λ s. get_or s.now e []) step
+  same_but changes.Changed t u turns d step e n = step.1 e n
+  same_but changes.Emptied t u turns d step e n = ap (λ s. get_or s.now e []) step
 
   -- of no edge
-  kept_like : (t u : List ℕ) (rows : List Mothers) → ((e : Edge) → get_or (box_in (bits_of parts) u) (edge_decision parts e) [] ≡ get_or (box_in (bits_of parts) t) (edge_decision parts e) []) → AreKept parts t rows → AreKept parts u rows
-  kept_like t u rows same kept = record { long = kept.long; each = λ e is. stays e t u rows is (same e) (kept.each e is) }
-
-  -- of another decision than one on an edge
-  pub kept_by_other : (change : Change) (t u : Trailed) (turns d v : ℕ) (rows : List Mothers) → Removes change (seen parts t turns) (seen parts u turns) d v → ((e : Edge) → edge_decision parts e ≢ d) → AreKept parts t.words rows → AreKept parts u.words rows
-  kept_by_other change t u turns d v rows r other = kept_like t.words u.words rows (λ e. same_but change t u turns d v r (edge_decision parts e) (other e))
+  kept_like : (t u : List ℕ) (rows : List Mothers) → ((e : Edge) → IsPlace parts e → get_or (box_in (bits_of parts) u) (edge_decision parts e) [] ≡ get_or (box_in (bits_of parts) t) (edge_decision parts e) []) → AreKept parts t rows → AreKept parts u rows
+  kept_like t u rows same kept = record { long = kept.long; each = λ e is. stays e t u rows is (same e is) (kept.each e is) }
 
   -- of one on an edge
   module _ (t u : Trailed) (turns : ℕ) (f : Edge) (rows more : List Mothers) (at : IsPlace parts f) (kept : AreKept parts t.words rows) where
     kept_same : seen parts u turns ≡ seen parts t turns → more ≡ rows → AreKept parts u.words more
-    kept_same same stay = subst (AreKept parts u.words) (sym stay) (kept_like t.words u.words rows (λ e. ap (λ s. get_or s.now (edge_decision parts e) []) same) kept)
+    kept_same same stay = subst (AreKept parts u.words) (sym stay) (kept_like t.words u.words rows (λ e is. ap (λ s. get_or s.now (edge_decision parts e) []) same) kept)
 
     -- a value of its decision was taken
     module _ (v : ℕ) (removes : Removes changes.Changed (seen parts t turns) (seen parts u turns) (edge_decision parts f) v) where
@@ -170,27 +166,24 @@ module _ (parts : Parts) (p : IsProblem parts) where
             (place_fits parts (length rows) e p is kept.long)
             (place_fits parts (length rows) f p at kept.long)
             renews here
-            (λ differ. stays e t.words u.words rows is (same_but changes.Changed t u turns (edge_decision parts f) v removes (edge_decision parts e) (λ same. differ (same_place parts f e at is same))) (kept.each e is));
+            (λ differ. stays e t.words u.words rows is (same_but changes.Changed t u turns (edge_decision parts f) (one_step changes.Changed _ _ _ v removes) (edge_decision parts e) (λ same. differ (same_place parts f e at is same))) (kept.each e is));
       }
 
-    abbrev bit : ℕ
-    bit = edge_bit (nodes parts) f
-
-    pub kept_forced : (change : Change) → Removes change (seen parts t turns) (seen parts u turns) (edge_decision parts f) 1 → Forces change (nodes parts) f rows more → AreKept parts u.words more
-    kept_forced changes.Same (gone, same) stay = kept_same same stay
-    kept_forced changes.Changed removes renews = kept_changed 1 removes _ _ renews (record {
-      may = renews.may.here ∙ (kept.each f at).may ∙ sym (may_read parts f bit t.words (pair f at)) ∙ left 1 removes 0 (λ s. omega (arith, s)) ∙ may_read parts f bit u.words (pair f at);
-      must = renews.must.here ∙ ap not (sym (taken 1 removes) ∙ must_read parts f bit u.words (pair f at));
+    kept_forced_by : (change : Change) → Removes change (seen parts t turns) (seen parts u turns) (edge_decision parts f) 1 → Forces change (nodes parts) f rows more → AreKept parts u.words more
+    kept_forced_by changes.Same (gone, same) stay = kept_same same stay
+    kept_forced_by changes.Changed removes renews = kept_changed 1 removes _ _ renews (record {
+      may = renews.may.here ∙ (kept.each f at).may ∙ sym (may_read t.words (pair f at)) ∙ left 1 removes 0 (λ s. omega (arith, s)) ∙ may_read u.words (pair f at);
+      must = renews.must.here ∙ ap not (sym (taken 1 removes) ∙ must_read u.words (pair f at));
     })
-    kept_forced changes.Emptied (has_it, only, same) stay = kept_same same stay
+    kept_forced_by changes.Emptied (has_it, only, same) stay = kept_same same stay
 
-    pub kept_forbidden : (change : Change) → Removes change (seen parts t turns) (seen parts u turns) (edge_decision parts f) 0 → Forbids change (nodes parts) f rows more → AreKept parts u.words more
-    kept_forbidden changes.Same (gone, same) stay = kept_same same stay
-    kept_forbidden changes.Changed removes renews = kept_changed 0 removes _ _ renews (record {
-      may = renews.may.here ∙ sym (taken 0 removes) ∙ may_read parts f bit u.words (pair f at);
-      must = renews.must.here ∙ (kept.each f at).must ∙ ap not (sym (must_read parts f bit t.words (pair f at)) ∙ left 0 removes 1 (λ s. omega (arith, s)) ∙ must_read parts f bit u.words (pair f at));
+    kept_forbidden_by : (change : Change) → Removes change (seen parts t turns) (seen parts u turns) (edge_decision parts f) 0 → Forbids change (nodes parts) f rows more → AreKept parts u.words more
+    kept_forbidden_by changes.Same (gone, same) stay = kept_same same stay
+    kept_forbidden_by changes.Changed removes renews = kept_changed 0 removes _ _ renews (record {
+      may = renews.may.here ∙ sym (taken 0 removes) ∙ may_read u.words (pair f at);
+      must = renews.must.here ∙ (kept.each f at).must ∙ ap not (sym (must_read t.words (pair f at)) ∙ left 0 removes 1 (λ s. omega (arith, s)) ∙ must_read u.words (pair f at));
     })
-    kept_forbidden changes.Emptied (has_it, only, same) stay = kept_same same stay
+    kept_forbidden_by changes.Emptied (has_it, only, same) stay = kept_same same stay
 
   -- ---- going back
 
@@ -212,28 +205,6 @@ module _ (parts : Parts) (p : IsProblem parts) where
       let h = history_cut (bits_of parts) t u mark l e in
       let long = history_length (bits_of parts) t in
       sym known.last ∙ ap (λ z. get_or z (length z - 1) []) h ∙ cut_last (oldest (bits_of parts) (past t)) mark (omega (arith, long, l))
-
-  pub kept_undone : (t u : Trailed) (room mark : ℕ) (removed : List Decision) (rows more : List Mothers) → Keeps parts t → Keeps parts u → mark ≤ length t.records → past u ≡ drop (length t.records - mark) (past t) → AreSteps parts (oldest (bits_of parts) (past t)) removed room → RenewsAll (nodes parts) u.words (drop mark removed) rows more → AreKept parts t.words rows → AreKept parts u.words more
-  kept_undone t u room mark removed rows more before keeps l e steps renews kept =
-      let history = oldest (bits_of parts) (past t) in
-      let long = history_length (bits_of parts) t in
-      let c = steps.count in
-      let default = decisions.Entry (record { 0 = 0 }) in
-      let now = known_of parts (sum (shape parts)) 0 t p before.sound in
-      let then_is = undone_box t u mark l e (known_of parts (sum (shape parts)) 0 u p keeps.sound) in
-      let end : length history - 1 ≡ mark + (length removed - mark) = omega (arith, c, long, l) in
-      let now_is : get_or history (mark + (length removed - mark)) [] ≡ box_in (bits_of parts) t.words = ap (λ i. get_or history i []) (sym end) ∙ now.last in
-      record {
-        long = (let a = kept.long in let b = renews.count in omega (arith, a, b));
-        each = λ e is. renews.each e (place_fits parts (length rows) e p is kept.long) (elim (same_or_named history removed steps.each mark (edge_decision parts e) default (length removed - mark) (omega (arith, c, long, l))) [
-          | inl same ↦ inl (stays e t.words u.words rows is (ap (λ b. get_or b (edge_decision parts e) []) then_is ∙ sym same ∙ ap (λ b. get_or b (edge_decision parts e) []) now_is) (kept.each e is))
-          | inr (k, w, number) ↦
-              let within : mark + k < length removed = omega (arith, w) in
-              let step = steps.each (mark + k) within default in
-              let size = length-drop mark removed in
-              inr (k, omega (arith, size, w), get_or-drop mark removed k (decisions.Place e) ∙ get_or_default removed (mark + k) (decisions.Place e) default within ∙ on_edge parts (get_or removed (mark + k) default) e p is step.0 number)
-        ]);
-      }
 
   -- ---- where a daughter's mothers stand
 
@@ -285,12 +256,12 @@ module _ (parts : Parts) (p : IsProblem parts) where
 
   module _ (words : List ℕ) (rows : List Mothers) (kept : AreKept parts words rows) where
     pub may_says : (e : Edge) → IsPlace parts e → IsTrue (in_may rows (edge_at (nodes parts) e) e.mother.0) ↔ May parts (box_in (bits_of parts) words) e
-    may_says e is = may_has parts e (edge_bit (nodes parts) e) words (in_may rows (edge_at (nodes parts) e) e.mother.0) (pair e is) (kept.each e is).may
+    may_says e is = may_has words (pair e is) (kept.each e is).may
 
     pub must_says : (e : Edge) → IsPlace parts e → IsTrue (in_must rows (edge_at (nodes parts) e) e.mother.0) ↔ Must parts (box_in (bits_of parts) words) e
     must_says e is =
         let k = (kept.each e is).must in
-        let w = must_has parts e (edge_bit (nodes parts) e) words (is_set words (edge_bit (nodes parts) e + 128)) (pair e is) refl in
+        let w = must_has words (pair e is) {result = is_set words (edge_bit (nodes parts) e + 128)} refl in
         (λ i. w.0 (sym k ∙ i), λ i. k ∙ w.1 i)
 
     module _ (dim daughter label : ℕ) (h : HasEdges parts dim daughter label) (row : Mothers) (there : get_or rows (mothers_at (nodes parts) dim daughter label) no_mothers ≡ row) (node : ℕ) where
@@ -305,45 +276,101 @@ module _ (parts : Parts) (p : IsProblem parts) where
         λ (l, d, holds). ap (λ r. has (look r) node) (sym there) ∙ (says (into_is_place dim node label daughter h l d)).1 holds,
       )
 
-      pub may_exact : OnlyOthers in_may (nodes parts) rows → IsTrue (has row.may node) ↔ ((node < nodes parts) × (node ≢ daughter) × May parts (box_in (bits_of parts) words) (edge dim node label daughter))
-      may_exact only = exact (λ r. r.may) (May parts (box_in (bits_of parts) words)) only (may_says (edge dim node label daughter))
+      both_exact : OnlyOthers in_may (nodes parts) rows → OnlyOthers in_must (nodes parts) rows → AreFrom parts (box_in (bits_of parts) words) dim label daughter row node
+      both_exact may_only must_only = (
+        exact (λ r. r.may) (May parts (box_in (bits_of parts) words)) may_only (may_says (edge dim node label daughter)),
+        exact (λ r. r.must) (Must parts (box_in (bits_of parts) words)) must_only (must_says (edge dim node label daughter)),
+      )
 
-      pub must_exact : OnlyOthers in_must (nodes parts) rows → IsTrue (has row.must node) ↔ ((node < nodes parts) × (node ≢ daughter) × Must parts (box_in (bits_of parts) words) (edge dim node label daughter))
-      must_exact only = exact (λ r. r.must) (Must parts (box_in (bits_of parts) words)) only (must_says (edge dim node label daughter))
+-- a removal of values of a decision that is none on an edge
+pub kept_by_other : {parts : Parts} {change : Change} {t u : Trailed} {turns : ℕ} {decision : Decision} {Removal : State → State → ℕ → Type 0} {rows : List Mothers}
+    → Leaves parts change t u turns decision Removal → ((e : Edge) → decision ≡ decisions.Place e → ⊥) → AreKept parts t.words rows → AreKept parts u.words rows
+kept_by_other {parts} {change} {t} {u} {turns} {decision} {rows = rows} left none =
+    kept_like parts left.kept.problem t.words u.words rows (λ e place. same_but parts left.kept.problem change t u turns (number_of parts decision) left.step (edge_decision parts e) (λ same. none e (on_edge parts decision e left.kept.problem place left.is (sym same))))
 
-    -- the row that is read
-    pub row_read : (n dim daughter label place : ℕ) → HasEdges parts dim daughter label → n ≡ nodes parts → place ≡ mothers_at n dim daughter label → (row : Mothers) → row ≡ get_or rows place row → get_or rows (mothers_at (nodes parts) dim daughter label) no_mothers ≡ row
-    row_read n dim daughter label place h m at row row_is =
-        ap (λ i. get_or rows (mothers_at i dim daughter label) no_mothers) (sym m)
-        ∙ ap (λ i. get_or rows i no_mothers) (sym at)
-        ∙ get_or_default rows place no_mothers row (row_within (length rows) dim daughter label n place h m at kept.long)
-        ∙ sym row_is
+-- the place of an edge's row
+pub edge_fits : {parts : Parts} {t : Trailed} {turns n : ℕ} {s : State} {e : Edge} {rows : List Mothers}
+    → Keeps parts t → seen parts t turns ≡ s → IsPlace s.parts e → n ≡ nodes parts → AreKept parts t.words rows → Fits n (length rows) e
+edge_fits {parts} {e = e} {rows} keeps is place m kept =
+    subst (λ n. Fits n (length rows) e) (sym m) (place_fits parts (length rows) e keeps.problem (subst (λ s. IsPlace s.parts e) (sym is) place) kept.long)
 
-  -- ---- the mothers of a daughter by label
+-- and of one that is one on an edge
+module _ {parts : Parts} {change : Change} {t u : Trailed} {turns : ℕ} {e : Edge} {rows more : List Mothers} where
+  pub kept_forced : LeavesOne parts change t u turns (decisions.Place e) 1 → AreKept parts t.words rows → Forces change (nodes parts) e rows more → AreKept parts u.words more
+  kept_forced left kept = kept_forced_by parts left.kept.problem t u turns e rows more left.is kept change left.removes
 
-  -- the rows of so many labels are there
-  pub rows_within : (rows dim daughter labels n first : ℕ) → 0 < labels → ((label : ℕ) → label < labels → HasEdges parts dim daughter label) → n ≡ nodes parts → first ≡ mothers_at n dim daughter 0 → row_count parts ≤ rows → first + labels ≤ rows
-  rows_within rows dim daughter labels n first some h m at long =
-      let last = row_within rows dim daughter (labels - 1) n (mothers_at n dim daughter (labels - 1)) (h (labels - 1) (omega (arith, some))) m refl long in
-      let e : first + labels ≡ mothers_at n dim daughter (labels - 1) + 1 = omega (arith, at, some) in
-      omega (arith, last, e)
+  pub kept_forbidden : LeavesOne parts change t u turns (decisions.Place e) 0 → AreKept parts t.words rows → Forbids change (nodes parts) e rows more → AreKept parts u.words more
+  kept_forbidden left kept = kept_forbidden_by parts left.kept.problem t u turns e rows more left.is kept change left.removes
 
-  module _ (words : List ℕ) (rows : List Mothers) (kept : AreKept parts words rows) (may_only : OnlyOthers in_may (nodes parts) rows) (must_only : OnlyOthers in_must (nodes parts) rows) (n dim daughter labels first : ℕ) (some : 0 < labels) (h : (label : ℕ) → label < labels → HasEdges parts dim daughter label) (m : n ≡ nodes parts) (at : first ≡ mothers_at n dim daughter 0) (part : List Mothers) (part_is : part ≡ take labels (drop first rows)) where
-    row_there : (label : ℕ) → label < labels → get_or part label no_mothers ≡ get_or rows (mothers_at (nodes parts) dim daughter label) no_mothers
-    row_there label l =
-        let place : first + label ≡ mothers_at n dim daughter label = omega (arith, at) in
-        ap (λ xs. get_or xs label no_mothers) part_is
-        ∙ get_or-take labels (drop first rows) label no_mothers l
-        ∙ get_or-drop first rows label no_mothers
-        ∙ ap (λ i. get_or rows i no_mothers) place
-        ∙ ap (λ i. get_or rows (mothers_at i dim daughter label) no_mothers) m
+-- ---- going back, as the code goes
 
-    pub mothers_are : AreMothers parts (box_in (bits_of parts) words) dim daughter labels part
-    mothers_are =
-        let within = rows_within (length rows) dim daughter labels n first some h m at kept.long in
+module _ {parts : Parts} {t : Trailed} {removed named : List Decision} {room n : ℕ} {rows : List Mothers} (mark : ℕ) (keeps : Keeps parts t) (steps : AreSteps parts (oldest (bits_of parts) (past t)) removed room) (kept : AreKept parts t.words rows) (m : n ≡ nodes parts) (named_is : named ≡ drop mark removed) where
+  -- those behind a mark
+  pub all_decided : All (IsDecision parts) named
+  all_decided = subst (All (IsDecision parts)) (sym named_is) (λ k d l. (let size = length-drop mark removed in subst (IsDecision parts) (sym (get_or-drop mark removed k d)) (steps.each (mark + k) (omega (arith, size, l)) d).0))
+
+  pub all_fit : {u : Trailed} → Keeps parts u → All (FitsIn n (length rows) (length u.words)) named
+  all_fit {u} later k d l = subst (λ i. FitsIn i (length rows) (length u.words) (get_or named k d)) (sym m) (decision_fits parts (get_or named k d) (length rows) (length u.words) keeps.problem (all_decided k d l) kept.long later.long)
+
+  pub kept_undone : {u : Trailed} {more : List Mothers} → Keeps parts u → mark ≤ length t.records → past u ≡ drop (length t.records - mark) (past t) → RenewsAll n u.words named rows more → AreKept parts u.words more
+  kept_undone {u} {more} later l e renews_all =
+      let p = keeps.problem in
+      let renews = subst (λ k. RenewsAll k u.words (drop mark removed) rows more) m (subst (λ ds. RenewsAll n u.words ds rows more) named_is renews_all) in
+      let history = oldest (bits_of parts) (past t) in
+      let long = history_length (bits_of parts) t in
+      let c = steps.count in
+      let default = decisions.Entry (record { 0 = 0 }) in
+      let now = known_of parts 0 t keeps in
+      let then_is = undone_box parts p t u mark l e (known_of parts 0 u later) in
+      let end : length history - 1 ≡ mark + (length removed - mark) = omega (arith, c, long, l) in
+      let now_is : get_or history (mark + (length removed - mark)) [] ≡ box_in (bits_of parts) t.words = ap (λ i. get_or history i []) (sym end) ∙ now.last in
+      record {
+        long = (let a = kept.long in let b = renews.count in omega (arith, a, b));
+        each = λ e is. renews.each e (place_fits parts (length rows) e p is kept.long) (elim (same_or_named parts p history removed steps.each mark (edge_decision parts e) default (length removed - mark) (omega (arith, c, long, l))) [
+          | inl same ↦ inl (stays parts p e t.words u.words rows is (ap (λ b. get_or b (edge_decision parts e) []) then_is ∙ sym same ∙ ap (λ b. get_or b (edge_decision parts e) []) now_is) (kept.each e is))
+          | inr (k, w, number) ↦
+              let within : mark + k < length removed = omega (arith, w) in
+              let step = steps.each (mark + k) within default in
+              let size = length-drop mark removed in
+              inr (k, omega (arith, size, w), get_or-drop mark removed k (decisions.Place e) ∙ get_or_default removed (mark + k) (decisions.Place e) default within ∙ on_edge parts (get_or removed (mark + k) default) e p is step.0 number)
+        ]);
+      }
+
+-- ---- as the code reads them
+
+module _ {parts : Parts} {t : Trailed} {turns : ℕ} {s : State} {rows : List Mothers} {into : List LabelsInto} (keeps : Keeps parts t) (is : seen parts t turns ≡ s) (kept : AreKept parts t.words rows) (told : AreTold parts rows into) {n dim daughter : ℕ} (m : n ≡ nodes parts) where
+  module _ {label place : ℕ} (has_them : HasEdges s.parts dim daughter label) (at : place ≡ mothers_at n dim daughter label) where
+    h : HasEdges parts dim daughter label
+    h = subst (λ s. HasEdges s.parts dim daughter label) (sym is) has_them
+
+    pub mothers_within : place < length rows
+    mothers_within = row_within parts keeps.problem (length rows) dim daughter label n place h m at kept.long
+
+    mothers_there : (row : Mothers) → get_or rows place no_mothers ≡ row → (node : ℕ) → AreFrom s.parts s.now dim label daughter row node
+    mothers_there row row_is node =
+        let there = ap (λ i. get_or rows i no_mothers) (ap (λ i. mothers_at i dim daughter label) (sym m) ∙ sym at) ∙ row_is in
+        subst (λ s. AreFrom s.parts s.now dim label daughter row node) is (both_exact parts keeps.problem t.words rows kept dim daughter label h row there node told.may_others told.must_others)
+
+    pub mothers_read : (row : Mothers) → row ≡ get_or rows place row → (node : ℕ) → AreFrom s.parts s.now dim label daughter row node
+    mothers_read row row_is = mothers_there row (get_or_default rows place no_mothers row mothers_within ∙ sym row_is)
+
+  -- of the first so many labels
+  module _ {labels first : ℕ} (some : labels ≢ 0) (has_them : (label : ℕ) → label < labels → HasEdges s.parts dim daughter label) (at : first ≡ mothers_at n dim daughter 0) where
+    pub rows_within : first + labels ≤ length rows
+    rows_within =
+        let last = mothers_within {place = mothers_at n dim daughter (labels - 1)} (has_them (labels - 1) (omega (arith, some))) refl in
+        omega (arith, last, at, some)
+
+    pub mothers_are : {part : List Mothers} → part ≡ take labels (drop first rows) → AreMothers s.parts s.now dim daughter labels part
+    mothers_are {part} part_is =
+        let within = rows_within in
         let behind = length-drop first rows in
+        let each = λ (label : ℕ) (l : label < labels).
+            let place : mothers_at n dim daughter label ≡ first + label = omega (arith, at) in
+            mothers_there (has_them label l) refl (get_or part label no_mothers)
+            (ap (λ i. get_or rows i no_mothers) place ∙ sym (ap (λ xs. get_or xs label no_mothers) part_is ∙ get_or-take labels (drop first rows) label no_mothers l ∙ get_or-drop first rows label no_mothers)) in
         record {
           count = ap length part_is ∙ length-take-le labels (drop first rows) (omega (arith, within, behind));
-          may = λ mother label i. may_exact words rows kept dim daughter label (h label i) (get_or part label no_mothers) (sym (row_there label i)) mother may_only;
-          must = λ mother label i. must_exact words rows kept dim daughter label (h label i) (get_or part label no_mothers) (sym (row_there label i)) mother must_only;
+          may = λ mother label l. (each label l mother).0;
+          must = λ mother label l. (each label l mother).1;
         }

@@ -37,6 +37,21 @@ block_step changes.Same old new d Goes r = r.1
 block_step changes.Changed old new d Goes r = (r.1.grown, r.1.others)
 block_step changes.Emptied old new d Goes r = r.1
 
+-- what a removal of values of a decision leaves of a store
+pub record Leaves (parts : Parts) (change : Change) (t u : Trailed) (turns : ℕ) (decision : Decision) (Removal : State → State → ℕ → Type 0) : Type 0 where
+  pub is : IsDecision parts decision
+  pub kept : Keeps parts t
+  pub keeps : Keeps parts u
+  pub removes : Removal (seen parts t turns) (seen parts u turns) (number_of parts decision)
+  pub step : IsOneStep change (seen parts t turns) (seen parts u turns) (number_of parts decision)
+
+-- of one value, and of several
+abbrev pub LeavesOne : Parts → Change → Trailed → Trailed → ℕ → Decision → ℕ → Type 0
+LeavesOne parts change t u turns decision v = Leaves parts change t u turns decision (λ old new d. Removes change old new d v)
+
+abbrev pub LeavesAll : Parts → Change → Trailed → Trailed → ℕ → Decision → (ℕ → Type 0) → Type 0
+LeavesAll parts change t u turns decision Goes = Leaves parts change t u turns decision (λ old new d. RemovesAll change old new d Goes)
+
 module _ (parts : Parts) where
   -- what is said of a step, by the decision and the two boxes
   abbrev Says : Decision → List (List Bool) → List (List Bool) → Type 0
@@ -81,7 +96,7 @@ module _ (parts : Parts) where
 
   -- ---- room
 
-  pub step_room : (change : Change) (t u : Trailed) (turns : ℕ) (removed : List Decision) (d room : ℕ) → Keeps parts u → AreSteps parts (oldest (bits_of parts) (past t)) removed room → IsOneStep change (seen parts t turns) (seen parts u turns) d → change ≡ changes.Changed → length removed < room
+  step_room : (change : Change) (t u : Trailed) (turns : ℕ) (removed : List Decision) (d room : ℕ) → Keeps parts u → AreSteps parts (oldest (bits_of parts) (past t)) removed room → IsOneStep change (seen parts t turns) (seen parts u turns) d → change ≡ changes.Changed → length removed < room
   step_room changes.Same t u turns removed d room keeps steps step is = cc
   step_room changes.Emptied t u turns removed d room keeps steps step is = cc
   step_room changes.Changed t u turns removed d room keeps steps (more, others) is =
@@ -96,9 +111,6 @@ module _ (parts : Parts) where
       let same : length (oldest (bits_of parts) (past u)) ≡ length (oldest (bits_of parts) (past t) ++ (box ∷ [])) = ap length more in
       let most = steps.most in
       omega (arith, count, left, size, before, after, one, same, most)
-
-  pub note_room : (change : Change) (t u : Trailed) (turns : ℕ) (removed : List Decision) (d v room : ℕ) → Keeps parts u → AreSteps parts (oldest (bits_of parts) (past t)) removed room → Removes change (seen parts t turns) (seen parts u turns) d v → change ≡ changes.Changed → length removed < room
-  note_room change t u turns removed d v room keeps steps removes = step_room change t u turns removed d room keeps steps (one_step change (seen parts t turns) (seen parts u turns) d v removes)
 
   -- ---- the start, and going back
 
@@ -158,18 +170,25 @@ module _ (parts : Parts) where
             (x, (f.0, omega (arith, w, len), get_or-drop mark removed f.0 x ∙ get_or_default removed (mark + f.0) x default (omega (arith, w))), f.2);
       }
 
+-- ---- as the code goes
+
+module _ {parts : Parts} {change : Change} {t u : Trailed} {turns : ℕ} {decision : Decision} {Removal : State → State → ℕ → Type 0} (left : Leaves parts change t u turns decision Removal) where
+  -- of the state that a caller sees
+  pub removes_seen : {s : State} → seen parts t turns ≡ s → Removal s (seen parts u turns) (number_of s.parts decision)
+  removes_seen is = subst (λ s. Removal s (seen parts u turns) (number_of s.parts decision)) is left.removes
+
+  -- and of the names
+  module _ {removed : List Decision} {room : ℕ} (steps : AreSteps parts (oldest (bits_of parts) (past t)) removed room) where
+    pub room_left : change ≡ changes.Changed → length removed < room
+    room_left = step_room parts change t u turns removed (number_of parts decision) room left.keeps steps left.step
+
+    pub steps_after : {removed' : List Decision} {room' : ℕ} → removed' ≡ noted change removed decision → room' ≡ room → AreSteps parts (oldest (bits_of parts) (past u)) removed' room'
+    steps_after removed_is room_is =
+        subst (AreSteps parts (oldest (bits_of parts) (past u)) _) (sym room_is)
+        (subst (λ xs. AreSteps parts (oldest (bits_of parts) (past u)) xs room) (sym removed_is)
+        (noted_steps parts change (seen parts t turns) (seen parts u turns) removed decision room (known_of parts turns t left.kept) left.is steps left.step))
+
 module _ (parts : Parts) where
-  -- ---- as the code goes
-
-  pub step_after : (change : Change) (t u : Trailed) (turns : ℕ) (removed removed' : List Decision) (decision : Decision) (room room' : ℕ) → Keeps parts t → IsDecision parts decision → AreSteps parts (oldest (bits_of parts) (past t)) removed room → IsOneStep change (seen parts t turns) (seen parts u turns) (number_of parts decision) → removed' ≡ noted change removed decision → room' ≡ room → AreSteps parts (oldest (bits_of parts) (past u)) removed' room'
-  step_after change t u turns removed removed' decision room room' keeps is steps step removed_is room_is =
-      subst (λ n. AreSteps parts (oldest (bits_of parts) (past u)) removed' n) (sym room_is)
-      (subst (λ xs. AreSteps parts (oldest (bits_of parts) (past u)) xs room) (sym removed_is)
-      (noted_steps parts change (seen parts t turns) (seen parts u turns) removed decision room (known_of parts (sum (shape parts)) turns t keeps.problem keeps.sound) is steps step))
-
-  pub steps_after : (change : Change) (t u : Trailed) (turns : ℕ) (removed removed' : List Decision) (decision : Decision) (v room room' : ℕ) → Keeps parts t → IsDecision parts decision → AreSteps parts (oldest (bits_of parts) (past t)) removed room → Removes change (seen parts t turns) (seen parts u turns) (number_of parts decision) v → removed' ≡ noted change removed decision → room' ≡ room → AreSteps parts (oldest (bits_of parts) (past u)) removed' room'
-  steps_after change t u turns removed removed' decision v room room' keeps is steps removes = step_after change t u turns removed removed' decision room room' keeps is steps (one_step change (seen parts t turns) (seen parts u turns) (number_of parts decision) v removes)
-
   pub steps_cut : (t u : Trailed) (removed removed' : List Decision) (room room' mark n : ℕ) → mark ≤ length t.records → past u ≡ drop (length t.records - mark) (past t) → AreSteps parts (oldest (bits_of parts) (past t)) removed room → removed' ≡ take n removed → n ≡ mark → room' ≡ room → AreSteps parts (oldest (bits_of parts) (past u)) removed' room'
   steps_cut t u removed removed' room room' mark n l past_is steps removed_is n_is room_is =
       let long = history_length (bits_of parts) t in

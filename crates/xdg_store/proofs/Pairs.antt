@@ -1,5 +1,5 @@
 -- Edge places: decisions with two bits.
-use Rattle.std.proofs.Common.{◌≡◌, ℕ, ◌<◌, ◌≤◌, ◌+◌, ◌*◌, ◌↔◌, Bool, true, false, not, IsTrue, List, [], length, get_or, ap, sym, ◌∙◌, arith, subst, refl}
+use Rattle.std.proofs.Common.{◌≡◌, ℕ, ◌<◌, ◌≤◌, ◌+◌, ◌-◌, ◌*◌, ◌↔◌, Bool, true, false, not, IsTrue, List, [], length, get_or, ap, sym, ◌∙◌, arith, subst, refl}
 use Rattle.xdg_problem.specs.declared.analysis.Edge.{Edge}
 use Rattle.xdg_problem.specs.declared.parts.Parts.{Parts}
 use Rattle.xdg_problem.specs.Analyses.{IsPlace}
@@ -7,91 +7,93 @@ use Rattle.xdg_problem.specs.Boxes.{May, Must, edge_decision}
 use Rattle.xdg_problem.specs.Places.{nodes}
 use Rattle.xdg_problem.specs.Problems.{IsProblem}
 use Rattle.xdg_trail.specs.Trailed.{Trailed}
-use Rattle.xdg_store.specs.Change.{Removes}
 use Rattle.xdg_store.specs.Layout.{bit_count, bits_of, box_in, edge_bit, edge_row, is_set, pair_bits}
 use Rattle.xdg_store.specs.Rows.{Takes}
-use Rattle.xdg_store.specs.States.{Keeps}
+use Rattle.xdg_store.specs.States.{State, Keeps}
 use Rattle.xdg_store.specs.declared.change.Change.{Change}
+use Rattle.xdg_store.specs.declared.decision.Decision.TheVariants as decisions
 use Rattle.xdg_store.proofs.Histories.{seen}
 use Rattle.xdg_store.proofs.Located.{Located, edge_located}
+use Rattle.xdg_store.proofs.Noting.{LeavesOne, one_step}
 use Rattle.xdg_store.proofs.Removals.{OtherIn, bit_in_range, has_bit, has_room, removes, keeps_taken}
 
 -- an edge place, and the bit that says whether its edge may be present
 pub record IsPair (parts : Parts) (e : Edge) (present : ℕ) : Type 0 where
+  pub is : IsPlace parts e
   pub located : Located parts (edge_decision parts e) (pair_bits (nodes parts) e)
   pub present_is : present ≡ edge_bit (nodes parts) e
 
 pub edge_is_pair : (parts : Parts) (e : Edge) (n row present : ℕ) → IsProblem parts → IsPlace parts e → n ≡ nodes parts → row ≡ edge_row n e.dim.0 e.mother.0 e.label.0 → present ≡ row + e.daughter.0 → IsPair parts e present
 edge_is_pair parts e n row present p is m r b = record {
+  is = is;
   located = edge_located parts p.candidates_each e is;
   present_is = b ∙ ap (λ i. i + e.daughter.0) (r ∙ ap (λ i. edge_row i e.dim.0 e.mother.0 e.label.0) m);
 }
 
-module _ (parts : Parts) (t : Trailed) (e : Edge) (present : ℕ) (keeps : Keeps parts t) (at : IsPair parts e present) where
+-- the edge place of a call
+pub edge_seen : {parts : Parts} {t : Trailed} {turns : ℕ} {s : State} {e : Edge} {n row : ℕ}
+    → Keeps parts t → seen parts t turns ≡ s → IsPlace s.parts e → n ≡ nodes parts → row ≡ edge_row n e.dim.0 e.mother.0 e.label.0 → IsPair parts e (row + e.daughter.0)
+edge_seen {parts} {e = e} {n} {row} keeps is place m r = edge_is_pair parts e n row (row + e.daughter.0) keeps.problem (subst (λ s. IsPlace s.parts e) (sym is) place) m r refl
+
+-- the bit of a value of an edge place, and that of the other value
+pub record AreBits (parts : Parts) (e : Edge) (v bit other : ℕ) : Type 0 where
+  pub is : IsPlace parts e
+  pub located : Located parts (edge_decision parts e) (pair_bits (nodes parts) e)
+  pub small : v < 2
+  pub bit_is : bit ≡ get_or (pair_bits (nodes parts) e) v 0
+  pub other_is : other ≡ get_or (pair_bits (nodes parts) e) (1 - v) 0
+
+module _ {parts : Parts} {e : Edge} {present : ℕ} (at : IsPair parts e present) where
+  pub forbid_bits : AreBits parts e 0 present (present + 128)
+  forbid_bits = record { is = at.is; located = at.located; small = omega arith; bit_is = at.present_is; other_is = ap (λ i. i + 128) at.present_is }
+
+  pub force_bits : AreBits parts e 1 (present + 128) present
+  force_bits = record { is = at.is; located = at.located; small = omega arith; bit_is = ap (λ i. i + 128) at.present_is; other_is = at.present_is }
+
+module _ {parts : Parts} {t : Trailed} {e : Edge} {v bit other : ℕ} (keeps : Keeps parts t) (at : AreBits parts e v bit other) where
   abbrev row : List ℕ
   row = pair_bits (nodes parts) e
 
   abbrev d : ℕ
   d = edge_decision parts e
 
-  absent_is : present + 128 ≡ get_or row 1 0
-  absent_is = ap (λ i. i + 128) at.present_is
+  abbrev Other : Type 0
+  Other = is_set t.words other ≡ true
 
-  -- both of its bits are among those of the words
-  pub pair_within : (present < 64 * length t.words) × (present + 128 < 64 * length t.words)
+  -- both are among those of the words
+  pub pair_within : (bit < 64 * length t.words) × (other < 64 * length t.words)
   pair_within =
-      let low : edge_bit (nodes parts) e < bit_count parts = bit_in_range parts d 0 row keeps.problem at.located (omega arith) in
-      let high : edge_bit (nodes parts) e + 128 < bit_count parts = bit_in_range parts d 1 row keeps.problem at.located (omega arith) in
+      let small = at.small in
+      let this = bit_in_range parts d v row keeps.problem at.located small in
+      let that = bit_in_range parts d (1 - v) row keeps.problem at.located (omega arith) in
       let long = keeps.long in
-      let is = at.present_is in
-      (omega (arith, low, long, is), omega (arith, high, long, is))
+      let b = at.bit_is in
+      let o = at.other_is in
+      (omega (arith, this, long, b), omega (arith, that, long, o))
 
-  -- the other value of a place
+  to_other : Other → OtherIn t.words row v
+  to_other h = (let small = at.small in (1 - v, omega arith, (λ s. omega (arith, s, small)), subst (λ b. is_set t.words b ≡ true) at.other_is h))
 
-  to_absent : is_set t.words (present + 128) ≡ true → OtherIn t.words row 0
-  to_absent h = (1, omega arith, (λ s. omega (arith, s)), subst (λ b. is_set t.words b ≡ true) absent_is h)
+  from_other : OtherIn t.words row v → Other
+  from_other (x, l, n, h) =
+      let small = at.small in
+      let s : x ≡ 1 - v = omega (arith, l, n, small) in
+      ap (is_set t.words) at.other_is ∙ ap (λ i. is_set t.words (get_or row i 0)) (sym s) ∙ h
 
-  to_present : is_set t.words present ≡ true → OtherIn t.words row 1
-  to_present h = (0, omega arith, (λ s. omega (arith, s)), subst (λ b. is_set t.words b ≡ true) at.present_is h)
+  pub pair_room : is_set t.words bit ≡ true → is_set t.words other ≡ true → 1 ≤ t.spare
+  pair_room h h' = has_room parts t d v row keeps at.located at.small (subst (λ b. is_set t.words b ≡ true) at.bit_is h) (to_other h')
 
-  from_absent : OtherIn t.words row 0 → is_set t.words (present + 128) ≡ true
-  from_absent (x, l, n, h) =
-      let s : x ≡ 1 = omega (arith, l, n) in
-      ap (is_set t.words) absent_is ∙ ap (λ i. is_set t.words (get_or row i 0)) (sym s) ∙ h
-
-  from_present : OtherIn t.words row 1 → is_set t.words present ≡ true
-  from_present (x, l, n, h) =
-      let s : x ≡ 0 = omega (arith, l, n) in
-      ap (is_set t.words) at.present_is ∙ ap (λ i. is_set t.words (get_or row i 0)) (sym s) ∙ h
-
-  pub forbid_room : is_set t.words present ≡ true → is_set t.words (present + 128) ≡ true → 1 ≤ t.spare
-  forbid_room h other = has_room parts t d 0 row keeps at.located (omega arith) (subst (λ b. is_set t.words b ≡ true) at.present_is h) (to_absent other)
-
-  pub force_room : is_set t.words (present + 128) ≡ true → is_set t.words present ≡ true → 1 ≤ t.spare
-  force_room h other = has_room parts t d 1 row keeps at.located (omega arith) (subst (λ b. is_set t.words b ≡ true) absent_is h) (to_present other)
-
-  pub forbid_removes : (u : Trailed) (change : Change) (turns : ℕ) → Takes change t u present (is_set t.words (present + 128) ≡ true) → Removes change (seen parts t turns) (seen parts u turns) d 0
-  forbid_removes u change turns takes = removes parts t d 0 row keeps at.located (omega arith) u present (is_set t.words (present + 128) ≡ true) at.present_is to_absent from_absent change turns takes
-
-  pub forbid_keeps : (u : Trailed) (change : Change) → Takes change t u present (is_set t.words (present + 128) ≡ true) → Keeps parts u
-  forbid_keeps u change takes = keeps_taken parts t d 0 row keeps at.located (omega arith) u present (is_set t.words (present + 128) ≡ true) at.present_is to_absent from_absent change takes
-
-  pub force_removes : (u : Trailed) (change : Change) (turns : ℕ) → Takes change t u (present + 128) (is_set t.words present ≡ true) → Removes change (seen parts t turns) (seen parts u turns) d 1
-  force_removes u change turns takes = removes parts t d 1 row keeps at.located (omega arith) u (present + 128) (is_set t.words present ≡ true) absent_is to_present from_present change turns takes
-
-  pub force_keeps : (u : Trailed) (change : Change) → Takes change t u (present + 128) (is_set t.words present ≡ true) → Keeps parts u
-  force_keeps u change takes = keeps_taken parts t d 1 row keeps at.located (omega arith) u (present + 128) (is_set t.words present ≡ true) absent_is to_present from_present change takes
+  pub pair_taken : {u : Trailed} {change : Change} {turns : ℕ} → Takes change t u bit Other → LeavesOne parts change t u turns (decisions.Place e) v
+  pair_taken {u} {change} {turns} takes =
+      let removal = removes parts t d v row keeps at.located at.small u bit Other at.bit_is to_other from_other change turns takes in record {
+      is = at.is;
+      kept = keeps;
+      removes = removal;
+      keeps = keeps_taken parts t d v row keeps at.located at.small u bit Other at.bit_is to_other from_other change takes;
+      step = one_step change (seen parts t turns) (seen parts u turns) d v removal;
+    }
 
 -- what the bits say of an edge
-
-pub may_read : (parts : Parts) (e : Edge) (present : ℕ) (words : List ℕ) → IsPair parts e present → get_or (get_or (box_in (bits_of parts) words) (edge_decision parts e) []) 0 false ≡ is_set words present
-may_read parts e present words at = has_bit parts (edge_decision parts e) 0 (pair_bits (nodes parts) e) words at.located (omega arith) ∙ ap (is_set words) (sym at.present_is)
-
-pub must_read : (parts : Parts) (e : Edge) (present : ℕ) (words : List ℕ) → IsPair parts e present → get_or (get_or (box_in (bits_of parts) words) (edge_decision parts e) []) 1 false ≡ is_set words (present + 128)
-must_read parts e present words at = has_bit parts (edge_decision parts e) 1 (pair_bits (nodes parts) e) words at.located (omega arith) ∙ ap (λ i. is_set words (i + 128)) (sym at.present_is)
-
-pub may_has : (parts : Parts) (e : Edge) (present : ℕ) (words : List ℕ) (result : Bool) → IsPair parts e present → result ≡ is_set words present → IsTrue result ↔ May parts (box_in (bits_of parts) words) e
-may_has parts e present words result at h = let q = h ∙ sym (may_read parts e present words at) in (λ i. sym q ∙ i, λ i. q ∙ i)
 
 not_true : (b : Bool) → not b ≡ true → b ≡ true → ⊥
 not_true true h k = cc
@@ -101,5 +103,15 @@ true_not : (b : Bool) → (b ≡ true → ⊥) → not b ≡ true
 true_not true h = absurd (h refl)
 true_not false h = refl
 
-pub must_has : (parts : Parts) (e : Edge) (present : ℕ) (words : List ℕ) (result : Bool) → IsPair parts e present → result ≡ is_set words (present + 128) → IsTrue (not result) ↔ Must parts (box_in (bits_of parts) words) e
-must_has parts e present words result at h = let q = h ∙ sym (must_read parts e present words at) in (λ i j. not_true result i (q ∙ j), λ i. true_not result (λ k. i (sym q ∙ k)))
+module _ {parts : Parts} {e : Edge} {present : ℕ} (words : List ℕ) (at : IsPair parts e present) where
+  pub may_read : get_or (get_or (box_in (bits_of parts) words) (edge_decision parts e) []) 0 false ≡ is_set words present
+  may_read = has_bit parts (edge_decision parts e) 0 (pair_bits (nodes parts) e) words at.located (omega arith) ∙ ap (is_set words) (sym at.present_is)
+
+  pub must_read : get_or (get_or (box_in (bits_of parts) words) (edge_decision parts e) []) 1 false ≡ is_set words (present + 128)
+  must_read = has_bit parts (edge_decision parts e) 1 (pair_bits (nodes parts) e) words at.located (omega arith) ∙ ap (λ i. is_set words (i + 128)) (sym at.present_is)
+
+  pub may_has : {result : Bool} → result ≡ is_set words present → IsTrue result ↔ May parts (box_in (bits_of parts) words) e
+  may_has h = let q = h ∙ sym may_read in (λ i. sym q ∙ i, λ i. q ∙ i)
+
+  pub must_has : {result : Bool} → result ≡ is_set words (present + 128) → IsTrue (not result) ↔ Must parts (box_in (bits_of parts) words) e
+  must_has {result} h = let q = h ∙ sym must_read in (λ i j. not_true result i (q ∙ j), λ i. true_not result (λ k. i (sym q ∙ k)))

@@ -3,32 +3,30 @@ use Rattle.std.proofs.Common.{◌≡◌, ◌≢◌, ℕ, ◌<◌, ◌≤◌, ◌
 use Rattle.std.specs.Prelude.{sum}
 use Rattle.std.specs.List.{AllByRecursion}
 use Rattle.std.proofs.lemmas.Bool.{cases_eq, cases_lt}
-use Rattle.xdg_problem.specs.declared.analysis.Edge.{Edge}
 use Rattle.xdg_problem.specs.declared.parts.Parts.{Parts}
-use Rattle.xdg_problem.specs.Boxes.{Has, IsBox, LiesIn, edge_decision, without}
+use Rattle.xdg_problem.specs.Boxes.{Has, IsBox, LiesIn, without}
 use Rattle.xdg_problem.specs.Places.{numbers_from}
 use Rattle.xdg_problem.specs.Problems.{IsProblem}
 use Rattle.xdg_problem.specs.Vectors.{shape}
 use Rattle.xdg_problem.proofs.Ordered.{Ordered, each_at, numbers_length, ordered_pairs}
 use Rattle.xdg_trail.specs.Trailed.{Trailed}
-use Rattle.xdg_store.specs.Across.{AreKept}
 use Rattle.xdg_store.specs.Change.{IsTaken, RemovesAll, Shrinks}
+use Rattle.xdg_store.specs.Decisions.{number_of}
 use Rattle.xdg_store.specs.Layout.{bits_of, box_in, is_set}
-use Rattle.xdg_store.specs.Naming.{SameBut}
 use Rattle.xdg_store.specs.Rows.{ClearsAll, HasLeft, HasOther, TakesAll}
 use Rattle.xdg_store.specs.States.{Keeps, Sound, oldest, remaining}
-use Rattle.xdg_store.specs.declared.across.Mothers.{Mothers}
 use Rattle.xdg_store.specs.declared.change.Change.{Change}
 use Rattle.xdg_store.specs.declared.change.Change.TheVariants as changes
+use Rattle.xdg_store.specs.declared.decision.Decision.{Decision}
 use Rattle.xdg_store.proofs.Apart.{bits_separate}
 use Rattle.xdg_store.proofs.Counting.{remaining_inside, remaining_taken}
 use Rattle.xdg_store.proofs.Histories.{length-states, present, seen}
-use Rattle.xdg_store.proofs.Kept.{stays}
 use Rattle.xdg_store.proofs.Leaving.{others_stay}
 use Rattle.xdg_store.proofs.Located.{Located, number_at}
 use Rattle.xdg_store.proofs.OneBlock.{taken_or}
 use Rattle.xdg_store.proofs.Removals.{box_sizes, has_bit, row_size}
-use Rattle.xdg_store.proofs.Rowwise.{row_room}
+use Rattle.xdg_store.proofs.Noting.{LeavesAll, block_step}
+use Rattle.xdg_store.proofs.Rowwise.{IsRow, row_room}
 use Rattle.xdg_store.proofs.Separate.{Apart, Differ}
 
 -- ---- rows that say the same
@@ -164,7 +162,7 @@ module _ (parts : Parts) (t u : Trailed) (d start size block taken : ℕ) (keeps
     }
 
   -- what a removal answers and leaves
-  pub removes_all : (change : Change) (turns : ℕ) → TakesAll change t u start size block taken → RemovesAll change (seen parts t turns) (seen parts u turns) d Goes
+  removes_all : (change : Change) (turns : ℕ) → TakesAll change t u start size block taken → RemovesAll change (seen parts t turns) (seen parts u turns) d Goes
   removes_all changes.Same turns (none, same) = (λ v g h. (let l = has_size parts d start size at t.words v h in none v l g (sym (has_is parts d start size at t.words v l) ∙ h)), ap (λ w. seen parts w turns) same)
   removes_all changes.Changed turns (found, left, clears) = ((found.0, found.2, has_is parts d start size at t.words found.0 found.1 ∙ found.3), shrinks clears turns)
   removes_all changes.Emptied turns (none, same) = (
@@ -175,25 +173,24 @@ module _ (parts : Parts) (t u : Trailed) (d start size block taken : ℕ) (keeps
     ap (λ w. seen parts w turns) same,
   )
 
-  pub all_keep : (change : Change) → TakesAll change t u start size block taken → Keeps parts u
+  all_keep : (change : Change) → TakesAll change t u start size block taken → Keeps parts u
   all_keep changes.Same (none, same) = subst (Keeps parts) (sym same) keeps
   all_keep changes.Changed (found, left, clears) = keeps_cleared clears found left
   all_keep changes.Emptied (none, same) = subst (Keeps parts) (sym same) keeps
 
--- a removal finds room
-pub block_room : (parts : Parts) (t : Trailed) (d start size : ℕ) → Keeps parts t → Located parts d (numbers_from start size) → (v : ℕ) → v < size → is_set t.words (start + v) ≡ true → HasOther t.words start size v → 1 ≤ t.spare
-block_room parts t d start size keeps at v l = row_room parts t d start size v keeps (record { located = at; within = l })
+module _ {parts : Parts} {t : Trailed} {decision : Decision} {start size v : ℕ} (keeps : Keeps parts t) (at : IsRow parts decision start size v) where
+  -- a removal finds room
+  pub block_room : (x : ℕ) → x < size → is_set t.words (start + x) ≡ true → HasOther t.words start size x → 1 ≤ t.spare
+  block_room x l = row_room keeps (record { is = at.is; located = at.located; within = l })
 
--- ---- other decisions
-
-pub all_but : (parts : Parts) (change : Change) (t u : Trailed) (turns d : ℕ) (Goes : ℕ → Type 0) → RemovesAll change (seen parts t turns) (seen parts u turns) d Goes → SameBut (box_in (bits_of parts) t.words) (box_in (bits_of parts) u.words) d
-all_but parts changes.Same t u turns d Goes r e n = ap (λ s. get_or s.now e []) r.1
-all_but parts changes.Changed t u turns d Goes r e n = r.1.others e n
-all_but parts changes.Emptied t u turns d Goes r e n = ap (λ s. get_or s.now e []) r.1
-
--- what is kept of edges stays
-pub kept_by_block : (parts : Parts) (p : IsProblem parts) (change : Change) (t u : Trailed) (turns d : ℕ) (Goes : ℕ → Type 0) (rows : List Mothers) → RemovesAll change (seen parts t turns) (seen parts u turns) d Goes → ((e : Edge) → edge_decision parts e ≢ d) → AreKept parts t.words rows → AreKept parts u.words rows
-kept_by_block parts p change t u turns d Goes rows r other kept = record {
-  long = kept.long;
-  each = λ e is. stays parts p e t.words u.words rows is (all_but parts change t u turns d Goes r (edge_decision parts e) (other e)) (kept.each e is);
-}
+  pub block_taken : {u : Trailed} {change : Change} {turns : ℕ} (block taken : ℕ) → TakesAll change t u start size block taken → LeavesAll parts change t u turns decision (IsTaken block taken)
+  block_taken {u} {change} {turns} block taken takes =
+      let d = number_of parts decision in
+      let removal = removes_all parts t u d start size block taken keeps at.located change turns takes in
+      record {
+        is = at.is;
+        kept = keeps;
+        keeps = all_keep parts t u d start size block taken keeps at.located change takes;
+        removes = removal;
+        step = block_step change (seen parts t turns) (seen parts u turns) d (IsTaken block taken) removal;
+      }

@@ -20,7 +20,10 @@ use Rattle.xdg_store.specs.InRange.{HasEdges}
 use Rattle.xdg_store.specs.Labels.{AreFirst, AreLabels, AreLabelsOf, AreTold, InRows, IsLabelled, LeadsInto, Marks, Relabels, RenewsSide, SaysAgain, StaysTold, at_place, labels_at, no_labels}
 use Rattle.xdg_store.specs.Layout.{bits_of, box_in}
 use Rattle.xdg_facts.specs.Rises.{has}
+use Rattle.xdg_store.specs.States.{State, Keeps}
+use Rattle.xdg_trail.specs.Trailed.{Trailed}
 use Rattle.xdg_store.specs.declared.across.Mothers.{Mothers}
+use Rattle.xdg_store.proofs.Histories.{seen}
 use Rattle.xdg_store.specs.declared.labels.Labels.{Labels}
 use Rattle.xdg_store.specs.declared.labels.LabelsInto.{LabelsInto}
 use Rattle.xdg_store.proofs.Kept.{few_labels, full_at, may_says, must_says, place_has}
@@ -314,17 +317,9 @@ sizes_are parts shown n d e s m f g =
 
 -- ---- what is read
 
--- the labels of a daughter are there
-pub labels_within : (parts : Parts) (rows : List Mothers) (into : List LabelsInto) (words : List ℕ) (n dim daughter place : ℕ) → AreKept parts words rows → AreTold parts rows into → n ≡ nodes parts → place ≡ labels_at n dim daughter → dim < length parts.dims → daughter < nodes parts → place < length into
-labels_within parts rows into words n dim daughter place kept told m at d l =
-    let long = kept.long in
-    let wide = told.wide in
-    let row = row_fits dim (nodes parts) (length parts.dims) (nodes parts) d (omega arith) in
-    let is : place ≡ labels_at (nodes parts) dim daughter = at ∙ ap (λ i. labels_at i dim daughter) m in
-    omega (arith, long, wide, row, is, l)
-
-pub labels_read : (parts : Parts) (into : List LabelsInto) (n dim daughter place : ℕ) (read : LabelsInto) → place < length into → n ≡ nodes parts → place ≡ labels_at n dim daughter → read ≡ get_or into place read → at_place into (labels_at (nodes parts) dim daughter) ≡ read
-labels_read parts into n dim daughter place read there m at is = sym (is ∙ get_or_default into place read no_labels there ∙ ap (at_place into) (at ∙ ap (λ i. labels_at i dim daughter) m))
+-- those of the edges that may be present, and of those that must be
+abbrev AreBoth : Parts → List (List Bool) → ℕ → ℕ → LabelsInto → Type 0
+AreBoth parts box dim daughter labels = AreLabels parts (May parts box) dim daughter labels.may × AreLabels parts (Must parts box) dim daughter labels.must
 
 module _ (parts : Parts) (p : IsProblem parts) (words : List ℕ) (rows : List Mothers) (into : List LabelsInto) (kept : AreKept parts words rows) (told : AreTold parts rows into) (dim daughter : ℕ) (d : dim < length parts.dims) (l : daughter < nodes parts) where
   abbrev box : List (List Bool)
@@ -336,36 +331,58 @@ module _ (parts : Parts) (p : IsProblem parts) (words : List ℕ) (rows : List M
   leads_like : (P Q : Edge → Type 0) → ((e : Edge) → IsPlace parts e → P e ↔ Q e) → (label m : ℕ) → LeadsInto parts P dim daughter label m ↔ LeadsInto parts Q dim daughter label m
   leads_like P Q same label m = (λ x. (x.0, (same (edge dim m label daughter) x.0).0 x.1), λ x. (x.0, (same (edge dim m label daughter) x.0).1 x.1))
 
-  pub may_told : AreLabels parts (May parts box) dim daughter those.may
-  may_told label = labelled_like _ _ those.may those.may label label refl refl (leads_like (InRows in_may (nodes parts) rows) (May parts box) (may_says parts p words rows kept) label) (told.may dim daughter d l label)
+  both_told : AreBoth parts box dim daughter those
+  both_told = (
+    λ label. labelled_like _ _ those.may those.may label label refl refl (leads_like (InRows in_may (nodes parts) rows) (May parts box) (may_says parts p words rows kept) label) (told.may dim daughter d l label),
+    λ label. labelled_like _ _ those.must those.must label label refl refl (leads_like (InRows in_must (nodes parts) rows) (Must parts box) (must_says parts p words rows kept) label) (told.must dim daughter d l label),
+  )
 
-  pub must_told : AreLabels parts (Must parts box) dim daughter those.must
-  must_told label = labelled_like _ _ those.must those.must label label refl refl (leads_like (InRows in_must (nodes parts) rows) (Must parts box) (must_says parts p words rows kept) label) (told.must dim daughter d l label)
+module _ {parts : Parts} {t : Trailed} {turns : ℕ} {s : State} {rows : List Mothers} {into : List LabelsInto} (keeps : Keeps parts t) (is : seen parts t turns ≡ s) (kept : AreKept parts t.words rows) (told : AreTold parts rows into) {n dim : ℕ} (m : n ≡ nodes parts) where
+  dim_there : dim < length s.parts.dims → dim < length parts.dims
+  dim_there d = subst (λ s. dim < length s.parts.dims) (sym is) d
 
--- ---- those of all daughters
+  -- those of a daughter
+  module _ {daughter place : ℕ} (at : place ≡ labels_at n dim daughter) (dim_in : dim < length s.parts.dims) (daughter_in : daughter < nodes s.parts) where
+    daughter_there : daughter < nodes parts
+    daughter_there = subst (λ s. daughter < nodes s.parts) (sym is) daughter_in
 
--- they are there
-pub part_within : (parts : Parts) (rows : List Mothers) (into : List LabelsInto) (words : List ℕ) (n dim first : ℕ) → AreKept parts words rows → AreTold parts rows into → n ≡ nodes parts → first ≡ labels_at n dim 0 → dim < length parts.dims → first + n ≤ length into
-part_within parts rows into words n dim first kept told m at d =
-    let long = kept.long in
-    let wide = told.wide in
-    let row = row_fits dim (nodes parts) (length parts.dims) (nodes parts) d (omega arith) in
-    let is : first ≡ labels_at (nodes parts) dim 0 = at ∙ ap (λ i. labels_at i dim 0) m in
-    omega (arith, long, wide, row, is, m)
+    pub labels_within : place < length into
+    labels_within =
+        let long = kept.long in
+        let wide = told.wide in
+        let row = row_fits dim (nodes parts) (length parts.dims) (nodes parts) (dim_there dim_in) (omega arith) in
+        let here : place ≡ labels_at (nodes parts) dim daughter = at ∙ ap (λ i. labels_at i dim daughter) m in
+        let less = daughter_there in
+        omega (arith, long, wide, row, here, less)
 
-module _ (parts : Parts) (p : IsProblem parts) (words : List ℕ) (rows : List Mothers) (into : List LabelsInto) (kept : AreKept parts words rows) (told : AreTold parts rows into) (dim n first : ℕ) (d : dim < length parts.dims) (m : n ≡ nodes parts) (at : first ≡ labels_at n dim 0) (part : List LabelsInto) (part_is : part ≡ take n (drop first into)) where
-  part_at : (daughter : ℕ) → daughter < nodes parts → at_place into (labels_at (nodes parts) dim daughter) ≡ at_place part daughter
-  part_at daughter l =
-      let is : first ≡ labels_at (nodes parts) dim 0 = at ∙ ap (λ i. labels_at i dim 0) m in
-      let place : first + daughter ≡ labels_at (nodes parts) dim daughter = omega (arith, is) in
-      sym (ap (λ (xs : List LabelsInto). at_place xs daughter) part_is ∙ get_or-take n (drop first into) daughter no_labels (omega (arith, l, m)) ∙ get_or-drop first into daughter no_labels ∙ ap (at_place into) place)
+    pub labels_read : (read : LabelsInto) → read ≡ get_or into place read → AreBoth s.parts s.now dim daughter read
+    labels_read read read_is =
+        let same = read_is ∙ get_or_default into place read no_labels labels_within ∙ ap (at_place into) (at ∙ ap (λ i. labels_at i dim daughter) m) in
+        subst (λ s. AreBoth s.parts s.now dim daughter read) is (subst (AreBoth parts (box_in (bits_of parts) t.words) dim daughter) (sym same) (both_told parts keeps.problem t.words rows into kept told dim daughter (dim_there dim_in) daughter_there))
 
-  pub part_told : AreLabelsOf parts (box_in (bits_of parts) words) dim part
-  part_told =
-      let within = part_within parts rows into words n dim first kept told m at d in
-      let behind = length-drop first into in
-      record {
-        count = ap length part_is ∙ length-take-le n (drop first into) (omega (arith, within, behind)) ∙ m;
-        may = λ daughter l. subst (λ (z : LabelsInto). AreLabels parts (May parts (box_in (bits_of parts) words)) dim daughter z.may) (part_at daughter l) (may_told parts p words rows into kept told dim daughter d l);
-        must = λ daughter l. subst (λ (z : LabelsInto). AreLabels parts (Must parts (box_in (bits_of parts) words)) dim daughter z.must) (part_at daughter l) (must_told parts p words rows into kept told dim daughter d l);
-      }
+  -- those of all daughters
+  module _ {first : ℕ} (at : first ≡ labels_at n dim 0) (dim_in : dim < length s.parts.dims) where
+    pub part_within : first + n ≤ length into
+    part_within =
+        let long = kept.long in
+        let wide = told.wide in
+        let row = row_fits dim (nodes parts) (length parts.dims) (nodes parts) (dim_there dim_in) (omega arith) in
+        let here : first ≡ labels_at (nodes parts) dim 0 = at ∙ ap (λ i. labels_at i dim 0) m in
+        omega (arith, long, wide, row, here, m)
+
+    part_at : (daughter : ℕ) → daughter < nodes parts → at_place into (labels_at (nodes parts) dim daughter) ≡ at_place (take n (drop first into)) daughter
+    part_at daughter l =
+        let here : first ≡ labels_at (nodes parts) dim 0 = at ∙ ap (λ i. labels_at i dim 0) m in
+        let place : first + daughter ≡ labels_at (nodes parts) dim daughter = omega (arith, here) in
+        sym (get_or-take n (drop first into) daughter no_labels (omega (arith, l, m)) ∙ get_or-drop first into daughter no_labels ∙ ap (at_place into) place)
+
+    pub part_told : {part : List LabelsInto} → part ≡ take n (drop first into) → AreLabelsOf s.parts s.now dim part
+    part_told {part} part_is =
+        let within = part_within in
+        let behind = length-drop first into in
+        let each = λ (daughter : ℕ) (l : daughter < nodes parts). subst (AreBoth parts (box_in (bits_of parts) t.words) dim daughter) (part_at daughter l) (both_told parts keeps.problem t.words rows into kept told dim daughter (dim_there dim_in) l) in
+        subst (λ s. AreLabelsOf s.parts s.now dim part) is (subst (AreLabelsOf parts (box_in (bits_of parts) t.words) dim) (sym part_is) (record {
+          count = length-take-le n (drop first into) (omega (arith, within, behind)) ∙ m;
+          may = λ daughter l. (each daughter l).0;
+          must = λ daughter l. (each daughter l).1;
+        }))

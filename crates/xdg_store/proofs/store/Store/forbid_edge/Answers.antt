@@ -1,90 +1,49 @@
-use Rattle.std.proofs.Common.{◌+◌, length, refl, subst, sym}
-use Rattle.std.specs.Prelude.{sum}
-use Rattle.std.specs.Vec.{vec_capacity}
-use Rattle.xdg_problem.specs.Analyses.{IsPlace}
-use Rattle.xdg_problem.specs.Boxes.{edge_decision}
-use Rattle.xdg_problem.specs.Vectors.{shape}
-use Rattle.xdg_store.specs.Across.{Fits, Forbids}
-use Rattle.xdg_store.specs.Change.{Removes}
+use Rattle.std.proofs.Common.{◌+◌, subst, sym}
+use Rattle.xdg_store.specs.Across.{Forbids}
 use Rattle.xdg_store.specs.declared.decision.Decision.TheVariants as decisions
-use Rattle.xdg_store.proofs.Histories.{known_of, seen}
-use Rattle.xdg_store.proofs.Kept.{kept_forbidden, place_fits}
-use Rattle.xdg_store.proofs.Noting.{note_room, steps_after}
-use Rattle.xdg_store.proofs.Pairs.{edge_is_pair, forbid_keeps, forbid_removes, forbid_room, pair_within}
+use Rattle.xdg_store.proofs.Histories.{known_of}
+use Rattle.xdg_store.proofs.Kept.{edge_fits, kept_forbidden}
+use Rattle.xdg_store.proofs.Noting.{LeavesOne, removes_seen, room_left, steps_after}
+use Rattle.xdg_store.proofs.Pairs.{AreBits, edge_seen, forbid_bits, pair_room, pair_taken, pair_within}
 use Rattle.xdg_store.proofs.store.Store.forbid_edge.Goals as goal
 
+its_bits : (c : goal.After-take_of_pair-arg-1) → AreBits c.self.inside.problem.now c.args.edge 0 (c.edge_row-row.result + c.args.edge.daughter.0) (c.edge_row-row.result + c.args.edge.daughter.0 + 128)
+its_bits c = forbid_bits (edge_seen c.self.invariant.0 c.self.view_is c.requires c.self.invariant.1 c.edge_row-row.ensures)
+
+taken : (c : goal.After-note-arg-1) → LeavesOne c.self.inside.problem.now c.take_of_pair-change.result c.self.inside.trail c.take_of_pair-change.new.trail c.self.inside.turns (decisions.Place c.args.edge) 0
+taken c = pair_taken c.self.invariant.0 (forbid_bits (edge_seen c.self.invariant.0 c.self.view_is c.requires c.self.invariant.1 c.edge_row-row.ensures)) c.take_of_pair-change.ensures
+
 pub take_of_pair-change-requires-clause-bit_within : goal.take_of_pair-change-requires-clause-bit_within
-take_of_pair-change-requires-clause-bit_within c =
-    let p = c.self.inside.problem.now in
-    let h = subst (λ s. IsPlace s.parts c.args.edge) (sym c.self.view_is) c.requires in
-    let present = c.edge_row-row.result + c.args.edge.daughter.0 in
-    let pair = edge_is_pair p c.args.edge c.self.inside.node_count c.edge_row-row.result present c.self.invariant.0.problem h c.self.invariant.1 c.edge_row-row.ensures refl in
-    (pair_within p c.self.inside.trail c.args.edge present c.self.invariant.0 pair).0
+take_of_pair-change-requires-clause-bit_within c = (pair_within c.self.invariant.0 (its_bits c)).0
 
 pub take_of_pair-change-requires-clause-other_within : goal.take_of_pair-change-requires-clause-other_within
-take_of_pair-change-requires-clause-other_within c =
-    let p = c.self.inside.problem.now in
-    let h = subst (λ s. IsPlace s.parts c.args.edge) (sym c.self.view_is) c.requires in
-    let present = c.edge_row-row.result + c.args.edge.daughter.0 in
-    let pair = edge_is_pair p c.args.edge c.self.inside.node_count c.edge_row-row.result present c.self.invariant.0.problem h c.self.invariant.1 c.edge_row-row.ensures refl in
-    (pair_within p c.self.inside.trail c.args.edge present c.self.invariant.0 pair).1
+take_of_pair-change-requires-clause-other_within c = (pair_within c.self.invariant.0 (its_bits c)).1
 
 pub take_of_pair-change-requires-clause-room : goal.take_of_pair-change-requires-clause-room
-take_of_pair-change-requires-clause-room c =
-    let p = c.self.inside.problem.now in
-    let h = subst (λ s. IsPlace s.parts c.args.edge) (sym c.self.view_is) c.requires in
-    let present = c.edge_row-row.result + c.args.edge.daughter.0 in
-    let pair = edge_is_pair p c.args.edge c.self.inside.node_count c.edge_row-row.result present c.self.invariant.0.problem h c.self.invariant.1 c.edge_row-row.ensures refl in
-    forbid_room p c.self.inside.trail c.args.edge present c.self.invariant.0 pair
+take_of_pair-change-requires-clause-room c = pair_room c.self.invariant.0 (its_bits c)
 
 pub renew_forbidden-requires-clause-fits : goal.renew_forbidden-requires-clause-fits
-renew_forbidden-requires-clause-fits c =
-    let p = c.self.inside.problem.now in
-    let h = subst (λ s. IsPlace s.parts c.args.edge) (sym c.self.view_is) c.requires in
-    subst (λ n. Fits n (length c.self.inside.across.items) c.args.edge) (sym c.self.invariant.1) (place_fits p (length c.self.inside.across.items) c.args.edge c.self.invariant.0.problem h c.self.invariant.4.long)
+renew_forbidden-requires-clause-fits c = edge_fits c.self.invariant.0 c.self.view_is c.requires c.self.invariant.1 c.self.invariant.4
 
 pub renew_forbidden-requires-clause-wide : goal.renew_forbidden-requires-clause-wide
 renew_forbidden-requires-clause-wide c = c.self.invariant.5.wide
 
 pub note-requires : goal.note-requires
-note-requires c =
-    let p = c.self.inside.problem.now in
-    let h = subst (λ s. IsPlace s.parts c.args.edge) (sym c.self.view_is) c.requires in
-    let present = c.edge_row-row.result + c.args.edge.daughter.0 in
-    let pair = edge_is_pair p c.args.edge c.self.inside.node_count c.edge_row-row.result present c.self.invariant.0.problem h c.self.invariant.1 c.edge_row-row.ensures refl in
-    record {
-      room = note_room p c.take_of_pair-change.result c.self.inside.trail c.take_of_pair-change.new.trail c.self.inside.turns c.self.inside.removed.items (edge_decision p c.args.edge) 0 (vec_capacity c.self.inside.removed)
-          (forbid_keeps p c.self.inside.trail c.args.edge present c.self.invariant.0 pair c.take_of_pair-change.new.trail c.take_of_pair-change.result c.take_of_pair-change.ensures) c.self.invariant.3 (forbid_removes p c.self.inside.trail c.args.edge present c.self.invariant.0 pair c.take_of_pair-change.new.trail c.take_of_pair-change.result c.self.inside.turns c.take_of_pair-change.ensures);
-    }
+note-requires c = record { room = room_left (taken c) c.self.invariant.3 }
 
 pub invariant_of-self : goal.invariant_of-self
 invariant_of-self c =
-    let p = c.self.inside.problem.now in
-    let h = subst (λ s. IsPlace s.parts c.args.edge) (sym c.self.view_is) c.requires in
-    let present = c.edge_row-row.result + c.args.edge.daughter.0 in
-    let pair = edge_is_pair p c.args.edge c.self.inside.node_count c.edge_row-row.result present c.self.invariant.0.problem h c.self.invariant.1 c.edge_row-row.ensures refl in (
-      forbid_keeps p c.self.inside.trail c.args.edge present c.self.invariant.0 pair c.take_of_pair-change.new.trail c.take_of_pair-change.result c.take_of_pair-change.ensures,
+    let l = taken c.before in (
+      l.keeps,
       c.self.invariant.1,
       c.self.invariant.2,
-      steps_after p c.take_of_pair-change.result c.self.inside.trail c.take_of_pair-change.new.trail c.self.inside.turns c.self.inside.removed.items c.note.new.removed.items (decisions.Place c.args.edge) 0 (vec_capacity c.self.inside.removed) (vec_capacity c.note.new.removed)
-          c.self.invariant.0 h c.self.invariant.3 (forbid_removes p c.self.inside.trail c.args.edge present c.self.invariant.0 pair c.take_of_pair-change.new.trail c.take_of_pair-change.result c.self.inside.turns c.take_of_pair-change.ensures) c.note.ensures.items c.note.ensures.room,
-      kept_forbidden p c.self.invariant.0.problem c.self.inside.trail c.take_of_pair-change.new.trail c.self.inside.turns c.args.edge c.self.inside.across.items c.renew_forbidden.new.rows.items h c.self.invariant.4 c.take_of_pair-change.result (forbid_removes p c.self.inside.trail c.args.edge present c.self.invariant.0 pair c.take_of_pair-change.new.trail c.take_of_pair-change.result c.self.inside.turns c.take_of_pair-change.ensures)
-          (subst (λ n. Forbids c.take_of_pair-change.result n c.args.edge c.self.inside.across.items c.renew_forbidden.new.rows.items) c.self.invariant.1 c.renew_forbidden.ensures.forbids),
-      c.renew_forbidden.ensures.told p c.self.invariant.0.problem (sym c.self.invariant.1) h c.self.invariant.5,
+      steps_after l c.self.invariant.3 c.note.ensures.items c.note.ensures.room,
+      kept_forbidden l c.self.invariant.4 (subst (λ n. Forbids c.take_of_pair-change.result n c.args.edge c.self.inside.across.items c.renew_forbidden.new.rows.items) c.self.invariant.1 c.renew_forbidden.ensures.forbids),
+      c.renew_forbidden.ensures.told c.self.inside.problem.now l.kept.problem (sym c.self.invariant.1) l.is c.self.invariant.5,
     )
 
 pub returns-clause-removes : goal.returns-clause-removes
-returns-clause-removes c =
-    let p = c.self.inside.problem.now in
-    let h = subst (λ s. IsPlace s.parts c.args.edge) (sym c.self.view_is) c.requires in
-    let present = c.edge_row-row.result + c.args.edge.daughter.0 in
-    let pair = edge_is_pair p c.args.edge c.self.inside.node_count c.edge_row-row.result present c.self.invariant.0.problem h c.self.invariant.1 c.edge_row-row.ensures refl in
-    subst (λ s. Removes c.take_of_pair-change.result s (seen p c.take_of_pair-change.new.trail c.self.inside.turns) (edge_decision s.parts c.args.edge) 0) c.self.view_is (forbid_removes p c.self.inside.trail c.args.edge present c.self.invariant.0 pair c.take_of_pair-change.new.trail c.take_of_pair-change.result c.self.inside.turns c.take_of_pair-change.ensures)
+returns-clause-removes c = removes_seen (taken c.before) c.self.view_is
 
 pub returns-clause-known : goal.returns-clause-known
-returns-clause-known c =
-    let p = c.self.inside.problem.now in
-    let h = subst (λ s. IsPlace s.parts c.args.edge) (sym c.self.view_is) c.requires in
-    let present = c.edge_row-row.result + c.args.edge.daughter.0 in
-    let pair = edge_is_pair p c.args.edge c.self.inside.node_count c.edge_row-row.result present c.self.invariant.0.problem h c.self.invariant.1 c.edge_row-row.ensures refl in
-    known_of p (sum (shape p)) c.self.inside.turns c.take_of_pair-change.new.trail c.self.invariant.0.problem (forbid_keeps p c.self.inside.trail c.args.edge present c.self.invariant.0 pair c.take_of_pair-change.new.trail c.take_of_pair-change.result c.take_of_pair-change.ensures).sound
+returns-clause-known c = known_of c.self.inside.problem.now c.self.inside.turns c.take_of_pair-change.new.trail (taken c.before).keeps

@@ -1,78 +1,37 @@
-use Rattle.std.proofs.Common.{◌*◌, ◌∙◌, ap, length, subst, sym}
-use Rattle.std.specs.Prelude.{sum}
-use Rattle.std.specs.Vec.{vec_capacity}
+use Rattle.std.proofs.Common.{◌*◌, ◌∙◌, ap, length, sym}
 use Rattle.xdg_problem.specs.declared.parts.AttrPlan.{AttrPlan}
-use Rattle.xdg_problem.specs.Boxes.{attr_decision}
-use Rattle.xdg_problem.specs.Vectors.{shape}
-use Rattle.xdg_store.specs.Change.{IsTaken, RemovesAll}
-use Rattle.xdg_store.specs.InRange.{HasValue}
+use Rattle.xdg_store.specs.Change.{IsTaken}
 use Rattle.xdg_store.specs.declared.decision.Decision.TheVariants as decisions
-use Rattle.xdg_store.proofs.Histories.{known_of, seen}
-use Rattle.xdg_store.proofs.Kept.{not_attr}
-use Rattle.xdg_store.proofs.Noting.{block_step, step_after, step_room}
-use Rattle.xdg_store.proofs.Rowwise.{attr_is_row, values_are}
-use Rattle.xdg_store.proofs.Several.{all_keep, block_room, kept_by_block, removes_all}
+use Rattle.xdg_store.proofs.Histories.{known_of}
+use Rattle.xdg_store.proofs.Kept.{kept_by_other}
+use Rattle.xdg_store.proofs.Noting.{LeavesAll, removes_seen, room_left, steps_after}
+use Rattle.xdg_store.proofs.Rowwise.{IsRow, attr_found}
+use Rattle.xdg_store.proofs.Several.{block_room, block_taken}
 use Rattle.xdg_store.proofs.store.Store.remove_attrs.Goals as goal
 
+its_row : (c : goal.After-take_of_block-arg-1) → IsRow c.self.inside.problem.now (decisions.Attr c.args.dim c.args.node c.args.attr) c.attr_row-row.result c.len-size.result (c.args.block * 64)
+its_row c = attr_found c.self.invariant.0 c.self.view_is c.args.dim c.args.node c.args.attr c.requires c.self.invariant.1 c.attr_row-row.ensures c.parts.ensures.same c.as_slice.ensures c.index-as_slice-dim.is c.as_slice-2.ensures c.index-as_slice-attr.is
+    (c.len-size.ensures ∙ ap (λ (q : AttrPlan). length q.values) (sym c.index-as_slice-attr.is))
+
+taken : (c : goal.After-note-arg-1) → LeavesAll c.self.inside.problem.now c.take_of_block-change.result c.self.inside.trail c.take_of_block-change.new.trail c.self.inside.turns (decisions.Attr c.args.dim c.args.node c.args.attr) (IsTaken c.args.block c.args.taken)
+taken c = block_taken c.self.invariant.0 (its_row c.before.before) c.args.block c.args.taken c.take_of_block-change.ensures
+
 pub take_of_block-change-requires-clause-block : goal.take_of_block-change-requires-clause-block
-take_of_block-change-requires-clause-block c =
-    let p = c.self.inside.problem.now in
-    let h = subst (λ s. HasValue s.parts c.args.node.0 c.args.dim.0 c.args.attr.0 (c.args.block * 64)) (sym c.self.view_is) c.requires in
-    let size = values_are p c.parts.result.now c.as_slice.result.now c.index-as_slice-dim.result c.as_slice-2.result.now c.index-as_slice-attr.result c.args.node.0 c.args.dim.0 c.args.attr.0 (c.args.block * 64) c.len-size.result h c.parts.ensures.same c.as_slice.ensures c.index-as_slice-dim.is c.as_slice-2.ensures c.index-as_slice-attr.is (c.len-size.ensures ∙ ap (λ (q : AttrPlan). length q.values) (sym c.index-as_slice-attr.is)) in
-    let row = attr_is_row p c.self.inside.node_count c.args.dim.0 c.args.node.0 c.args.attr.0 (c.args.block * 64) c.attr_row-row.result c.len-size.result c.self.invariant.0.problem h c.self.invariant.1 c.attr_row-row.ensures size in
-    row.within
+take_of_block-change-requires-clause-block c = (its_row c).within
 
 pub take_of_block-change-requires-clause-room : goal.take_of_block-change-requires-clause-room
-take_of_block-change-requires-clause-room c =
-    let p = c.self.inside.problem.now in
-    let h = subst (λ s. HasValue s.parts c.args.node.0 c.args.dim.0 c.args.attr.0 (c.args.block * 64)) (sym c.self.view_is) c.requires in
-    let size = values_are p c.parts.result.now c.as_slice.result.now c.index-as_slice-dim.result c.as_slice-2.result.now c.index-as_slice-attr.result c.args.node.0 c.args.dim.0 c.args.attr.0 (c.args.block * 64) c.len-size.result h c.parts.ensures.same c.as_slice.ensures c.index-as_slice-dim.is c.as_slice-2.ensures c.index-as_slice-attr.is (c.len-size.ensures ∙ ap (λ (q : AttrPlan). length q.values) (sym c.index-as_slice-attr.is)) in
-    let row = attr_is_row p c.self.inside.node_count c.args.dim.0 c.args.node.0 c.args.attr.0 (c.args.block * 64) c.attr_row-row.result c.len-size.result c.self.invariant.0.problem h c.self.invariant.1 c.attr_row-row.ensures size in
-    block_room p c.self.inside.trail (attr_decision p c.args.dim.0 c.args.node.0 c.args.attr.0) c.attr_row-row.result c.len-size.result c.self.invariant.0 row.located
+take_of_block-change-requires-clause-room c = block_room c.self.invariant.0 (its_row c)
 
 pub note-requires : goal.note-requires
-note-requires c =
-    let p = c.self.inside.problem.now in
-    let h = subst (λ s. HasValue s.parts c.args.node.0 c.args.dim.0 c.args.attr.0 (c.args.block * 64)) (sym c.self.view_is) c.requires in
-    let size = values_are p c.parts.result.now c.as_slice.result.now c.index-as_slice-dim.result c.as_slice-2.result.now c.index-as_slice-attr.result c.args.node.0 c.args.dim.0 c.args.attr.0 (c.args.block * 64) c.len-size.result h c.parts.ensures.same c.as_slice.ensures c.index-as_slice-dim.is c.as_slice-2.ensures c.index-as_slice-attr.is (c.len-size.ensures ∙ ap (λ (q : AttrPlan). length q.values) (sym c.index-as_slice-attr.is)) in
-    let row = attr_is_row p c.self.inside.node_count c.args.dim.0 c.args.node.0 c.args.attr.0 (c.args.block * 64) c.attr_row-row.result c.len-size.result c.self.invariant.0.problem h c.self.invariant.1 c.attr_row-row.ensures size in
-    record {
-      room = step_room p c.take_of_block-change.result c.self.inside.trail c.take_of_block-change.new.trail c.self.inside.turns c.self.inside.removed.items (attr_decision p c.args.dim.0 c.args.node.0 c.args.attr.0) (vec_capacity c.self.inside.removed)
-          (all_keep p c.self.inside.trail c.take_of_block-change.new.trail (attr_decision p c.args.dim.0 c.args.node.0 c.args.attr.0) c.attr_row-row.result c.len-size.result c.args.block c.args.taken c.self.invariant.0 row.located c.take_of_block-change.result c.take_of_block-change.ensures) c.self.invariant.3
-          (block_step c.take_of_block-change.result (seen p c.self.inside.trail c.self.inside.turns) (seen p c.take_of_block-change.new.trail c.self.inside.turns) (attr_decision p c.args.dim.0 c.args.node.0 c.args.attr.0) (IsTaken c.args.block c.args.taken)
-          (removes_all p c.self.inside.trail c.take_of_block-change.new.trail (attr_decision p c.args.dim.0 c.args.node.0 c.args.attr.0) c.attr_row-row.result c.len-size.result c.args.block c.args.taken c.self.invariant.0 row.located c.take_of_block-change.result c.self.inside.turns c.take_of_block-change.ensures));
-    }
+note-requires c = record { room = room_left (taken c) c.self.invariant.3 }
 
 pub invariant_of-self : goal.invariant_of-self
 invariant_of-self c =
-    let p = c.self.inside.problem.now in
-    let h = subst (λ s. HasValue s.parts c.args.node.0 c.args.dim.0 c.args.attr.0 (c.args.block * 64)) (sym c.self.view_is) c.requires in
-    let size = values_are p c.parts.result.now c.as_slice.result.now c.index-as_slice-dim.result c.as_slice-2.result.now c.index-as_slice-attr.result c.args.node.0 c.args.dim.0 c.args.attr.0 (c.args.block * 64) c.len-size.result h c.parts.ensures.same c.as_slice.ensures c.index-as_slice-dim.is c.as_slice-2.ensures c.index-as_slice-attr.is (c.len-size.ensures ∙ ap (λ (q : AttrPlan). length q.values) (sym c.index-as_slice-attr.is)) in
-    let row = attr_is_row p c.self.inside.node_count c.args.dim.0 c.args.node.0 c.args.attr.0 (c.args.block * 64) c.attr_row-row.result c.len-size.result c.self.invariant.0.problem h c.self.invariant.1 c.attr_row-row.ensures size in
-    let removes = removes_all p c.self.inside.trail c.take_of_block-change.new.trail (attr_decision p c.args.dim.0 c.args.node.0 c.args.attr.0) c.attr_row-row.result c.len-size.result c.args.block c.args.taken c.self.invariant.0 row.located c.take_of_block-change.result c.self.inside.turns c.take_of_block-change.ensures in (
-      all_keep p c.self.inside.trail c.take_of_block-change.new.trail (attr_decision p c.args.dim.0 c.args.node.0 c.args.attr.0) c.attr_row-row.result c.len-size.result c.args.block c.args.taken c.self.invariant.0 row.located c.take_of_block-change.result c.take_of_block-change.ensures,
-      c.self.invariant.1,
-      c.self.invariant.2,
-      step_after p c.take_of_block-change.result c.self.inside.trail c.take_of_block-change.new.trail c.self.inside.turns c.self.inside.removed.items c.note.new.removed.items (decisions.Attr c.args.dim c.args.node c.args.attr) (vec_capacity c.self.inside.removed) (vec_capacity c.note.new.removed)
-          c.self.invariant.0 (h.dim_in, h.node_in, h.attr_in) c.self.invariant.3 (block_step c.take_of_block-change.result (seen p c.self.inside.trail c.self.inside.turns) (seen p c.take_of_block-change.new.trail c.self.inside.turns) (attr_decision p c.args.dim.0 c.args.node.0 c.args.attr.0) (IsTaken c.args.block c.args.taken) removes) c.note.ensures.items c.note.ensures.room,
-      kept_by_block p c.self.invariant.0.problem c.take_of_block-change.result c.self.inside.trail c.take_of_block-change.new.trail c.self.inside.turns (attr_decision p c.args.dim.0 c.args.node.0 c.args.attr.0) (IsTaken c.args.block c.args.taken) c.self.inside.across.items removes
-          (λ e. not_attr p e c.args.dim.0 c.args.node.0 c.args.attr.0 h.dim_in h.node_in h.attr_in) c.self.invariant.4,
-      c.self.invariant.5,
-    )
+    let l = taken c.before in
+    (l.keeps, c.self.invariant.1, c.self.invariant.2, steps_after l c.self.invariant.3 c.note.ensures.items c.note.ensures.room, kept_by_other l (λ e q. cc) c.self.invariant.4, c.self.invariant.5)
 
 pub returns-clause-removes : goal.returns-clause-removes
-returns-clause-removes c =
-    let p = c.self.inside.problem.now in
-    let h = subst (λ s. HasValue s.parts c.args.node.0 c.args.dim.0 c.args.attr.0 (c.args.block * 64)) (sym c.self.view_is) c.requires in
-    let size = values_are p c.parts.result.now c.as_slice.result.now c.index-as_slice-dim.result c.as_slice-2.result.now c.index-as_slice-attr.result c.args.node.0 c.args.dim.0 c.args.attr.0 (c.args.block * 64) c.len-size.result h c.parts.ensures.same c.as_slice.ensures c.index-as_slice-dim.is c.as_slice-2.ensures c.index-as_slice-attr.is (c.len-size.ensures ∙ ap (λ (q : AttrPlan). length q.values) (sym c.index-as_slice-attr.is)) in
-    let row = attr_is_row p c.self.inside.node_count c.args.dim.0 c.args.node.0 c.args.attr.0 (c.args.block * 64) c.attr_row-row.result c.len-size.result c.self.invariant.0.problem h c.self.invariant.1 c.attr_row-row.ensures size in
-    subst (λ s. RemovesAll c.take_of_block-change.result s (seen p c.take_of_block-change.new.trail c.self.inside.turns) (attr_decision s.parts c.args.dim.0 c.args.node.0 c.args.attr.0) (IsTaken c.args.block c.args.taken)) c.self.view_is
-    (removes_all p c.self.inside.trail c.take_of_block-change.new.trail (attr_decision p c.args.dim.0 c.args.node.0 c.args.attr.0) c.attr_row-row.result c.len-size.result c.args.block c.args.taken c.self.invariant.0 row.located c.take_of_block-change.result c.self.inside.turns c.take_of_block-change.ensures)
+returns-clause-removes c = removes_seen (taken c.before) c.self.view_is
 
 pub returns-clause-known : goal.returns-clause-known
-returns-clause-known c =
-    let p = c.self.inside.problem.now in
-    let h = subst (λ s. HasValue s.parts c.args.node.0 c.args.dim.0 c.args.attr.0 (c.args.block * 64)) (sym c.self.view_is) c.requires in
-    let size = values_are p c.parts.result.now c.as_slice.result.now c.index-as_slice-dim.result c.as_slice-2.result.now c.index-as_slice-attr.result c.args.node.0 c.args.dim.0 c.args.attr.0 (c.args.block * 64) c.len-size.result h c.parts.ensures.same c.as_slice.ensures c.index-as_slice-dim.is c.as_slice-2.ensures c.index-as_slice-attr.is (c.len-size.ensures ∙ ap (λ (q : AttrPlan). length q.values) (sym c.index-as_slice-attr.is)) in
-    let row = attr_is_row p c.self.inside.node_count c.args.dim.0 c.args.node.0 c.args.attr.0 (c.args.block * 64) c.attr_row-row.result c.len-size.result c.self.invariant.0.problem h c.self.invariant.1 c.attr_row-row.ensures size in
-    known_of p (sum (shape p)) c.self.inside.turns c.take_of_block-change.new.trail c.self.invariant.0.problem (all_keep p c.self.inside.trail c.take_of_block-change.new.trail (attr_decision p c.args.dim.0 c.args.node.0 c.args.attr.0) c.attr_row-row.result c.len-size.result c.args.block c.args.taken c.self.invariant.0 row.located c.take_of_block-change.result c.take_of_block-change.ensures).sound
+returns-clause-known c = known_of c.self.inside.problem.now c.self.inside.turns c.take_of_block-change.new.trail (taken c.before).keeps

@@ -12,8 +12,7 @@ use Rattle.xdg_store.proofs.Telling.{sizes_are, some_nodes, told_start}
 use Rattle.std.proofs.lemmas.List.{length-replicate}
 use Rattle.xdg_problem.specs.Problems.{IsDim}
 use Rattle.xdg_store.proofs.Starting.{full_words, keeps_start, words_are}
-use Rattle.xdg_problem.specs.Vectors.{shape}
-use Rattle.std.specs.Prelude.{All, sum}
+use Rattle.std.specs.Prelude.{All}
 use Rattle.xdg_store.proofs.store.Store.start.Goals as goal
 
 the_words : (c : goal.After-label_all) → bit_count c.args.problem.now ≤ 64 * (c.len-node_count.result * 16 + c.len.result * c.len-node_count.result * 256)
@@ -68,4 +67,4 @@ pub returns-clause-now : goal.returns-clause-now
 returns-clause-now c = full_words c.args.problem.now (c.len-node_count.result * 16 + c.len.result * c.len-node_count.result * 256) c.in_ok-trail.trail.words c.free_values-free.ensures.problem (the_words c) (c.in_ok-trail.ensures.words ∙ c.in_ok-words.ensures.items_if_clones_equal (λ y h. h))
 
 pub returns-clause-known : goal.returns-clause-known
-returns-clause-known c = known_of c.args.problem.now (sum (shape c.args.problem.now)) 0 c.in_ok-trail.trail c.free_values-free.ensures.problem (the_keeps c).sound
+returns-clause-known c = known_of c.args.problem.now 0 c.in_ok-trail.trail (the_keeps c)

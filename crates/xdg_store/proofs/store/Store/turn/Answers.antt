@@ -1,7 +1,5 @@
-use Rattle.std.specs.Prelude.{sum}
-use Rattle.xdg_problem.specs.Vectors.{shape}
 use Rattle.xdg_store.proofs.Histories.{known_of}
 use Rattle.xdg_store.proofs.store.Store.turn.Goals as goal
 
 pub returns-clause-known : goal.returns-clause-known
-returns-clause-known c = known_of c.self.inside.problem.now (sum (shape c.self.inside.problem.now)) c.saturating_add-self-inside.result c.self.inside.trail c.self.invariant.0.problem c.self.invariant.0.sound
+returns-clause-known c = known_of c.self.inside.problem.now c.saturating_add-self-inside.result c.self.inside.trail c.self.invariant.0
