@@ -1,6 +1,6 @@
 -- What a store keeps of edges by their daughters, over its calls.
 use Rattle.std.proofs.Common.{◌≡◌, ◌≢◌, ◌⊎◌, ℕ, ◌<◌, ◌≤◌, ◌+◌, ◌-◌, ◌*◌, ◌↔◌, inl, inr, Bool, false, not, IsTrue, List, [], length, get_or, set, drop, take, replicate, refl, ap, sym, ◌∙◌, arith, subst, zero, suc}
-use Rattle.std.specs.Prelude.{All, sum}
+use Rattle.std.specs.Prelude.{All}
 use Rattle.std.proofs.lemmas.Bool.{cases_eq}
 use Rattle.std.proofs.lemmas.Nat.{row_fits}
 use Rattle.std.proofs.lemmas.List.{get_or_default, get_or-drop, get_or-set_other, get_or-set_same, get_or-take, length-drop, length-take-le}
@@ -13,7 +13,6 @@ use Rattle.xdg_problem.specs.Arguments.{attr_count, no_plan}
 use Rattle.xdg_problem.specs.Boxes.{May, Must, entry_decision, attr_decision, edge_decision, place_in}
 use Rattle.xdg_problem.specs.Places.{edge, nodes, places}
 use Rattle.xdg_problem.specs.Problems.{IsDim, IsProblem}
-use Rattle.xdg_problem.specs.Vectors.{shape}
 use Rattle.xdg_problem.proofs.AttrPlaces.{attr_within}
 use Rattle.xdg_problem.proofs.BoxPlaces.{has_decision}
 use Rattle.xdg_problem.proofs.PlaceOrder.{place_is}
@@ -366,9 +365,9 @@ module _ {parts : Parts} {t : Trailed} {turns : ℕ} {s : State} {rows : List Mo
         let within = rows_within in
         let behind = length-drop first rows in
         let each = λ (label : ℕ) (l : label < labels).
-            let place : mothers_at n dim daughter label ≡ first + label = omega (arith, at) in
-            mothers_there (has_them label l) refl (get_or part label no_mothers)
-            (ap (λ i. get_or rows i no_mothers) place ∙ sym (ap (λ xs. get_or xs label no_mothers) part_is ∙ get_or-take labels (drop first rows) label no_mothers l ∙ get_or-drop first rows label no_mothers)) in
+        let place : mothers_at n dim daughter label ≡ first + label = omega (arith, at) in
+        mothers_there (has_them label l) refl (get_or part label no_mothers)
+        (ap (λ i. get_or rows i no_mothers) place ∙ sym (ap (λ xs. get_or xs label no_mothers) part_is ∙ get_or-take labels (drop first rows) label no_mothers l ∙ get_or-drop first rows label no_mothers)) in
         record {
           count = ap length part_is ∙ length-take-le labels (drop first rows) (omega (arith, within, behind));
           may = λ mother label l. (each label l mother).0;

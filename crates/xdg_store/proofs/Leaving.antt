@@ -67,9 +67,3 @@ history_stays change old new d v r =
     let e = ap length g.1 in
     let n = length-append old.history g.0 in
     omega (arith, e, n)
-
--- the box only shrinks
-pub box_shrinks : (change : Change) (old new : State) (d v : ℕ) → Removes change old new d v → LiesIn new.now old.now
-box_shrinks changes.Same old new d v r = subst (λ s. LiesIn s.now old.now) (sym r.1) (λ e x h. h)
-box_shrinks changes.Changed old new d v r = subst (λ s. LiesIn s.now old.now) (sym r.2) (without_inside old.now d v)
-box_shrinks changes.Emptied old new d v r = subst (λ s. LiesIn s.now old.now) (sym r.2) (λ e x h. h)

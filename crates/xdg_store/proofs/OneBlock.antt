@@ -1,10 +1,10 @@
 -- Several bits of one word of a row.
-use Rattle.std.proofs.Common.{◌≡◌, ◌≢◌, ◌⊎◌, ℕ, ◌<◌, ◌≤◌, ◌+◌, ◌-◌, ◌*◌, ◌/◌, ◌%◌, ◌^◌, ◌↔◌, inl, inr, true, false, cond, not, List, ◌∷◌, length, get_or, set, refl, ap, ap₂, sym, ◌∙◌, arith, subst}
+use Rattle.std.proofs.Common.{◌≡◌, ◌≢◌, ◌⊎◌, ℕ, ◌<◌, ◌≤◌, ◌+◌, ◌-◌, ◌*◌, ◌/◌, ◌%◌, ◌^◌, ◌↔◌, inl, inr, true, false, cond, List, ◌∷◌, length, get_or, set, refl, ap, sym, ◌∙◌, arith, subst}
 use Rattle.std.specs.Prelude.{nat_eq, nat_lt}
 use Rattle.std.specs.Int.{bit_at, bit_not, w64}
 use Prim.Native.Nat.{min}
 use lib.Bits.{bit_and}
-use Rattle.std.proofs.lemmas.Bool.{cases_eq, cases_lt, eq-eqb, eqb-false, eqb-true, lt-ltb, ltb-true, ne_eqb, not-true, not_from_false}
+use Rattle.std.proofs.lemmas.Bool.{cases_eq, cases_lt, eq-eqb, eqb-true, lt-ltb, ltb-true}
 use Rattle.std.proofs.lemmas.List.{length-set, get_or-set_same, get_or-set_other}
 use Rattle.std.proofs.lemmas.Nat.{and_le_l}
 use Rattle.std.proofs.lemmas.Nat.Bits.{bit_at-lt, bit_at-zero, bit_at_and, bit_at_not}
@@ -12,7 +12,7 @@ use Rattle.xdg_trail.specs.Trailed.{Trailed, past}
 use Rattle.xdg_store.specs.Change.{IsTaken}
 use Rattle.xdg_store.specs.Layout.{is_set}
 use Rattle.xdg_store.specs.Rows.{ClearsAll, HasLeft, HasLeftInWord, HasOther}
-use Rattle.xdg_store.proofs.OneWord.{flag, one_if, some_bit, three}
+use Rattle.xdg_store.proofs.OneWord.{flag, one_if, one_of, row_bit, some_bit, three}
 
 -- ---- what is taken
 
@@ -46,52 +46,7 @@ taken_nowhere block taken place i other l = (
   λ t. absurd (other (let a = t.from in let b = t.below in omega (arith, a, b, l))),
 )
 
--- ---- a word with a bit that isn't taken
-
-one_of : (b : ℕ) → b < 2 → b ≢ 1 → b ≡ 0
-one_of b l n = omega (arith, l, n)
-
-module _ (word low taken first size : ℕ) (w : word < 2 ^ 64) (t : taken < 2 ^ 64) (l : (i : ℕ) → i < 64 → bit_at low i ≡ cond (nat_lt i (size - first)) 1 0) where
-  abbrev left : ℕ
-  left = bit_and (bit_and word low) (bit_not w64 taken)
-
-  left_bit : (i : ℕ) → i < 64 → bit_at left i ≡ min (min (bit_at word i) (cond (nat_lt i (size - first)) 1 0)) (1 - bit_at taken i)
-  left_bit i k = bit_at_and (bit_and word low) (bit_not w64 taken) i ∙ ap₂ min (bit_at_and word low i ∙ ap (min (bit_at word i)) (l i k)) (bit_at_not w64 taken i t k)
-
-  found : 0 < left → HasLeftInWord word first size taken
-  found some =
-      let a = and_le_l (bit_and word low) (bit_not w64 taken) in
-      let b = and_le_l word low in
-      let s = some_bit left some (omega (arith, a, b, w)) in
-      let i = s.0 in
-      let lowest = bit_at-lt low i in
-      let z = bit_at-lt taken i in
-      let q = three (bit_at word i) (cond (nat_lt i (size - first)) 1 0) (1 - bit_at taken i) (sym (left_bit i s.1) ∙ s.2) (bit_at-lt word i) (subst (λ z. z < 2) (l i s.1) lowest) (omega (arith, z)) in
-      let below = ltb-true i (size - first) (one_if (nat_lt i (size - first)) q.1) in
-      (i, s.1, omega (arith, below), (λ e. (let c = q.2 in omega (arith, c, e))), q.0)
-
-  none : left ≡ 0 → HasLeftInWord word first size taken → ⊥
-  none e (i, k, below, other, is) =
-      let zero : bit_at left i ≡ 0 = ap (λ z. bit_at z i) e ∙ bit_at-zero i in
-      let a : flag (nat_lt i (size - first)) ≡ 1 = ap flag (lt-ltb i (size - first) (omega (arith, below))) in
-      let c = one_of (bit_at taken i) (bit_at-lt taken i) other in
-      let m = left_bit i k in
-      omega (arith, zero, a, c, m, is)
-
-  pub left_exact : (not (nat_eq left 0) ≡ true) ↔ HasLeftInWord word first size taken
-  left_exact = (
-    λ h. found (let n = eqb-false left 0 (not-true (nat_eq left 0) h) in omega (arith, n)),
-    λ h. not_from_false (nat_eq left 0) (ne_eqb left 0 (λ e. none e h)),
-  )
-
 -- ---- a row
-
--- a bit of the row is one of the word at its place
-pub row_bit : (words : List ℕ) (start place i : ℕ) → start % 64 ≡ 0 → i < 64 → is_set words (start + (place * 64 + i)) ≡ nat_eq (bit_at (get_or words (start / 64 + place) 0) i) 1
-row_bit words start place i m l =
-    let at : (start + (place * 64 + i)) / 64 ≡ start / 64 + place = omega (arith, m, l) in
-    let bit : (start + (place * 64 + i)) % 64 ≡ i = omega (arith, m, l) in
-    ap₂ (λ p b. nat_eq (bit_at (get_or words p 0) b) 1) at bit
 
 module _ (words : List ℕ) (start size block taken place word here : ℕ) (m : start % 64 ≡ 0) (e : word ≡ get_or words (start / 64 + place) 0) (is : (i : ℕ) → i < 64 → (bit_at here i ≡ 1) ↔ IsTaken block taken (place * 64 + i)) where
   set_here : (i : ℕ) → i < 64 → bit_at word i ≡ 1 → is_set words (start + (place * 64 + i)) ≡ true

@@ -7,7 +7,7 @@ use Rattle.xdg_problem.specs.Boxes.{May, Must, edge_decision}
 use Rattle.xdg_problem.specs.Places.{nodes}
 use Rattle.xdg_problem.specs.Problems.{IsProblem}
 use Rattle.xdg_trail.specs.Trailed.{Trailed}
-use Rattle.xdg_store.specs.Layout.{bit_count, bits_of, box_in, edge_bit, edge_row, is_set, pair_bits}
+use Rattle.xdg_store.specs.Layout.{bits_of, box_in, edge_bit, edge_row, is_set, pair_bits}
 use Rattle.xdg_store.specs.Rows.{Takes}
 use Rattle.xdg_store.specs.States.{State, Keeps}
 use Rattle.xdg_store.specs.declared.change.Change.{Change}
@@ -86,12 +86,12 @@ module _ {parts : Parts} {t : Trailed} {e : Edge} {v bit other : ℕ} (keeps : K
   pub pair_taken : {u : Trailed} {change : Change} {turns : ℕ} → Takes change t u bit Other → LeavesOne parts change t u turns (decisions.Place e) v
   pair_taken {u} {change} {turns} takes =
       let removal = removes parts t d v row keeps at.located at.small u bit Other at.bit_is to_other from_other change turns takes in record {
-      is = at.is;
-      kept = keeps;
-      removes = removal;
-      keeps = keeps_taken parts t d v row keeps at.located at.small u bit Other at.bit_is to_other from_other change takes;
-      step = one_step change (seen parts t turns) (seen parts u turns) d v removal;
-    }
+        is = at.is;
+        kept = keeps;
+        removes = removal;
+        keeps = keeps_taken parts t d v row keeps at.located at.small u bit Other at.bit_is to_other from_other change takes;
+        step = one_step change (seen parts t turns) (seen parts u turns) d v removal;
+      }
 
 -- what the bits say of an edge
 

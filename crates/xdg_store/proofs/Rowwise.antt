@@ -1,5 +1,5 @@
 -- Entries and attributes: decisions whose bits stand in a row.
-use Rattle.std.proofs.Common.{◌≡◌, ℕ, ◌<◌, ◌≤◌, ◌+◌, ◌*◌, ◌/◌, ◌%◌, ◌↔◌, Bool, true, false, IsTrue, List, [], length, get_or, refl, ap, ap₂, sym, ◌∙◌, arith, subst}
+use Rattle.std.proofs.Common.{◌≡◌, ℕ, ◌<◌, ◌≤◌, ◌+◌, ◌/◌, ◌%◌, ◌↔◌, Bool, true, false, IsTrue, List, [], length, get_or, refl, ap, ap₂, sym, ◌∙◌, arith, subst}
 use Rattle.std.specs.Int.{bit_at}
 use Rattle.std.proofs.lemmas.Bool.{eq-eqb, eqb-true}
 use Rattle.std.proofs.lemmas.List.{get_or_default}
@@ -59,12 +59,12 @@ module _ {parts : Parts} {t : Trailed} {decision : Decision} {start size v : ℕ
   pub row_taken : {u : Trailed} {change : Change} {turns : ℕ} → Takes change t u (start + v) (HasOther t.words start size v) → LeavesOne parts change t u turns decision v
   row_taken {u} {change} {turns} takes =
       let removal = removes parts t (number_of parts decision) v row keeps at.located (within_row v at.within) u (start + v) (HasOther t.words start size v) (bit_is v at.within) to_row from_row change turns takes in record {
-      is = at.is;
-      kept = keeps;
-      removes = removal;
-      keeps = keeps_taken parts t (number_of parts decision) v row keeps at.located (within_row v at.within) u (start + v) (HasOther t.words start size v) (bit_is v at.within) to_row from_row change takes;
-      step = one_step change (seen parts t turns) (seen parts u turns) (number_of parts decision) v removal;
-    }
+        is = at.is;
+        kept = keeps;
+        removes = removal;
+        keeps = keeps_taken parts t (number_of parts decision) v row keeps at.located (within_row v at.within) u (start + v) (HasOther t.words start size v) (bit_is v at.within) to_row from_row change takes;
+        step = one_step change (seen parts t turns) (seen parts u turns) (number_of parts decision) v removal;
+      }
 
 -- what the code reads of a value
 pub row_has : {parts : Parts} {t : Trailed} {turns : ℕ} {s : State} {decision : Decision} {start size v : ℕ} {result : Bool}

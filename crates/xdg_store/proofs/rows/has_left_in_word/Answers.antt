@@ -1,4 +1,4 @@
-use Rattle.xdg_store.proofs.OneBlock.{left_exact}
+use Rattle.xdg_store.proofs.OneWord.{left_exact}
 use Rattle.xdg_store.proofs.rows.has_left_in_word.Goals as goal
 
 pub returns : goal.returns
