@@ -37,7 +37,8 @@ without_mother met set mother node e = (
   λ h. e node ∙ and_from (not (node == mother)) (has met node) (ap not (ne_eqb node mother (λ s. h.0 (sym s)))) h.1,
 )
 
-module _ {parts : Parts} {t : Trailed} {turns : ℕ} {s : State} (keeps : Keeps parts t) (is : seen parts t turns ≡ s) {n dim mother label row : ℕ} (m : n ≡ nodes parts) (has_them : HasEdges s.parts dim mother label) (r : row ≡ edge_row n dim mother label) (all got met set : List ℕ) (whole : (k : ℕ) → has all k ≡ nat_lt k (nodes parts)) (taken : (k : ℕ) → has set k ≡ (not (k == mother) && has met k)) (node : ℕ) where
+module _ {parts : Parts} {t : Trailed} {turns : ℕ} {s : State} (keeps : Keeps parts t) (is : seen parts t turns ≡ s) {n dim mother label row : ℕ} (m : n ≡ nodes parts) (has_them : HasEdges s.parts dim mother label)
+    (r : row ≡ edge_row n dim mother label) (all got met set : List ℕ) (whole : (k : ℕ) → has all k ≡ nat_lt k (nodes parts)) (taken : (k : ℕ) → has set k ≡ (not (k == mother) && has met k)) (node : ℕ) where
   pair : node < nodes parts → mother ≢ node → IsPair parts (edge dim mother label node) (row + node)
   pair l d = edge_is_pair parts (edge dim mother label node) n row (row + node) keeps.problem (out_is_place parts dim mother label node (subst (λ s. HasEdges s.parts dim mother label) (sym is) has_them) l d) m r refl
 
@@ -45,7 +46,9 @@ module _ {parts : Parts} {t : Trailed} {turns : ℕ} {s : State} (keeps : Keeps 
   small l = let most = keeps.problem.most in omega (arith, l, most)
 
   -- for the edges that may be present, and for those that must be
-  exact : (P : Parts → List (List Bool) → Edge → Type 0) (it : Bool) → has met node ≡ (it && has all node) → ((l : node < nodes parts) (d : mother ≢ node) → IsTrue it ↔ P parts (box_in (bits_of parts) t.words) (edge dim mother label node)) → IsTrue (has set node) ↔ ((node < nodes s.parts) × (mother ≢ node) × P s.parts s.now (edge dim mother label node))
+  exact : (P : Parts → List (List Bool) → Edge → Type 0) (it : Bool) → has met node ≡ (it && has all node)
+      → ((l : node < nodes parts) (d : mother ≢ node) → IsTrue it ↔ P parts (box_in (bits_of parts) t.words) (edge dim mother label node)) → IsTrue (has set node) ↔
+      ((node < nodes s.parts) × (mother ≢ node) × P s.parts s.now (edge dim mother label node))
   exact P it both says =
       let w = without_mother met set mother node taken in
       subst (λ s. IsTrue (has set node) ↔ ((node < nodes s.parts) × (mother ≢ node) × P s.parts s.now (edge dim mother label node))) is (
@@ -57,10 +60,12 @@ module _ {parts : Parts} {t : Trailed} {turns : ℕ} {s : State} (keeps : Keeps 
         λ (l, d, holds). w.1 (d, both ∙ and_from it (has all node) ((says l d).1 holds) (whole node ∙ lt-ltb node (nodes parts) l)),
       )
 
-  pub daughters_may_exact : ((k : ℕ) → k < 128 → has got k ≡ is_set t.words (row + k)) → ((k : ℕ) → has met k ≡ (has got k && has all k)) → IsTrue (has set node) ↔ ((node < nodes s.parts) × (mother ≢ node) × May s.parts s.now (edge dim mother label node))
+  pub daughters_may_exact : ((k : ℕ) → k < 128 → has got k ≡ is_set t.words (row + k)) → ((k : ℕ) → has met k ≡ (has got k && has all k))
+      → IsTrue (has set node) ↔ ((node < nodes s.parts) × (mother ≢ node) × May s.parts s.now (edge dim mother label node))
   daughters_may_exact read both = exact May (has got node) (both node) (λ l d. may_has t.words (pair l d) (read node (small l)))
 
-  pub daughters_must_exact : ((k : ℕ) → k < 128 → has got k ≡ is_set t.words ((row + 128) + k)) → ((k : ℕ) → has met k ≡ (has all k && not (has got k))) → IsTrue (has set node) ↔ ((node < nodes s.parts) × (mother ≢ node) × Must s.parts s.now (edge dim mother label node))
+  pub daughters_must_exact : ((k : ℕ) → k < 128 → has got k ≡ is_set t.words ((row + 128) + k)) → ((k : ℕ) → has met k ≡ (has all k && not (has got k)))
+      → IsTrue (has set node) ↔ ((node < nodes s.parts) × (mother ≢ node) × Must s.parts s.now (edge dim mother label node))
   daughters_must_exact read both =
       let turned : (row + 128) + node ≡ (row + node) + 128 = omega arith in
       exact Must (not (has got node)) (both node ∙ and_swap (has all node) (not (has got node))) (λ l d. must_has t.words (pair l d) (read node (small l) ∙ ap (is_set t.words) turned))

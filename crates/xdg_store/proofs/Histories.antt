@@ -92,7 +92,8 @@ cut_last h m l =
     let e : length (take (m + 1) h) - 1 ≡ m = omega (arith, n) in
     ap (λ i. get_or (take (m + 1) h) i []) e ∙ get_or-take (m + 1) h m [] (omega arith)
 
-pub keeps_undone : {parts : Parts} {old : Trailed} (new : Trailed) (mark : ℕ) → Keeps parts old → length new.words ≡ length old.words → new.spare + length new.records ≡ old.spare + length old.records → past new ≡ drop (length old.records - mark) (past old) → Keeps parts new
+pub keeps_undone : {parts : Parts} {old : Trailed} (new : Trailed) (mark : ℕ) → Keeps parts old → length new.words ≡ length old.words → new.spare + length new.records ≡ old.spare + length old.records
+    → past new ≡ drop (length old.records - mark) (past old) → Keeps parts new
 keeps_undone {parts} {old} new mark keeps len room e = record {
   problem = keeps.problem;
   long = (let l = keeps.long in omega (arith, len, l));

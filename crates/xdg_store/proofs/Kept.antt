@@ -139,7 +139,8 @@ module _ (parts : Parts) (p : IsProblem parts) where
   same_but changes.Emptied t u turns d step e n = ap (λ s. get_or s.now e []) step
 
   -- of no edge
-  kept_like : (t u : List ℕ) (rows : List Mothers) → ((e : Edge) → IsPlace parts e → get_or (box_in (bits_of parts) u) (edge_decision parts e) [] ≡ get_or (box_in (bits_of parts) t) (edge_decision parts e) []) → AreKept parts t rows → AreKept parts u rows
+  kept_like : (t u : List ℕ) (rows : List Mothers) → ((e : Edge) → IsPlace parts e → get_or (box_in (bits_of parts) u) (edge_decision parts e) [] ≡ get_or (box_in (bits_of parts) t) (edge_decision parts e) []) → AreKept parts t rows
+      → AreKept parts u rows
   kept_like t u rows same kept = record { long = kept.long; each = λ e is. stays e t u rows is (same e is) (kept.each e is) }
 
   -- of one on an edge
@@ -165,7 +166,8 @@ module _ (parts : Parts) (p : IsProblem parts) where
             (place_fits parts (length rows) e p is kept.long)
             (place_fits parts (length rows) f p at kept.long)
             renews here
-            (λ differ. stays e t.words u.words rows is (same_but changes.Changed t u turns (edge_decision parts f) (one_step changes.Changed _ _ _ v removes) (edge_decision parts e) (λ same. differ (same_place parts f e at is same))) (kept.each e is));
+            (λ differ. stays e t.words u.words rows is (same_but changes.Changed t u turns (edge_decision parts f) (one_step changes.Changed _ _ _ v removes) (edge_decision parts e) (λ same. differ (same_place parts f e at is same)))
+            (kept.each e is));
       }
 
     kept_forced_by : (change : Change) → Removes change (seen parts t turns) (seen parts u turns) (edge_decision parts f) 1 → Forces change (nodes parts) f rows more → AreKept parts u.words more
@@ -285,7 +287,8 @@ module _ (parts : Parts) (p : IsProblem parts) where
 pub kept_by_other : {parts : Parts} {change : Change} {t u : Trailed} {turns : ℕ} {decision : Decision} {Removal : State → State → ℕ → Type 0} {rows : List Mothers}
     → Leaves parts change t u turns decision Removal → ((e : Edge) → decision ≡ decisions.Place e → ⊥) → AreKept parts t.words rows → AreKept parts u.words rows
 kept_by_other {parts} {change} {t} {u} {turns} {decision} {rows = rows} left none =
-    kept_like parts left.kept.problem t.words u.words rows (λ e place. same_but parts left.kept.problem change t u turns (number_of parts decision) left.step (edge_decision parts e) (λ same. none e (on_edge parts decision e left.kept.problem place left.is (sym same))))
+    kept_like parts left.kept.problem t.words u.words rows
+    (λ e place. same_but parts left.kept.problem change t u turns (number_of parts decision) left.step (edge_decision parts e) (λ same. none e (on_edge parts decision e left.kept.problem place left.is (sym same))))
 
 -- the place of an edge's row
 pub edge_fits : {parts : Parts} {t : Trailed} {turns n : ℕ} {s : State} {e : Edge} {rows : List Mothers}
@@ -303,7 +306,8 @@ module _ {parts : Parts} {change : Change} {t u : Trailed} {turns : ℕ} {e : Ed
 
 -- ---- going back, as the code goes
 
-module _ {parts : Parts} {t : Trailed} {removed named : List Decision} {room n : ℕ} {rows : List Mothers} (mark : ℕ) (keeps : Keeps parts t) (steps : AreSteps parts (oldest (bits_of parts) (past t)) removed room) (kept : AreKept parts t.words rows) (m : n ≡ nodes parts) (named_is : named ≡ drop mark removed) where
+module _ {parts : Parts} {t : Trailed} {removed named : List Decision} {room n : ℕ} {rows : List Mothers} (mark : ℕ) (keeps : Keeps parts t) (steps : AreSteps parts (oldest (bits_of parts) (past t)) removed room)
+    (kept : AreKept parts t.words rows) (m : n ≡ nodes parts) (named_is : named ≡ drop mark removed) where
   -- those behind a mark
   pub all_decided : All (IsDecision parts) named
   all_decided = subst (All (IsDecision parts)) (sym named_is) (λ k d l. (let size = length-drop mark removed in subst (IsDecision parts) (sym (get_or-drop mark removed k d)) (steps.each (mark + k) (omega (arith, size, l)) d).0))
@@ -337,7 +341,8 @@ module _ {parts : Parts} {t : Trailed} {removed named : List Decision} {room n :
 
 -- ---- as the code reads them
 
-module _ {parts : Parts} {t : Trailed} {turns : ℕ} {s : State} {rows : List Mothers} {into : List LabelsInto} (keeps : Keeps parts t) (is : seen parts t turns ≡ s) (kept : AreKept parts t.words rows) (told : AreTold parts rows into) {n dim daughter : ℕ} (m : n ≡ nodes parts) where
+module _ {parts : Parts} {t : Trailed} {turns : ℕ} {s : State} {rows : List Mothers} {into : List LabelsInto} (keeps : Keeps parts t) (is : seen parts t turns ≡ s) (kept : AreKept parts t.words rows) (told : AreTold parts rows into)
+    {n dim daughter : ℕ} (m : n ≡ nodes parts) where
   module _ {label place : ℕ} (has_them : HasEdges s.parts dim daughter label) (at : place ≡ mothers_at n dim daughter label) where
     h : HasEdges parts dim daughter label
     h = subst (λ s. HasEdges s.parts dim daughter label) (sym is) has_them

@@ -96,7 +96,8 @@ module _ (parts : Parts) where
 
   -- ---- room
 
-  step_room : (change : Change) (t u : Trailed) (turns : ℕ) (removed : List Decision) (d room : ℕ) → Keeps parts u → AreSteps parts (oldest (bits_of parts) (past t)) removed room → IsOneStep change (seen parts t turns) (seen parts u turns) d → change ≡ changes.Changed → length removed < room
+  step_room : (change : Change) (t u : Trailed) (turns : ℕ) (removed : List Decision) (d room : ℕ) → Keeps parts u → AreSteps parts (oldest (bits_of parts) (past t)) removed room
+      → IsOneStep change (seen parts t turns) (seen parts u turns) d → change ≡ changes.Changed → length removed < room
   step_room changes.Same t u turns removed d room keeps steps step is = cc
   step_room changes.Emptied t u turns removed d room keeps steps step is = cc
   step_room changes.Changed t u turns removed d room keeps steps (more, others) is =

@@ -73,7 +73,8 @@ row_has {parts} {t} {decision = decision} {start} {size} {v} {result} keeps is a
     let n = numbers_length start size in
     let w = at.within in
     let l : v < length (numbers_from start size) = omega (arith, n, w) in
-    let q : result ≡ get_or (get_or (box_in (bits_of parts) t.words) (number_of parts decision) []) v false = e ∙ ap (is_set t.words) (sym (number_at start size v 0 w)) ∙ sym (has_bit parts (number_of parts decision) v (numbers_from start size) t.words at.located l) in
+    let q : result ≡ get_or (get_or (box_in (bits_of parts) t.words) (number_of parts decision) []) v false = e ∙ ap (is_set t.words) (sym (number_at start size v 0 w))
+    ∙ sym (has_bit parts (number_of parts decision) v (numbers_from start size) t.words at.located l) in
     subst (λ s. IsTrue result ↔ Has s.now (number_of s.parts decision) v) is (λ h. sym q ∙ h, λ h. q ∙ h)
 
 -- ---- entries
@@ -84,7 +85,8 @@ module _ {parts : Parts} {t : Trailed} {turns : ℕ} {s : State} (keeps : Keeps 
       let h = subst (λ s. HasCandidate s.parts node.0 place) (sym is) has in
       record {
         is = h.node_in;
-        located = subst (λ i. Located parts (entry_decision node.0) (numbers_from i size)) (sym s) (subst (λ i. Located parts (entry_decision node.0) (numbers_from (entry_row node.0) i)) (sym l) (entry_located parts keeps.problem.candidates_each node.0 h.node_in));
+        located = subst (λ i. Located parts (entry_decision node.0) (numbers_from i size)) (sym s)
+            (subst (λ i. Located parts (entry_decision node.0) (numbers_from (entry_row node.0) i)) (sym l) (entry_located parts keeps.problem.candidates_each node.0 h.node_in));
         within = (let w = h.place_in in omega (arith, w, l));
       }
 
@@ -102,7 +104,8 @@ module _ {parts : Parts} {t : Trailed} {turns : ℕ} {s : State} (keeps : Keeps 
   entry_word {node} l e = (let m = subst (λ s. node < nodes s.parts) (sym is) l in let long = keeps.long in omega (arith, m, e, long))
 
   -- and says of each of the first 64 whether it remains
-  pub entries_have : (node : NodeId) {place start word : ℕ} → HasCandidate s.parts node.0 place → start ≡ entry_row node.0 → word ≡ get_or t.words (start / 64) 0 → place < 64 → (bit_at word place ≡ 1) ↔ Has s.now (entry_decision node.0) place
+  pub entries_have : (node : NodeId) {place start word : ℕ} → HasCandidate s.parts node.0 place → start ≡ entry_row node.0 → word ≡ get_or t.words (start / 64) 0 → place < 64
+      → (bit_at word place ≡ 1) ↔ Has s.now (entry_decision node.0) place
   entries_have node {place} {start} {word} h s w few =
       let same = row_has keeps is (entry_is_row node h s refl) refl in
       let at : (start + place) / 64 ≡ start / 64 = omega (arith, s, few) in
@@ -124,7 +127,8 @@ module _ {parts : Parts} {t : Trailed} {turns : ℕ} {s : State} (keeps : Keeps 
         let h = has_value in
         record {
           is = (h.dim_in, h.node_in, h.attr_in);
-          located = subst (λ i. Located parts d (numbers_from i size)) (sym (at ∙ ap (λ i. attr_row i dim.0 node.0 attr.0) m)) (subst (λ i. Located parts d (numbers_from (attr_row (nodes parts) dim.0 node.0 attr.0) i)) (sym l) (attr_located parts keeps.problem.candidates_each dim.0 node.0 attr.0 h.dim_in h.node_in h.attr_in));
+          located = subst (λ i. Located parts d (numbers_from i size)) (sym (at ∙ ap (λ i. attr_row i dim.0 node.0 attr.0) m))
+              (subst (λ i. Located parts d (numbers_from (attr_row (nodes parts) dim.0 node.0 attr.0) i)) (sym l) (attr_located parts keeps.problem.candidates_each dim.0 node.0 attr.0 h.dim_in h.node_in h.attr_in));
           within = (let w = h.value_in in omega (arith, w, l));
         }
 

@@ -337,7 +337,8 @@ module _ (parts : Parts) (p : IsProblem parts) (words : List ℕ) (rows : List M
     λ label. labelled_like _ _ those.must those.must label label refl refl (leads_like (InRows in_must (nodes parts) rows) (Must parts box) (must_says parts p words rows kept) label) (told.must dim daughter d l label),
   )
 
-module _ {parts : Parts} {t : Trailed} {turns : ℕ} {s : State} {rows : List Mothers} {into : List LabelsInto} (keeps : Keeps parts t) (is : seen parts t turns ≡ s) (kept : AreKept parts t.words rows) (told : AreTold parts rows into) {n dim : ℕ} (m : n ≡ nodes parts) where
+module _ {parts : Parts} {t : Trailed} {turns : ℕ} {s : State} {rows : List Mothers} {into : List LabelsInto} (keeps : Keeps parts t) (is : seen parts t turns ≡ s) (kept : AreKept parts t.words rows) (told : AreTold parts rows into)
+    {n dim : ℕ} (m : n ≡ nodes parts) where
   dim_there : dim < length s.parts.dims → dim < length parts.dims
   dim_there d = subst (λ s. dim < length s.parts.dims) (sym is) d
 
@@ -358,7 +359,8 @@ module _ {parts : Parts} {t : Trailed} {turns : ℕ} {s : State} {rows : List Mo
     pub labels_read : (read : LabelsInto) → read ≡ get_or into place read → AreBoth s.parts s.now dim daughter read
     labels_read read read_is =
         let same = read_is ∙ get_or_default into place read no_labels labels_within ∙ ap (at_place into) (at ∙ ap (λ i. labels_at i dim daughter) m) in
-        subst (λ s. AreBoth s.parts s.now dim daughter read) is (subst (AreBoth parts (box_in (bits_of parts) t.words) dim daughter) (sym same) (both_told parts keeps.problem t.words rows into kept told dim daughter (dim_there dim_in) daughter_there))
+        subst (λ s. AreBoth s.parts s.now dim daughter read) is
+        (subst (AreBoth parts (box_in (bits_of parts) t.words) dim daughter) (sym same) (both_told parts keeps.problem t.words rows into kept told dim daughter (dim_there dim_in) daughter_there))
 
   -- those of all daughters
   module _ {first : ℕ} (at : first ≡ labels_at n dim 0) (dim_in : dim < length s.parts.dims) where
@@ -380,7 +382,8 @@ module _ {parts : Parts} {t : Trailed} {turns : ℕ} {s : State} {rows : List Mo
     part_told {part} part_is =
         let within = part_within in
         let behind = length-drop first into in
-        let each = λ (daughter : ℕ) (l : daughter < nodes parts). subst (AreBoth parts (box_in (bits_of parts) t.words) dim daughter) (part_at daughter l) (both_told parts keeps.problem t.words rows into kept told dim daughter (dim_there dim_in) l) in
+        let each = λ (daughter : ℕ) (l : daughter < nodes parts). subst (AreBoth parts (box_in (bits_of parts) t.words) dim daughter) (part_at daughter l)
+        (both_told parts keeps.problem t.words rows into kept told dim daughter (dim_there dim_in) l) in
         subst (λ s. AreLabelsOf s.parts s.now dim part) is (subst (AreLabelsOf parts (box_in (bits_of parts) t.words) dim) (sym part_is) (record {
           count = length-take-le n (drop first into) (omega (arith, within, behind)) ∙ m;
           may = λ daughter l. (each daughter l).0;

@@ -8,8 +8,8 @@ use Rattle.xdg_store.proofs.Rowwise.{IsRow, attr_found, row_room, row_taken}
 use Rattle.xdg_store.proofs.store.Store.remove_attr.Goals as goal
 
 its_row : (c : goal.After-take_of_row-arg-1) → IsRow c.self.inside.problem.now (decisions.Attr c.args.dim c.args.node c.args.attr) c.attr_row-row.result c.len-size.result c.args.value
-its_row c = attr_found c.self.invariant.0 c.self.view_is c.args.dim c.args.node c.args.attr c.requires c.self.invariant.1 c.attr_row-row.ensures c.parts.ensures.same c.as_slice.ensures c.index-as_slice-dim.is c.as_slice-2.ensures c.index-as_slice-attr.is
-    (c.len-size.ensures ∙ ap (λ (q : AttrPlan). length q.values) (sym c.index-as_slice-attr.is))
+its_row c = attr_found c.self.invariant.0 c.self.view_is c.args.dim c.args.node c.args.attr c.requires c.self.invariant.1 c.attr_row-row.ensures
+    c.parts.ensures.same c.as_slice.ensures c.index-as_slice-dim.is c.as_slice-2.ensures c.index-as_slice-attr.is (c.len-size.ensures ∙ ap (λ (q : AttrPlan). length q.values) (sym c.index-as_slice-attr.is))
 
 taken : (c : goal.After-note-arg-1) → LeavesOne c.self.inside.problem.now c.take_of_row-change.result c.self.inside.trail c.take_of_row-change.new.trail c.self.inside.turns (decisions.Attr c.args.dim c.args.node c.args.attr) c.args.value
 taken c = row_taken c.self.invariant.0 (its_row c.before.before) c.take_of_row-change.ensures

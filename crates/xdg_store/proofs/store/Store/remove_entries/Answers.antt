@@ -7,7 +7,8 @@ use Rattle.xdg_store.proofs.Rowwise.{entry_found}
 use Rattle.xdg_store.proofs.Several.{block_room, block_taken}
 use Rattle.xdg_store.proofs.store.Store.remove_entries.Goals as goal
 
-taken : (c : goal.After-note-arg-1) → LeavesAll c.self.inside.problem.now c.take_of_block-change.result c.self.inside.trail c.take_of_block-change.new.trail c.self.inside.turns (decisions.Entry c.args.node) (IsTaken c.args.block c.args.taken)
+taken : (c : goal.After-note-arg-1)
+    → LeavesAll c.self.inside.problem.now c.take_of_block-change.result c.self.inside.trail c.take_of_block-change.new.trail c.self.inside.turns (decisions.Entry c.args.node) (IsTaken c.args.block c.args.taken)
 taken c =
     let row = entry_found c.self.invariant.0 c.self.view_is c.args.node c.requires c.entry_row-row.ensures c.parts.ensures.same c.as_slice-candidates.ensures c.index-candidates-node.is c.len-size.ensures in
     block_taken c.self.invariant.0 row c.args.block c.args.taken c.take_of_block-change.ensures

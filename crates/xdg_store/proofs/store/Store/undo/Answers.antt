@@ -24,7 +24,8 @@ invariant_of-self c =
       keeps,
       c.self.invariant.1,
       c.self.invariant.2,
-      steps_cut c.self.inside.problem.now c.self.inside.trail c.undo.new.self c.self.inside.removed.items c.truncate.new.self.items _ _ c.args.mark c.records-2.result l c.undo.ensures.past c.self.invariant.3 c.truncate.ensures.items c.records-2.ensures c.truncate.ensures.capacity,
+      steps_cut c.self.inside.problem.now c.self.inside.trail c.undo.new.self c.self.inside.removed.items c.truncate.new.self.items _ _ c.args.mark c.records-2.result
+          l c.undo.ensures.past c.self.invariant.3 c.truncate.ensures.items c.records-2.ensures c.truncate.ensures.capacity,
       kept_undone c.args.mark c.self.invariant.0 c.self.invariant.3 c.self.invariant.4 c.self.invariant.1 named keeps l c.undo.ensures.past c.renew_all.ensures.renews,
       c.renew_all.ensures.told c.self.inside.problem.now c.self.invariant.0.problem (sym c.self.invariant.1) (all_decided c.args.mark c.self.invariant.0 c.self.invariant.3 c.self.invariant.4 c.self.invariant.1 named) c.self.invariant.5,
     )
