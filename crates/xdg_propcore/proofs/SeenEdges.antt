@@ -7,9 +7,10 @@ use Rattle.xdg_problem.specs.declared.analysis.Edge.{Edge}
 use Rattle.xdg_problem.specs.declared.parts.Group.{Group}
 use Rattle.xdg_problem.specs.declared.parts.Parts.{Parts}
 use Rattle.xdg_problem.specs.Boxes.{Has, May, Must, edge_decision}
-use Rattle.xdg_problem.specs.Paths.{edges_on}
-use Rattle.xdg_problem.specs.Places.{places}
+use Rattle.xdg_problem.specs.Paths.{IsDaughterBy, edges_on}
+use Rattle.xdg_problem.specs.Places.{edge, places}
 use Rattle.xdg_problem.specs.Tests.{Test, looks_at}
+use Rattle.xdg_problem.proofs.Edges.{edge_equal}
 use Rattle.xdg_problem.proofs.FilterFacts.{filter_both, filter_alike, filter_contained}
 use Rattle.xdg_problem.proofs.Looking.{any_same, on_same}
 use Rattle.xdg_rules.specs.Rules.{has, may_edges, IsDecided, IsPlaceOn, value_in}
@@ -67,3 +68,10 @@ module _ (parts : Parts) (group : Group) (box : List (List Bool)) where
         let in_places = filter_contained (λ (f : Edge). looks_at group test f && present f) (places parts) e in_dim.0 in
         let two = and_parts (looks_at group test e) (present e) in_places.1 in
         ((in_places.0, eqb-true e.dim.0 dim in_dim.1), two.0, two.1)
+
+    -- the same by its numbers
+    pub seen_at : (u l v : ℕ) → IsDaughterBy (edges_on dim (seen test)) u l v
+        → IsPlaceOn parts dim (edge dim u l v) × (looks_at group test (edge dim u l v) ≡ true) × May parts box (edge dim u l v)
+    seen_at u l v (k, e, within, at, (m, b, d)) =
+        let all = seen_edge e (k, within, at) in
+        subst (λ f. IsPlaceOn parts dim f × (looks_at group test f ≡ true) × May parts box f) (edge_equal e (edge dim u l v) all.0.1 m b d) all
