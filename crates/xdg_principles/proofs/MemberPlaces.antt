@@ -1,4 +1,5 @@
 -- Features and attributes that are there or not.
+use Rattle.xdg_facts.proofs.Options.{none_some}
 use Rattle.std.proofs.Common.{◌≡◌, inl, inr, ℕ, suc, Bool, true, false, List, [], ◌∷◌, Option, None, Some, refl, sym, ap, ◌∙◌}
 use Rattle.std.specs.Prelude.{option_map, if◌then◌else◌, bytes_eq}
 use Rattle.std.proofs.lemmas.Bool.{true≢false, false_from_ne_true}
@@ -27,12 +28,9 @@ none_at (m ∷ ms) t h =
     let other : bytes_eq m.0 t ≡ false = false_from_ne_true (bytes_eq m.0 t) (λ e. h (inl ((bytes_eq-Decides m.0 t).0 e))) in
     ap (λ b. type_at (m ∷ ms) (if b then Some 0 else option_map suc (place_of (firsts ms) t))) other ∙ later m ms (place_of (firsts ms) t) ∙ none_at ms t (λ k. h (inr k))
 
-some_none : (x : Ty) → Some x ≡ None → ⊥
-some_none x h = cc
-
 first_member : (m : List ℕ × Ty) (ms : Members) (t : List ℕ) (b : Bool) → bytes_eq m.0 t ≡ b → (type_at ms (place_of (firsts ms) t) ≡ None → In (firsts ms) t → ⊥)
     → type_at (m ∷ ms) (place_of (firsts (m ∷ ms)) t) ≡ None → In (firsts (m ∷ ms)) t → ⊥
-first_member m ms t true q others e h = some_none m.1 (sym (ap (λ b. type_at (m ∷ ms) (if b then Some 0 else option_map suc (place_of (firsts ms) t))) q) ∙ e)
+first_member m ms t true q others e h = none_some m.1 (sym e ∙ ap (λ b. type_at (m ∷ ms) (if b then Some 0 else option_map suc (place_of (firsts ms) t))) q)
 first_member m ms t false q others e h = elim h [
   | inl same ↦ true≢false (sym ((bytes_eq-Decides m.0 t).1 same) ∙ q)
   | inr k ↦ others (sym (later m ms (place_of (firsts ms) t)) ∙ sym (ap (λ b. type_at (m ∷ ms) (if b then Some 0 else option_map suc (place_of (firsts ms) t))) q) ∙ e) k

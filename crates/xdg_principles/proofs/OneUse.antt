@@ -29,9 +29,8 @@ one_member setting parameter sort which k h = sym (ap (λ (o : Option Called). o
 
 label_numbers : (known : List (List ℕ)) (names : List Name) (ns : List ℕ) → AreLabels known names ns → ns ≡ map (label_number known) names
 label_numbers known [] [] h = refl
-label_numbers known [] (n ∷ ns) h = absurd h
-label_numbers known (name ∷ names) [] h = absurd h
 label_numbers known (name ∷ names) (n ∷ ns) h = ap₂ (λ z zs. z ∷ zs) (sym (ap or_zero h.0)) (label_numbers known names ns h.1)
+label_numbers known _ _ h = absurd h
 
 one_label_list : (known : List (List ℕ)) (o : Option Term) (ns : List ℕ) → IsLabelList known o ns → ns ≡ map (label_number known) (list_at o)
 one_label_list known None ns h = absurd h
@@ -48,35 +47,22 @@ one_truth b (Some term) h = truth_told b ∙ sym (ap (λ t. bytes_eq t (codes "t
 
 one_arg : (setting : Setting) (parameter : Parameter) (w : Wanted) (x : Arg) → IsArg setting parameter w x → x ≡ arg setting parameter w
 one_arg setting parameter (a.Member s.Feature which typing) (g.Feature k) h = ap g.Feature (one_member setting parameter s.Feature which k h)
-one_arg setting parameter (a.Member s.Feature which typing) (g.Attr k) h = absurd h
-one_arg setting parameter (a.Member s.Feature which typing) (g.Labels ns) h = absurd h
-one_arg setting parameter (a.Member s.Feature which typing) (g.Truth b) h = absurd h
-one_arg setting parameter (a.Member s.Attribute which typing) (g.Feature k) h = absurd h
 one_arg setting parameter (a.Member s.Attribute which typing) (g.Attr k) h = ap g.Attr (one_member setting parameter s.Attribute which k h)
-one_arg setting parameter (a.Member s.Attribute which typing) (g.Labels ns) h = absurd h
-one_arg setting parameter (a.Member s.Attribute which typing) (g.Truth b) h = absurd h
-one_arg setting parameter (a.Labels which) (g.Feature k) h = absurd h
-one_arg setting parameter (a.Labels which) (g.Attr k) h = absurd h
 one_arg setting parameter (a.Labels which) (g.Labels ns) h = ap g.Labels (one_label_list (labels setting which) (term_in setting parameter) ns h)
-one_arg setting parameter (a.Labels which) (g.Truth b) h = absurd h
-one_arg setting parameter a.Truth (g.Feature k) h = absurd h
-one_arg setting parameter a.Truth (g.Attr k) h = absurd h
-one_arg setting parameter a.Truth (g.Labels ns) h = absurd h
 one_arg setting parameter a.Truth (g.Truth b) h = ap g.Truth (one_truth b (term_in setting parameter) h)
+one_arg setting parameter _ _ h = absurd h
 
 all_args : (setting : Setting) (parameters : List Parameter) (xs : List Arg) → AreArgs setting parameters xs → xs ≡ args setting parameters
 all_args setting [] [] h = refl
-all_args setting [] (x ∷ xs) h = absurd h
-all_args setting (p ∷ ps) [] h = absurd h
 all_args setting (p ∷ ps) (x ∷ xs) h = ap₂ (λ z zs. z ∷ zs) (one_arg setting p p.wanted x h.0) (all_args setting ps xs h.1)
+all_args setting _ _ h = absurd h
 
 -- ---- one use
 
 all_places : (setting : Setting) (ws : List Which) (ks : List ℕ) → ArePlaces setting ws ks → ks ≡ map (λ w. or_zero (dim_place setting w)) ws
 all_places setting [] [] h = refl
-all_places setting [] (k ∷ ks) h = absurd h
-all_places setting (w ∷ ws) [] h = absurd h
 all_places setting (w ∷ ws) (k ∷ ks) h = ap₂ (λ z zs. z ∷ zs) (sym (ap or_zero h.0)) (all_places setting ws ks h.1)
+all_places setting _ _ h = absurd h
 
 one_use : (dims : List DimType) (one : Use) (made : PrincipleUse) → IsUse dims one made → made ≡ built dims one
 one_use dims one made h =
@@ -94,9 +80,8 @@ one_use dims one made h =
 
 all_uses : (dims : List DimType) (uses : List Use) (made : List PrincipleUse) → AreUses dims uses made → made ≡ map (built dims) uses
 all_uses dims [] [] h = refl
-all_uses dims [] (m ∷ made) h = absurd h
-all_uses dims (one ∷ uses) [] h = absurd h
 all_uses dims (one ∷ uses) (m ∷ made) h = ap₂ (λ z zs. z ∷ zs) (one_use dims one m h.0) (all_uses dims uses made h.1)
+all_uses dims _ _ h = absurd h
 
 -- whatever the uses of principles are, they are these
 pub one_list : (statements : List Statement) (table : Table) (made others : List PrincipleUse) → ArePrincipleUses statements table made → ArePrincipleUses statements table others → made ≡ others

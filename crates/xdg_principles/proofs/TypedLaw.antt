@@ -35,25 +35,22 @@ use Rattle.xdg_ast.specs.Texts.{texts}
 
 arg_of : (setting : Setting) (ps : List Parameter) (xs : List Arg) → AreArgs setting ps xs → (parameter : Parameter) → In ps parameter → (x : Arg) × IsArg setting parameter parameter.wanted x
 arg_of setting [] [] h parameter i = absurd i
-arg_of setting [] (x ∷ xs) h parameter i = absurd h
-arg_of setting (q ∷ ps) [] h parameter i = absurd h
 arg_of setting (q ∷ ps) (x ∷ xs) h parameter i = elim i [ inl e ↦ (x, subst (λ (r : Parameter). IsArg setting r r.wanted x) e h.0) | inr k ↦ arg_of setting ps xs h.1 parameter k ]
+arg_of setting _ _ h parameter i = absurd h
 
 typed_args : (setting : Setting) (table : Table) (u : PrincipleUse) (type : Shape) (ps : List Parameter) (xs : List Arg) → AreArgs setting ps xs
     → ((parameter : Parameter) → In ps parameter → (x : Arg) → IsArg setting parameter parameter.wanted x → IsTypedArg table u type parameter.wanted x) → AreTypedArgs table u type ps xs
 typed_args setting table u type [] [] h each = tt
-typed_args setting table u type [] (x ∷ xs) h each = absurd h
-typed_args setting table u type (q ∷ ps) [] h each = absurd h
 typed_args setting table u type (q ∷ ps) (x ∷ xs) h each = (each q (inl refl) x h.0, typed_args setting table u type ps xs h.1 (λ r k. each r (inr k)))
+typed_args setting table u type _ _ h each = absurd h
 
 use_of : (dims : List DimType) (uses : List Use) (made : List PrincipleUse) → AreUses dims uses made → (u : PrincipleUse) → In made u → (one : Use) × (In uses one × IsUse dims one u)
 use_of dims [] [] h u i = absurd i
-use_of dims [] (v ∷ made) h u i = absurd h
-use_of dims (one ∷ uses) [] h u i = absurd h
 use_of dims (one ∷ uses) (v ∷ made) h u i = elim i [
   | inl e ↦ (one, (inl refl, subst (IsUse dims one) e h.0))
   | inr k ↦ (let r = use_of dims uses made h.1 u k in (r.0, (inr r.1.0, r.1.1)))
 ]
+use_of dims _ _ h u i = absurd h
 
 first_in : (first : Option Parameter) (more : List Parameter) (parameter : Parameter) → first ≡ Some parameter → In (told first ++ more) parameter
 first_in first more parameter is = subst (λ (o : Option Parameter). In (told o ++ more) parameter) (sym is) (inl refl)

@@ -20,22 +20,20 @@ use Rattle.xdg_ast.specs.Texts.{texts}
 
 label_again : (known : List (List ℕ)) (names : List Name) (ns : List ℕ) (k : ℕ) (t : List ℕ) → AreLabels known names ns → In ns k → place_of known t ≡ Some k → In (texts names) t
 label_again known [] [] k t h i is = absurd i
-label_again known [] (n ∷ ns) k t h i is = absurd h
-label_again known (name ∷ names) [] k t h i is = absurd h
 label_again known (name ∷ names) (n ∷ ns) k t h i is = elim i [
   | inl q ↦ inl (sym (place_of-Some known name.text n h.0).1 ∙ ap (λ j. get_or known j []) q ∙ (place_of-Some known t k is).1)
   | inr r ↦ inr (label_again known names ns k t h.1 r is)
 ]
+label_again known _ _ k t h i is = absurd h
 
 -- the places of different labels are places, all different
 pub label_places : (known : List (List ℕ)) (names : List Name) (ns : List ℕ) → AreLabels known names ns → Differ (texts names) → table.ArePlaces (length known) ns
 label_places known [] [] h apart = tt
-label_places known [] (n ∷ ns) h apart = absurd h
-label_places known (name ∷ names) [] h apart = absurd h
 label_places known (name ∷ names) (n ∷ ns) h apart = (
   ((place_of-Some known name.text n h.0).0, λ i. apart.0 (label_again known names ns n name.text h.1 i h.0)),
   label_places known names ns h.1 apart.1,
 )
+label_places known _ _ h apart = absurd h
 
 -- ---- the dimensions of a use
 
@@ -48,15 +46,13 @@ place_in setting (v ∷ ws) (k ∷ ks) h (suc n) which is = place_in setting ws 
 
 pub as_many : (setting : Setting) (ws : List Which) (ks : List ℕ) → ArePlaces setting ws ks → length ks ≡ length ws
 as_many setting [] [] h = refl
-as_many setting [] (k ∷ ks) h = absurd h
-as_many setting (v ∷ ws) [] h = absurd h
 as_many setting (v ∷ ws) (k ∷ ks) h = omega (arith, as_many setting ws ks h.1)
+as_many setting _ _ h = absurd h
 
 pub dim_of_place : (setting : Setting) (ws : List Which) (ks : List ℕ) → ArePlaces setting ws ks → (k : ℕ) → In ks k → (which : Which) × (dim_place setting which ≡ Some k)
 dim_of_place setting [] [] h k i = absurd i
-dim_of_place setting [] (j ∷ ks) h k i = absurd h
-dim_of_place setting (v ∷ ws) [] h k i = absurd h
 dim_of_place setting (v ∷ ws) (j ∷ ks) h k i = elim i [ inl q ↦ (v, h.0 ∙ ap Some q) | inr r ↦ dim_of_place setting ws ks h.1 k r ]
+dim_of_place setting _ _ h k i = absurd h
 
 pub name_of_dim : (dims : List DimType) (given : Option Name) (k : ℕ) → place_named dims given ≡ Some k → (name : Name) × ((given ≡ Some name) × (place_of (dim_texts dims) name.text ≡ Some k))
 name_of_dim dims None k h = absurd (none_some k h)
@@ -75,12 +71,11 @@ name_at dims k dim within is = get_or-map (λ (x : DimType). x.name) dims k dim 
 -- a dimension whose place is used is named as used
 pub used_text : (dims : List DimType) (names : List Name) (ks : List ℕ) → AreUsed dims names ks → (k : ℕ) (t : List ℕ) → In ks k → place_of (dim_texts dims) t ≡ Some k → In (texts names) t
 used_text dims [] [] h k t i is = absurd i
-used_text dims [] (j ∷ ks) h k t i is = absurd h
-used_text dims (name ∷ names) [] h k t i is = absurd h
 used_text dims (name ∷ names) (j ∷ ks) h k t i is = elim i [
   | inl q ↦ inl (sym h.0.1.1.1 ∙ sym (name_at dims j h.0.0 h.0.1.0 h.0.1.1.0) ∙ ap (λ n. get_or (dim_texts dims) n []) q ∙ (place_of-Some (dim_texts dims) t k is).1)
   | inr r ↦ inr (used_text dims names ks h.1 k t r is)
 ]
+used_text dims _ _ h k t i is = absurd h
 
 -- the place of a dimension that is named as used is used
 pub used_place : (dims : List DimType) (names : List Name) (ks : List ℕ) → Differ (dim_texts dims) → AreUsed dims names ks → (k : ℕ) (t : List ℕ) → In (texts names) t → place_of (dim_texts dims) t ≡ Some k → In ks k

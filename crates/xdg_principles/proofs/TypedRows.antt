@@ -1,7 +1,7 @@
 -- What the table of principles says of dimensions and of the type that arguments share.
-use Rattle.std.proofs.Common.{◌≡◌, inl, inr, ℕ, List, [], ◌∷◌, Option, None, Some, refl, sym, ap, ◌∙◌, subst}
-use Rattle.std.specs.Prelude.{if◌then◌else◌, bytes_eq, slice_get}
-use Rattle.std.proofs.lemmas.Bool.{cases_Bool}
+use Rattle.xdg_principles.proofs.Rows.{AllSound, sound_in}
+use Rattle.std.proofs.Common.{◌≡◌, ℕ, List, Option, None, Some, refl}
+use Rattle.std.specs.Prelude.{slice_get}
 use Rattle.xdg_principles.specs.declared.principle.Dims.{Dims}
 use Rattle.xdg_principles.specs.declared.principle.Dims.TheVariants as d
 use Rattle.xdg_principles.specs.declared.principle.Element.{Element}
@@ -17,7 +17,7 @@ use Rattle.xdg_principles.specs.declared.principle.Wanted.{Wanted}
 use Rattle.xdg_principles.specs.declared.principle.Wanted.TheVariants as a
 use Rattle.xdg_principles.specs.declared.principle.Which.{Which}
 use Rattle.xdg_principles.specs.declared.principle.Which.TheVariants as w
-use Rattle.xdg_principles.specs.Principles.{principle_named, row_named, Row, principles, dims_in, parameters}
+use Rattle.xdg_principles.specs.Principles.{principle_named, principles, dims_in, parameters}
 use Rattle.xdg_principles.specs.Typed.{number_of}
 use Rattle.xdg_facts.specs.Membership.{In}
 
@@ -34,14 +34,12 @@ HasWhich _ _ = ⊥
 -- and has it at its place
 pub which_at : (dims : Dims) (which : Which) → HasWhich dims which → slice_get (dims_in dims) (number_of which) ≡ Some which
 which_at d.One w.First h = refl
-which_at d.One w.Second h = absurd h
-which_at d.One w.Third h = absurd h
 which_at d.Two w.First h = refl
 which_at d.Two w.Second h = refl
-which_at d.Two w.Third h = absurd h
 which_at d.Three w.First h = refl
 which_at d.Three w.Second h = refl
 which_at d.Three w.Third h = refl
+which_at _ _ h = absurd h
 
 -- ---- the shared type
 
@@ -88,33 +86,13 @@ IsSoundWanted form (a.Member sort which typing) = HasWhich form.dims which × Is
 IsSoundWanted form (a.Labels which) = HasWhich form.dims which
 IsSoundWanted form a.Truth = Unit {0}
 
-abbrev AreSound : Form → List Parameter → Type 0
-AreSound form [] = Unit {0}
-AreSound form (x ∷ xs) = IsSoundWanted form x.wanted × AreSound form xs
-
-abbrev AllSound : List Row → Type 0
-AllSound [] = Unit {0}
-AllSound (row ∷ rows) = AreSound row.1 (parameters row.1) × AllSound rows
-
 -- ---- all rows
 
-in_row : (name : List ℕ) (rows : List Row) (form : Form) → AllSound rows → row_named name rows ≡ Some form → AreSound form (parameters form)
-in_row name [] form all e = absurd cc
-in_row name (row ∷ rows) form all e = elim (cases_Bool (bytes_eq name row.0)) [
-  | inl q ↦ subst (λ (f : Form). AreSound f (parameters f)) (same row.1 form (sym (ap (λ b. if b then Some row.1 else row_named name rows) q) ∙ e)) all.0
-  | inr q ↦ in_row name rows form all.1 (sym (ap (λ b. if b then Some row.1 else row_named name rows) q) ∙ e)
-]
-  where
-    same : (x y : Form) → Some x ≡ Some y → x ≡ y
-    same x y h = cc
+abbrev Sound : Form → Parameter → Type 0
+Sound form x = IsSoundWanted form x.wanted
 
-one_of : (form : Form) (xs : List Parameter) (x : Parameter) → AreSound form xs → In xs x → IsSoundWanted form x.wanted
-one_of form [] x all h = absurd h
-one_of form (y ∷ xs) x all h = elim h [ inl e ↦ subst (λ (z : Parameter). IsSoundWanted form z.wanted) e all.0 | inr k ↦ one_of form xs x all.1 k ]
-
-all_rows : AllSound principles
+all_rows : AllSound Sound principles
 all_rows = (tt, (tt, (tt, (tt, ((tt, (tt, tt)), (((tt, tt), ((tt, tt), tt)), ((tt, ((tt, tt), (tt, tt))), (((tt, tt), ((tt, tt), tt)), (((tt, tt), ((tt, tt), ((tt, tt), tt))), (((tt, tt), ((tt, (tt, tt)), tt)), (tt, (((tt, tt), tt), (((tt, (tt, tt)), tt), (((tt, (tt, tt)), tt), (((tt, (tt, tt)), tt), (((tt, (tt, tt)), tt), (((tt, (tt, tt)), tt), (((tt, (tt, tt)), tt), (((tt, tt), tt), tt)))))))))))))))))))
 
 pub sound_wanted : (name : List ℕ) (form : Form) (x : Parameter) → principle_named name ≡ Some form → In (parameters form) x → IsSoundWanted form x.wanted
-unfolding principle_named
-sound_wanted name form x e h = one_of form (parameters form) x (in_row name principles form all_rows e) h
+sound_wanted = sound_in Sound all_rows

@@ -1,4 +1,5 @@
 -- What is built is what is meant, where nothing is wrong.
+use Rattle.xdg_facts.proofs.Options.{some_same, none_some}
 use Rattle.std.proofs.Common.{◌≡◌, inl, inr, ℕ, suc, true, List, [], ◌∷◌, map, Option, None, Some, refl, sym, ap, ◌∙◌, subst}
 use Rattle.std.specs.List.{flat_map}
 use Rattle.std.specs.Prelude.{option_map, if◌then◌else◌, bytes_eq, codes}
@@ -64,26 +65,20 @@ place_there (x ∷ known) t h = elim (cases_Bool (bytes_eq x t)) [
 
 none_under : {A : Type 0} (pairs : List (Pair A)) (key : List ℕ) → under pairs key ≡ None → In (texts (keys pairs)) key → ⊥
 none_under [] key e h = h
-none_under {A} (pair ∷ pairs) key e h = elim (cases_Bool (bytes_eq pair.key.text key)) [
-  | inl q ↦ absurd (some_none pair.value (sym (ap (λ b. if b then Some pair.value else under pairs key) q) ∙ e))
+none_under (pair ∷ pairs) key e h = elim (cases_Bool (bytes_eq pair.key.text key)) [
+  | inl q ↦ absurd (none_some pair.value (sym e ∙ ap (λ b. if b then Some pair.value else under pairs key) q))
   | inr q ↦ elim h [
     | inl same ↦ true≢false (sym ((bytes_eq-Decides pair.key.text key).1 same) ∙ q)
     | inr k ↦ none_under pairs key (sym (ap (λ b. if b then Some pair.value else under pairs key) q) ∙ e) k
   ]
 ]
-  where
-    some_none : {B : Type 0} (x : B) → Some x ≡ None → ⊥
-    some_none x h = cc
 
 pub value_under : (pairs : List (Pair Name)) (key : List ℕ) (name : Name) → under pairs key ≡ Some name → In (values pairs) name
 value_under [] key name e = absurd cc
 value_under (pair ∷ pairs) key name e = elim (cases_Bool (bytes_eq pair.key.text key)) [
-  | inl q ↦ inl (same pair.value name (sym (ap (λ b. if b then Some pair.value else under pairs key) q) ∙ e))
+  | inl q ↦ inl (some_same pair.value name (sym (ap (λ b. if b then Some pair.value else under pairs key) q) ∙ e))
   | inr q ↦ inr (value_under pairs key name (sym (ap (λ b. if b then Some pair.value else under pairs key) q) ∙ e))
 ]
-  where
-    same : (x y : Name) → Some x ≡ Some y → x ≡ y
-    same x y h = cc
 
 -- ---- where a use stands
 
