@@ -3,7 +3,7 @@ use Rattle.std.proofs.Common.{◌≡◌, true, ◌⊎◌, List, [], ◌∷◌, �
 use Rattle.xdg_base.specs.declared.places.Span.{Span}
 use Rattle.xdg_ast.specs.declared.token.Kind.{Kind}
 use Rattle.xdg_ast.specs.Lexemes.{Lexeme}
-use Rattle.xdg_ast.specs.Language.{Language, Kinds, span_of, each, token, nothing, both, either, many, full, room, nested, spanned, made, behind, pair, chain}
+use Rattle.xdg_ast.specs.Language.{Language, Kinds, span_of, each, token, nothing, both, either, many, full, room, nested, spanned}
 use Rattle.xdg_formula.proofs.Tokens.{is_taken}
 
 -- the second list has the kinds of the first, as far as rules take them
@@ -119,17 +119,3 @@ spanned_bears f l a = record {
       let c = a.by ts us g.1 h g.3 in
       (f (span_of us) c.0, (span_of us, c.0, refl, c.1, refl));
 }
-
--- ---- said by those
-
-pub made_bears : {A B : Type 0} (f : A → B) (l : Language A) → Bears l → Bears (made f l)
-made_bears f l a = both_bears (λ x _. f x) l (nothing tt) a (nothing_bears tt)
-
-pub behind_bears : {A B : Type 0} (l : Language A) (m : Language B) → Bears l → Bears m → Bears (behind l m)
-behind_bears l m a b = both_bears (λ _ y. y) l m a b
-
-pub pair_bears : {A B : Type 0} (l : Language A) (m : Language B) → Bears l → Bears m → Bears (pair l m)
-pair_bears l m a b = both_bears (λ x y. (x, y)) l m a b
-
-pub chain_bears : {A : Type 0} (l m : Language A) → Bears l → Bears m → Bears (chain l m)
-chain_bears l m a b = both_bears (λ x xs. x ∷ xs) l (many m) a (many_bears m b)

@@ -3,8 +3,8 @@ use Rattle.std.proofs.Common.{ℕ, zero, suc, ◌<◌, [], ◌∷◌, refl, arit
 use Rattle.xdg_ast.specs.declared.token.Kind.TheVariants as k
 use Rattle.xdg_ast.specs.Language.{Within, token}
 use Rattle.xdg_parse.specs.Laws.{Alive}
-use Rattle.xdg_parse.proofs.Nested.{group-alive}
-use Rattle.xdg_parse.proofs.EachKind.{opens_by, closes_by, some, is_self, token_alive}
+use Rattle.xdg_parse.proofs.Leveling.{parentheses, group_alive}
+use Rattle.xdg_parse.proofs.EachKind.{some, token_alive}
 use Rattle.xdg_parse.proofs.RuleParts.{both_alive, made_alive, left_alive, right_alive, many_alive, spanned_alive, chain_alive}
 use Rattle.xdg_formula.specs.Words.{edge_word, is_name, is_rule_constant}
 use Rattle.xdg_formula.specs.Rules.{Inside, node, constant, constants, value_kind, value, edge_places, two_nodes, above_places, valued, edge, atom, simple_kind, simple, signs, prim, prims, conj, conjs, formula, inside, under}
@@ -47,7 +47,7 @@ valued_alive w = both_alive _ _ _ node_alive (both_alive _ _ _ constant_alive (b
 edge_alive : (n : ℕ) → Alive ((edge (under (suc n))).means)
 unfolding edge under
 edge_alive n = made_alive _ _ (both_alive _ _ _ (token_alive edge_word)
-    (group-alive _ _ (λ _. edge_places) (opens_by _ refl) (closes_by _ refl refl) (some k.LeftParenthesis) (is_self k.LeftParenthesis) (some k.RightParenthesis) (is_self k.RightParenthesis) (inside (under n)) edge_places_alive))
+    (group_alive parentheses (λ _. edge_places) (inside (under n)) edge_places_alive))
 
 simple_alive : (n : ℕ) → Alive ((simple (under (suc n))).means)
 unfolding simple simple_kind atom

@@ -1,14 +1,12 @@
 pub mod Bearing
-pub mod BearingRules
 pub mod Bodied
 pub mod Lawful
 pub mod Lifted
-pub mod Nesting
 pub mod Nexts
 pub mod Once
+pub mod Ruled
 pub mod SeenTokens
 pub mod Shorter
-pub mod Steadied
 pub mod Tokens
 pub mod Treed
 pub mod Unique

@@ -10,7 +10,7 @@ use Rattle.xdg_formula.specs.Rules.{rules}
 use Rattle.xdg_formula.specs.Texts.{seen_rules, rules_of}
 use Rattle.xdg_formula.specs.Words.{seen, seen_all}
 use Rattle.xdg_formula.proofs.Bearing.{Alike, alike-self, alike-both}
-use Rattle.xdg_formula.proofs.BearingRules.{rules_bears}
+use Rattle.xdg_formula.proofs.Lawful.{rules_rule}
 use Rattle.xdg_formula.proofs.Tokens.{before, seen-before, seen-split, seen-place, seen-opens, seen-walk}
 
 -- ---- what tokens begin
@@ -22,7 +22,7 @@ alike-before (t ∷ ts) = (seen-before t.kind t.text, alike-before ts)
 
 starts-lifted : (us : List Lexeme) → Starts seen_rules (seen_all us) → Starts rules_of us
 starts-lifted us s =
-    let found = (rules_bears s.2.0).by (seen_all us ++ s.0) (seen_all us ++ seen_all (map before s.0)) s.1
+    let found = (rules_rule 0 s.2.0).bears.by (seen_all us ++ s.0) (seen_all us ++ seen_all (map before s.0)) s.1
     (alike-both (seen_all us) (seen_all us) s.0 (seen_all (map before s.0)) (alike-self (seen_all us)) (alike-before s.0)) s.2.1 in
     (map before s.0, found.0, (s.2.0, subst (λ ts. (rules s.2.0).means ts found.0) (sym (map-append seen us (map before s.0))) found.1))
 

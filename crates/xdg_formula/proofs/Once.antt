@@ -18,13 +18,12 @@ use Rattle.xdg_formula.specs.Texts.{rules_of, TellsSeen, no_tokens, no_rules, Is
 use Rattle.xdg_base.specs.Told.{Gives}
 use Rattle.xdg_formula.specs.Words.{seen_all}
 use Rattle.xdg_formula.proofs.Lawful.{rules_rule}
-use Rattle.xdg_formula.proofs.Steadied.{rules_steady}
 use Rattle.xdg_formula.proofs.Lifted.{refused-lifted, shallow-back}
 use Rattle.xdg_formula.proofs.Unique.{not-refused, refused_once}
 use Rattle.xdg_formula.proofs.Whole.{Readable, one_reading, shallow}
 
 pub readable : Readable rules
-readable = record { law = λ d n. (rules_rule d n).law; steady = rules_steady }
+readable = record { law = λ d n. (rules_rule d n).rule.law; steady = λ n. (rules_rule n n).rule.steady }
 
 -- ---- tokens
 

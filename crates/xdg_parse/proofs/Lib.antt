@@ -4,9 +4,6 @@ pub mod Loop
 pub mod Sees
 pub mod Shrinking
 pub mod SteadyParts
-pub mod SteadyTerms
-pub mod SteadyRules
-pub mod Shortens
 pub mod Tags
 pub mod Laws
 pub mod Combinators
@@ -14,10 +11,13 @@ pub mod More
 pub mod Nested
 pub mod EachKind
 pub mod RuleParts
+pub mod Leveling
+pub mod Levels
 pub mod Bodies
 pub mod RulesTerms
 pub mod Rules
 pub mod RulesStatements
+pub mod Shortens
 pub mod Whole
 pub mod Unique
 pub mod Once

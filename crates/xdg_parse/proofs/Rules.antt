@@ -1,27 +1,28 @@
 -- Each rule of expressions, types and dimensions is read as it is meant.
-use Rattle.std.proofs.Common.{ℕ, zero, suc, refl}
+use Rattle.std.proofs.Common.{ℕ, refl}
 use Rattle.xdg_ast.specs.declared.token.Kind.TheVariants as k
 use Rattle.xdg_ast.specs.Grammar.{Params, in_parentheses, inside, under, braced, braced_tail, braced_terms, conj, conjs, dim, expr, keyed_name, keyed_names, keyed_type, keyed_types, more_types, name, names, next_conj, next_prim, part, part_kind, parts, prim, prims, principle, principle_args, principle_dims, two_types, type_kind, type_term, use_of_class}
 use Rattle.xdg_parse.proofs.EachKind.{apart_by, plain_by}
-use Rattle.xdg_parse.proofs.SteadyRules.{under_steady, keyed_name_steady, keyed_type_steady, next_conj_steady, next_prim_steady, part_steady, type_term_steady}
-use Rattle.xdg_parse.proofs.RuleParts.{Rule, Below, Levels, behind_rule, both_rule, braces_rule, chain_rule, either_rule, made_rule, many_rule, nothing_rule, optional_rule, pair_rule, parentheses_rule, spanned_rule, word_rule}
+use Rattle.xdg_parse.proofs.RuleParts.{Rule, behind_rule, both_rule, chain_rule, either_rule, made_rule, many_rule, nothing_rule, optional_rule, pair_rule, spanned_rule, word_rule}
+use Rattle.xdg_parse.proofs.Leveling.{braces, parentheses, below}
+use Rattle.xdg_parse.proofs.Levels.{RuleAt, Levels, LevelsBelow, nested_rule}
 use Rattle.xdg_parse.proofs.Bodies.{braced_alive, dims_alive, expr_alive, more_types_alive, principle_alive, two_types_alive, type_alive}
-use Rattle.xdg_parse.proofs.RulesTerms.{RuleAt, braced_terms_rule, elems_rule, gen_rule, name_rule, names_rule, terms_rule}
+use Rattle.xdg_parse.proofs.RulesTerms.{braced_terms_rule, elems_rule, gen_rule, name_rule, names_rule, terms_rule}
 
-module _ (params : Params) (n : ℕ) (b : Below params n) (d : ℕ) where
+module _ (params : Params) (d n : ℕ) (b : LevelsBelow params d n) where
   -- ---- expressions
 
   pub dim_rule : RuleAt params d n dim
   unfolding dim name braced_terms
-  dim_rule = spanned_rule _ (made_rule _ (behind_rule (word_rule k.Dim (plain_by _ refl refl) d n) (pair_rule (name_rule d n) (braced_terms_rule params n b d) (apart_by _ _ refl)) (apart_by _ _ refl))) refl
+  dim_rule = spanned_rule _ (made_rule _ (behind_rule (word_rule k.Dim (plain_by _ refl refl) d n) (pair_rule (name_rule d n) (braced_terms_rule params d n b) (apart_by _ _ refl)) (apart_by _ _ refl))) refl
 
   pub use_of_class_rule : RuleAt params d n use_of_class
   unfolding use_of_class name braced_terms
-  use_of_class_rule = spanned_rule _ (made_rule _ (pair_rule (name_rule d n) (optional_rule (braced_terms_rule params n b d) refl) (apart_by _ _ refl))) refl
+  use_of_class_rule = spanned_rule _ (made_rule _ (pair_rule (name_rule d n) (optional_rule (braced_terms_rule params d n b) refl) (apart_by _ _ refl))) refl
 
   pub prim_rule : RuleAt params d n prim
   unfolding prim dim name braced_terms use_of_class inside expr conjs conj prims next_prim next_conj
-  prim_rule = either_rule dim_rule (either_rule (parentheses_rule (λ j. j.expr) params (λ m lt. expr_alive (under params m)) (λ w. apart_by _ _ refl) (λ e m c. c.expr_is) n b d)
+  prim_rule = either_rule dim_rule (either_rule (nested_rule parentheses (λ j. j.expr) params (λ m lt. expr_alive (under params m)) (λ w. apart_by _ _ refl) (λ e m c. c.expr_is) d n b)
       use_of_class_rule refl (apart_by _ _ refl)) refl (apart_by _ _ refl)
 
   pub next_prim_rule : RuleAt params d n next_prim
@@ -30,7 +31,7 @@ module _ (params : Params) (n : ℕ) (b : Below params n) (d : ℕ) where
 
   pub prims_rule : RuleAt params d n prims
   unfolding prims prim dim name braced_terms use_of_class next_prim
-  prims_rule = chain_rule prim_rule next_prim_rule (next_prim_steady _ (under_steady params d)) (next_prim_steady _ (under_steady params n)) refl (apart_by _ _ refl) (apart_by _ _ refl)
+  prims_rule = chain_rule prim_rule next_prim_rule refl (apart_by _ _ refl) (apart_by _ _ refl)
 
   pub conj_rule : RuleAt params d n conj
   unfolding conj prims prim dim name braced_terms use_of_class next_prim
@@ -42,7 +43,7 @@ module _ (params : Params) (n : ℕ) (b : Below params n) (d : ℕ) where
 
   pub conjs_rule : RuleAt params d n conjs
   unfolding conjs conj prims prim dim name braced_terms use_of_class next_prim next_conj
-  conjs_rule = chain_rule conj_rule next_conj_rule (next_conj_steady _ (under_steady params d)) (next_conj_steady _ (under_steady params n)) refl (apart_by _ _ refl) (apart_by _ _ refl)
+  conjs_rule = chain_rule conj_rule next_conj_rule refl (apart_by _ _ refl) (apart_by _ _ refl)
 
   pub expr_rule : RuleAt params d n expr
   unfolding expr conjs conj prims prim dim name braced_terms use_of_class next_prim next_conj
@@ -52,19 +53,19 @@ module _ (params : Params) (n : ℕ) (b : Below params n) (d : ℕ) where
 
   pub one_type_rule : RuleAt params d n (λ w. in_parentheses w (λ j. j.one_type))
   unfolding inside type_term type_kind name
-  one_type_rule = parentheses_rule (λ j. j.one_type) params (λ m lt. type_alive (under params m)) (λ w. apart_by _ _ refl) (λ e m c. c.one_type_is) n b d
+  one_type_rule = nested_rule parentheses (λ j. j.one_type) params (λ m lt. type_alive (under params m)) (λ w. apart_by _ _ refl) (λ e m c. c.one_type_is) d n b
 
   pub type_kind_rule : RuleAt params d n type_kind
   unfolding type_kind name inside braced braced_tail type_term keyed_types keyed_type names more_types two_types
   type_kind_rule =
-      either_rule (braces_rule (λ j. j.braced) params (λ m lt. braced_alive (under params m)) (λ w. apart_by _ _ refl) (λ e m c. c.braced_is) n b d)
+      either_rule (nested_rule braces (λ j. j.braced) params (λ m lt. braced_alive (under params m)) (λ w. apart_by _ _ refl) (λ e m c. c.braced_is) d n b)
       (either_rule (made_rule _ (behind_rule (word_rule k.Tuple (plain_by _ refl refl) d n)
-      (parentheses_rule (λ j. j.more_types) params (λ m lt. more_types_alive (under params m)) (λ w. apart_by _ _ refl) (λ e m c. c.more_types_is) n b d) (apart_by _ _ refl)))
+      (nested_rule parentheses (λ j. j.more_types) params (λ m lt. more_types_alive (under params m)) (λ w. apart_by _ _ refl) (λ e m c. c.more_types_is) d n b) (apart_by _ _ refl)))
       (either_rule (made_rule _ (behind_rule (word_rule k.Set (plain_by _ refl refl) d n) one_type_rule (apart_by _ _ refl)))
       (either_rule (made_rule _ (behind_rule (word_rule k.ISet (plain_by _ refl refl) d n) one_type_rule (apart_by _ _ refl)))
       (either_rule (made_rule _ (behind_rule (word_rule k.Valency (plain_by _ refl refl) d n) one_type_rule (apart_by _ _ refl)))
       (either_rule (made_rule _ (behind_rule (word_rule k.Map (plain_by _ refl refl) d n)
-      (parentheses_rule (λ j. j.two_types) params (λ m lt. two_types_alive (under params m)) (λ w. apart_by _ _ refl) (λ e m c. c.two_types_is) n b d) (apart_by _ _ refl)))
+      (nested_rule parentheses (λ j. j.two_types) params (λ m lt. two_types_alive (under params m)) (λ w. apart_by _ _ refl) (λ e m c. c.two_types_is) d n b) (apart_by _ _ refl)))
       (either_rule (made_rule _ (word_rule k.Card (plain_by _ refl refl) d n))
       (either_rule (made_rule _ (word_rule k.Bool (plain_by _ refl refl) d n))
       (either_rule (made_rule _ (word_rule k.Int (plain_by _ refl refl) d n))
@@ -83,7 +84,7 @@ module _ (params : Params) (n : ℕ) (b : Below params n) (d : ℕ) where
 
   pub keyed_types_rule : RuleAt params d n keyed_types
   unfolding keyed_types keyed_type name type_term type_kind
-  keyed_types_rule = many_rule keyed_type_rule (keyed_type_steady _ (under_steady params d)) (keyed_type_steady _ (under_steady params n)) refl (apart_by _ _ refl)
+  keyed_types_rule = many_rule keyed_type_rule refl (apart_by _ _ refl)
 
   pub braced_tail_rule : RuleAt params d n braced_tail
   unfolding braced_tail name type_term type_kind keyed_types keyed_type names
@@ -96,7 +97,7 @@ module _ (params : Params) (n : ℕ) (b : Below params n) (d : ℕ) where
 
   pub more_types_rule : RuleAt params d n more_types
   unfolding more_types type_term type_kind name
-  more_types_rule = chain_rule type_term_rule type_term_rule (type_term_steady _ (under_steady params d)) (type_term_steady _ (under_steady params n)) refl (apart_by _ _ refl) (apart_by _ _ refl)
+  more_types_rule = chain_rule type_term_rule type_term_rule refl (apart_by _ _ refl) (apart_by _ _ refl)
 
   pub two_types_rule : RuleAt params d n two_types
   unfolding two_types type_term type_kind name
@@ -110,16 +111,16 @@ module _ (params : Params) (n : ℕ) (b : Below params n) (d : ℕ) where
 
   pub keyed_names_rule : Rule d n keyed_names keyed_names
   unfolding keyed_names keyed_name name
-  keyed_names_rule = many_rule keyed_name_rule keyed_name_steady keyed_name_steady refl (apart_by _ _ refl)
+  keyed_names_rule = many_rule keyed_name_rule refl (apart_by _ _ refl)
 
   pub principle_dims_rule : RuleAt params d n principle_dims
   unfolding principle_dims inside keyed_names keyed_name name
   principle_dims_rule = behind_rule (word_rule k.Dims (plain_by _ refl refl) d n)
-      (braces_rule (λ j. j.dims) params (λ m lt. dims_alive) (λ w. apart_by _ _ refl) (λ e m c. c.dims_is) n b d) (apart_by _ _ refl)
+      (nested_rule braces (λ j. j.dims) params (λ m lt. dims_alive) (λ w. apart_by _ _ refl) (λ e m c. c.dims_is) d n b) (apart_by _ _ refl)
 
   pub principle_args_rule : RuleAt params d n principle_args
   unfolding principle_args braced_terms
-  principle_args_rule = behind_rule (word_rule k.Args (plain_by _ refl refl) d n) (braced_terms_rule params n b d) (apart_by _ _ refl)
+  principle_args_rule = behind_rule (word_rule k.Args (plain_by _ refl refl) d n) (braced_terms_rule params d n b) (apart_by _ _ refl)
 
   pub principle_rule : RuleAt params d n principle
   unfolding principle principle_dims principle_args braced_terms
@@ -133,7 +134,7 @@ module _ (params : Params) (n : ℕ) (b : Below params n) (d : ℕ) where
       (either_rule (made_rule _ (behind_rule (word_rule k.DefAttrsType (plain_by _ refl refl) d n) type_term_rule (apart_by _ _ refl)))
       (either_rule (made_rule _ (behind_rule (word_rule k.DefEntryType (plain_by _ refl refl) d n) type_term_rule (apart_by _ _ refl)))
       (either_rule (made_rule _ (behind_rule (word_rule k.UsePrinciple (plain_by _ refl refl) d n) (pair_rule (name_rule d n)
-      (braces_rule (λ j. j.principle) params (principle_alive params) (λ w. apart_by _ _ refl) (λ e m c. c.principle_is) n b d) (apart_by _ _ refl)) (apart_by _ _ refl)))
+      (nested_rule braces (λ j. j.principle) params (principle_alive params) (λ w. apart_by _ _ refl) (λ e m c. c.principle_is) d n b) (apart_by _ _ refl)) (apart_by _ _ refl)))
       (either_rule (made_rule _ (behind_rule (word_rule k.Output (plain_by _ refl refl) d n) (name_rule d n) (apart_by _ _ refl)))
       (made_rule _ (behind_rule (word_rule k.UseOutput (plain_by _ refl refl) d n) (name_rule d n) (apart_by _ _ refl)))
       refl (apart_by _ _ refl)) refl (apart_by _ _ refl)) refl (apart_by _ _ refl)) refl (apart_by _ _ refl)) refl (apart_by _ _ refl)) refl (apart_by _ _ refl)
@@ -144,25 +145,24 @@ module _ (params : Params) (n : ℕ) (b : Below params n) (d : ℕ) where
 
   pub parts_rule : RuleAt params d n parts
   unfolding parts part part_kind name type_term type_kind
-  parts_rule = many_rule part_rule (part_steady _ (under_steady params d)) (part_steady _ (under_steady params n)) refl (apart_by _ _ refl)
+  parts_rule = many_rule part_rule refl (apart_by _ _ refl)
 
   levels_at : Levels params d n
   levels_at = record {
-    gen_is = (gen_rule params n b d).law;
-    elems_is = (elems_rule params n b d).law;
-    terms_is = (terms_rule params n b d).law;
-    expr_is = expr_rule.law;
-    one_type_is = type_term_rule.law;
-    two_types_is = two_types_rule.law;
-    more_types_is = more_types_rule.law;
-    braced_is = braced_rule.law;
-    dims_is = keyed_names_rule.law;
-    principle_is = principle_rule.law;
-    parts_is = parts_rule.law;
+    gen_is = gen_rule params d n b;
+    elems_is = elems_rule params d n b;
+    terms_is = terms_rule params d n b;
+    expr_is = expr_rule;
+    one_type_is = type_term_rule;
+    two_types_is = two_types_rule;
+    more_types_is = more_types_rule;
+    braced_is = braced_rule;
+    dims_is = keyed_names_rule;
+    principle_is = principle_rule;
+    parts_is = parts_rule;
   }
 
 -- ---- levels of brackets
 
-pub below : (params : Params) (n : ℕ) → Below params n
-below params zero = tt
-below params (suc n) = levels_at params n (below params n)
+pub levels_below : (params : Params) (d n : ℕ) → LevelsBelow params d n
+levels_below params = below (Levels params) (levels_at params)

@@ -1,19 +1,18 @@
 -- Each rule of terms is read as it is meant.
 use Rattle.std.proofs.Common.{ℕ, refl}
 use Rattle.xdg_ast.specs.declared.token.Kind.TheVariants as k
-use Rattle.xdg_ast.specs.Language.{Language, Within}
-use Rattle.xdg_ast.specs.Grammar.{Params, Inside, inside, under, braced_terms, bracketed_names, card, card_kind, elem, elem_kind, elem_tail, elems, gconj, gconjs, gen, gprim, gprims, hashed, interval, keyed_term, name, names, next_gconj, next_gprim, num, nums, term, term_kind, terms}
+use Rattle.xdg_ast.specs.Language.{token}
+use Rattle.xdg_ast.specs.Grammar.{Params, is_constant, inside, under, braced_terms, bracketed_names, card, card_kind, elem, elem_kind, elem_tail, elems, gconj, gconjs, gen, gprim, gprims, hashed, interval, keyed_term, name, names, next_gconj, next_gprim, num, nums, term, term_kind, terms}
 use Rattle.xdg_parse.proofs.EachKind.{apart_by, plain_by}
-use Rattle.xdg_parse.proofs.SteadyTerms.{elem_steady, keyed_term_steady, name_steady, next_gconj_steady, next_gprim_steady, num_steady}
-use Rattle.xdg_parse.proofs.SteadyRules.{under_steady}
-use Rattle.xdg_parse.proofs.RuleParts.{Rule, Below, behind_rule, both_rule, braces_rule, chain_rule, constant_rule, either_rule, made_rule, many_rule, nothing_rule, pair_rule, parentheses_rule, spanned_rule, squares_rule, word_rule}
+use Rattle.xdg_parse.proofs.RuleParts.{Rule, constant_alive, behind_rule, both_rule, chain_rule, either_rule, kinds_rule, made_rule, many_rule, nothing_rule, pair_rule, spanned_rule, word_rule}
+use Rattle.xdg_parse.proofs.Leveling.{braces, parentheses, squares}
+use Rattle.xdg_parse.proofs.Levels.{RuleAt, LevelsBelow, nested_rule}
 use Rattle.xdg_parse.proofs.Bodies.{elems_alive, gen_alive, interval_alive, names_alive, nums_alive, terms_alive}
 
--- the rule, where so many brackets may be opened
-abbrev pub RuleAt : {A : Type 0} → Params → ℕ → ℕ → (Within Inside → Language A) → Type 0
-RuleAt params d n rule = Rule d n (rule (under params d)) (rule (under params n))
-
 -- ---- names and numbers
+
+constant_rule : (d n : ℕ) → Rule d n (token is_constant) (token is_constant)
+constant_rule d n = kinds_rule is_constant (plain_by _ refl refl) constant_alive d n
 
 pub name_rule : (d n : ℕ) → Rule d n name name
 unfolding name
@@ -21,7 +20,7 @@ name_rule d n = made_rule _ (constant_rule d n)
 
 pub names_rule : (d n : ℕ) → Rule d n names names
 unfolding names name
-names_rule d n = many_rule (name_rule d n) name_steady name_steady refl (apart_by _ _ refl)
+names_rule d n = many_rule (name_rule d n) refl (apart_by _ _ refl)
 
 pub num_rule : (d n : ℕ) → Rule d n num num
 unfolding num
@@ -29,23 +28,23 @@ num_rule d n = made_rule _ (word_rule k.Number (plain_by _ refl refl) d n)
 
 pub nums_rule : (d n : ℕ) → Rule d n nums nums
 unfolding nums num
-nums_rule d n = many_rule (num_rule d n) num_steady num_steady refl (apart_by _ _ refl)
+nums_rule d n = many_rule (num_rule d n) refl (apart_by _ _ refl)
 
 pub interval_rule : (d n : ℕ) → Rule d n interval interval
 unfolding interval num
 interval_rule d n = pair_rule (num_rule d n) (num_rule d n) (apart_by _ _ refl)
 
-module _ (params : Params) (n : ℕ) (b : Below params n) (d : ℕ) where
+module _ (params : Params) (d n : ℕ) (b : LevelsBelow params d n) where
   pub bracketed_names_rule : RuleAt params d n bracketed_names
   unfolding bracketed_names names name
-  bracketed_names_rule = squares_rule (λ _. names) params (λ m lt. names_alive) (λ w. apart_by _ _ refl) (λ e m c. (names_rule e m).law) n b d
+  bracketed_names_rule = nested_rule squares (λ _. names) params (λ m lt. names_alive) (λ w. apart_by _ _ refl) (λ e m c. names_rule e m) d n b
 
   -- ---- cardinalities
 
   pub hashed_rule : RuleAt params d n hashed
   unfolding hashed nums num interval
-  hashed_rule = either_rule (made_rule _ (braces_rule (λ _. nums) params (λ m lt. nums_alive) (λ w. apart_by _ _ refl) (λ e m c. (nums_rule e m).law) n b d))
-      (made_rule _ (squares_rule (λ _. interval) params (λ m lt. interval_alive) (λ w. apart_by _ _ refl) (λ e m c. (interval_rule e m).law) n b d)) refl (apart_by _ _ refl)
+  hashed_rule = either_rule (made_rule _ (nested_rule braces (λ _. nums) params (λ m lt. nums_alive) (λ w. apart_by _ _ refl) (λ e m c. nums_rule e m) d n b))
+      (made_rule _ (nested_rule squares (λ _. interval) params (λ m lt. interval_alive) (λ w. apart_by _ _ refl) (λ e m c. interval_rule e m) d n b)) refl (apart_by _ _ refl)
 
   pub card_kind_rule : RuleAt params d n card_kind
   unfolding card_kind hashed
@@ -65,7 +64,7 @@ module _ (params : Params) (n : ℕ) (b : Below params n) (d : ℕ) where
 
   pub gprim_rule : RuleAt params d n gprim
   unfolding gprim name inside gen gconjs gconj gprims next_gprim next_gconj
-  gprim_rule = either_rule (parentheses_rule (λ j. j.gen) params (λ m lt. gen_alive (under params m)) (λ w. apart_by _ _ refl) (λ e m c. c.gen_is) n b d)
+  gprim_rule = either_rule (nested_rule parentheses (λ j. j.gen) params (λ m lt. gen_alive (under params m)) (λ w. apart_by _ _ refl) (λ e m c. c.gen_is) d n b)
       (spanned_rule _ (made_rule _ (name_rule d n)) refl) refl (apart_by _ _ refl)
 
   pub next_gprim_rule : RuleAt params d n next_gprim
@@ -74,7 +73,7 @@ module _ (params : Params) (n : ℕ) (b : Below params n) (d : ℕ) where
 
   pub gprims_rule : RuleAt params d n gprims
   unfolding gprims gprim name next_gprim
-  gprims_rule = chain_rule gprim_rule next_gprim_rule (next_gprim_steady _ (under_steady params d)) (next_gprim_steady _ (under_steady params n)) refl (apart_by _ _ refl) (apart_by _ _ refl)
+  gprims_rule = chain_rule gprim_rule next_gprim_rule refl (apart_by _ _ refl) (apart_by _ _ refl)
 
   pub gconj_rule : RuleAt params d n gconj
   unfolding gconj gprims gprim name next_gprim
@@ -86,7 +85,7 @@ module _ (params : Params) (n : ℕ) (b : Below params n) (d : ℕ) where
 
   pub gconjs_rule : RuleAt params d n gconjs
   unfolding gconjs gconj gprims gprim name next_gprim next_gconj
-  gconjs_rule = chain_rule gconj_rule next_gconj_rule (next_gconj_steady _ (under_steady params d)) (next_gconj_steady _ (under_steady params n)) refl (apart_by _ _ refl) (apart_by _ _ refl)
+  gconjs_rule = chain_rule gconj_rule next_gconj_rule refl (apart_by _ _ refl) (apart_by _ _ refl)
 
   pub gen_rule : RuleAt params d n gen
   unfolding gen gconjs gconj gprims gprim name next_gprim next_gconj
@@ -98,7 +97,7 @@ module _ (params : Params) (n : ℕ) (b : Below params n) (d : ℕ) where
   unfolding term_kind bracketed_names gen gconjs gconj gprims gprim name next_gprim next_gconj card card_kind hashed inside elems elem elem_kind elem_tail term
   term_kind_rule =
       either_rule (made_rule _ (word_rule k.Number (plain_by _ refl refl) d n))
-      (either_rule (made_rule _ (braces_rule (λ j. j.elems) params (λ m lt. elems_alive params (under params m)) (λ w. apart_by _ _ refl) (λ e m c. c.elems_is) n b d))
+      (either_rule (made_rule _ (nested_rule braces (λ j. j.elems) params (λ m lt. elems_alive params (under params m)) (λ w. apart_by _ _ refl) (λ e m c. c.elems_is) d n b))
       (either_rule (made_rule _ bracketed_names_rule)
       (either_rule (made_rule _ (behind_rule (word_rule k.Dollar (plain_by _ refl refl) d n) gen_rule (apart_by _ _ refl)))
       (either_rule (made_rule _ (constant_rule d n))
@@ -125,7 +124,7 @@ module _ (params : Params) (n : ℕ) (b : Below params n) (d : ℕ) where
 
   pub elems_rule : RuleAt params d n (elems params)
   unfolding elems elem elem_kind bracketed_names name elem_tail term term_kind gen gconjs gconj gprims gprim next_gprim next_gconj card card_kind hashed
-  elems_rule = many_rule elem_rule (elem_steady params _ (under_steady params d)) (elem_steady params _ (under_steady params n)) refl (apart_by _ _ refl)
+  elems_rule = many_rule elem_rule refl (apart_by _ _ refl)
 
   pub keyed_term_rule : RuleAt params d n (keyed_term params)
   unfolding keyed_term name term term_kind bracketed_names gen gconjs gconj gprims gprim next_gprim next_gconj card card_kind hashed
@@ -133,8 +132,8 @@ module _ (params : Params) (n : ℕ) (b : Below params n) (d : ℕ) where
 
   pub terms_rule : RuleAt params d n (terms params)
   unfolding terms keyed_term name term term_kind bracketed_names gen gconjs gconj gprims gprim next_gprim next_gconj card card_kind hashed
-  terms_rule = many_rule keyed_term_rule (keyed_term_steady params _ (under_steady params d)) (keyed_term_steady params _ (under_steady params n)) refl (apart_by _ _ refl)
+  terms_rule = many_rule keyed_term_rule refl (apart_by _ _ refl)
 
   pub braced_terms_rule : RuleAt params d n braced_terms
   unfolding braced_terms inside terms keyed_term name term term_kind bracketed_names gen gconjs gconj gprims gprim next_gprim next_gconj card card_kind hashed
-  braced_terms_rule = braces_rule (λ j. j.terms) params (λ m lt. terms_alive params (under params m)) (λ w. apart_by _ _ refl) (λ e m c. c.terms_is) n b d
+  braced_terms_rule = nested_rule braces (λ j. j.terms) params (λ m lt. terms_alive params (under params m)) (λ w. apart_by _ _ refl) (λ e m c. c.terms_is) d n b

@@ -2,7 +2,7 @@
 use Rattle.std.proofs.Common.{◌≡◌, ℕ, zero, suc, ◌<◌, Bool, true, false, if◌then◌else◌, List, [], ◌∷◌, ◌++◌, length, Ok, refl, sym, ◌∙◌, ap, inl, inr, subst, append_assoc, arith}
 use Rattle.xdg_base.specs.declared.places.Span.{Span}
 use Rattle.xdg_ast.specs.Lexemes.{Lexeme}
-use Rattle.xdg_ast.specs.Language.{Language, Kinds, kind_of, sees, start_of, ended_by, span_of, State, Outcome, ◌>>=◌, skip, next, read_token, token, nothing, bind, both, either, items, many, full, room, nested, spanned, made, behind, pair, optional, chain}
+use Rattle.xdg_ast.specs.Language.{Language, Kinds, kind_of, sees, start_of, ended_by, span_of, State, Outcome, ◌>>=◌, skip, next, read_token, token, nothing, bind, both, either, items, many, full, room, nested, spanned}
 use Rattle.xdg_parse.specs.Steadiness.{at, Taken, Steady}
 use Rattle.xdg_parse.proofs.Ended.{ended-append}
 use Rattle.xdg_parse.proofs.Shrinking.{bind_ok, ok-parts, token_shrinks, nothing_shrinks, bind_shrinks, either_shrinks, many_shrinks, spanned_shrinks, full_shrinks, room_shrinks}
@@ -165,20 +165,3 @@ module _ {A B : Type 0} (f : Span → A → B) (l : Language A) (a : Steady l) (
         let lt : length g.0.1.left < length s.left = omega arith in
         moved (spanned f l) s (f (record { start = start_of s.left; end = g.0.1.ended }) g.0.0) z g.0.1 s' i.0 i.1 (with-span f l s g.0.0 g.0.1 (a.sound s g.0.0 g.0.1 g.1) lt);
   }
-
--- ---- said by those
-
-pub made_steady : {A B : Type 0} (f : A → B) (l : Language A) → Steady l → Steady (made f l)
-made_steady f l a = both_steady (λ x _. f x) l (nothing tt) a (nothing_steady tt)
-
-pub behind_steady : {A B : Type 0} (l : Language A) (m : Language B) → Steady l → Steady m → Steady (behind l m)
-behind_steady l m a b = both_steady (λ _ y. y) l m a b
-
-pub pair_steady : {A B : Type 0} (l : Language A) (m : Language B) → Steady l → Steady m → Steady (pair l m)
-pair_steady l m a b = both_steady (λ x y. (x, y)) l m a b
-
-pub optional_steady : {A : Type 0} (l : Language A) → Steady l → Steady (optional l)
-optional_steady l a = either_steady _ _ (made_steady _ l a) (nothing_steady _)
-
-pub chain_steady : {A : Type 0} (l m : Language A) → Steady l → Steady m → Steady (chain l m)
-chain_steady l m a b = both_steady (λ x xs. x ∷ xs) l (many m) a (many_steady m b)

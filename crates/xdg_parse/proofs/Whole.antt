@@ -13,7 +13,6 @@ use Rattle.xdg_ast.specs.Derives.{DerivesWithin, Derives, most_brackets, IsShall
 use Rattle.xdg_parse.specs.Steadiness.{at}
 use Rattle.xdg_parse.specs.Laws.{Says, Law}
 use Rattle.xdg_parse.proofs.Laws.{one, some-same, some-from}
-use Rattle.xdg_parse.proofs.SteadyRules.{statements_steady}
 use Rattle.xdg_parse.proofs.RulesStatements.{statements_rule}
 
 statements_law : (d n : ℕ) → Law d n (statements d) (statements n)
@@ -53,7 +52,7 @@ grammar_of ts g = record { statements = g; span = span_of ts }
 was-read : (ts : List Lexeme) (g : List Statement) (s : State) → (statements 64).read (at 0 ts) ≡ Ok (g, s) → s.left ≡ []
     → DerivesWithin most_brackets ts (record { statements = g; span = record { start = start_of ts; end = s.ended } })
 was-read ts g s h e =
-    let took = (statements_steady 64).sound (at 0 ts) g s h in
+    let took = (statements_rule 64 64).steady.sound (at 0 ts) g s h in
     let all : took.used ≡ ts = sym (took.split ∙ ap (λ us. took.used ++ us) e ∙ append-nil took.used) in
     let over : s.ended ≡ ended_by 0 ts = took.ended ∙ ap (ended_by 0) all in
     (subst (λ us. (statements 64).means us g) all took.means, ap (λ n. record { start = start_of ts; end = n }) over)
