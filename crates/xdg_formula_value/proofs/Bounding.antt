@@ -1,10 +1,8 @@
--- Nodes that are possible for a name, whatever a second name stands for, form by form.
+-- Nodes that are possible for a name, whatever a second name stands for.
 use Rattle.std.proofs.Common.{◌≡◌, ◌↔◌, ℕ, ◌+◌, ◌<◌, ◌≤◌, inl, inr, Bool, true, false, cond, ◌&&◌, List, length, map, take, get_or, refl, sym, ◌∙◌, subst, arith}
 use Rattle.std.specs.Prelude.{not, ◌==◌}
-use Rattle.std.proofs.lemmas.Bool.{and_from, and_parts, cases_Bool, eqb-true, not_from_false}
+use Rattle.std.proofs.lemmas.Bool.{and_from, cases_Bool, eqb-true, not_from_false}
 use Rattle.std.proofs.lemmas.List.{take_all}
-use Rattle.xdg_base.specs.declared.ids.DimId.{DimId}
-use Rattle.xdg_base.specs.declared.ids.LabelId.{LabelId}
 use Rattle.xdg_problem.specs.declared.formula.Formula.{Formula}
 use Rattle.xdg_problem.specs.declared.formula.Formula.TheVariants as y
 use Rattle.xdg_problem.specs.declared.parts.Parts.{Parts}
@@ -17,9 +15,8 @@ use Rattle.xdg_graph.specs.Every.{IsEvery}
 use Rattle.xdg_formula_value.specs.Rows.{AreFirst, Bounds, IsRow, Joined, open_in}
 use Rattle.xdg_formula_value.specs.Several.{MakesSeveral}
 use Rattle.xdg_formula_value.specs.declared.pair.Pair.{Pair}
-use Rattle.xdg_formula_value.specs.declared.pair.Pair.TheVariants as pairs
-use Rattle.xdg_formula_value.proofs.Formed.{not_makes, and_several, or_several, edge_form, above_form, left_form, same_form}
-use Rattle.xdg_formula_value.proofs.Fronts.{several_more, several_none}
+use Rattle.xdg_formula_value.proofs.Fronts.{item_of, several_more, several_none}
+use Rattle.xdg_formula_value.proofs.Rowed.{open_first}
 use Rattle.xdg_formula_value.proofs.Stood.{bound_else}
 use Rattle.xdg_facts.specs.Rises.{has}
 use Rattle.xdg_nodeset.proofs.TableSets.{none_in}
@@ -39,10 +36,6 @@ joined_shut false care old still v P Q within is p shut one = elim (cases_Bool (
   | inr off ↦ absurd (shut (is ∙ and_from (has care v) (not (has old v)) within (not_from_false (has old v) off)))
 ]
 
--- all nodes are possible
-pub bounds_all : (n : ℕ) (care : List ℕ) (P : ℕ → ℕ → Type 0) (set : List ℕ) → n ≤ 128 → AreFirst n care → ((v : ℕ) → v < 128 → has set v ≡ true) → Bounds care P set
-bounds_all n care P set few first all v node within so = all v (let l = first v within in omega (arith, l, few))
-
 -- two names are bound in either order
 swapped : (at_other at_name : Bool) (node v rest : ℕ) → (at_other ≡ true → at_name ≡ true → ⊥) → cond at_other node (cond at_name v rest) ≡ cond at_name v (cond at_other node rest)
 swapped true true node v rest differ = absurd (differ refl refl)
@@ -57,9 +50,6 @@ module _ (parts : Parts) (box : List (List Bool)) (truth : Bool) (b : ℕ → �
   -- a first node for the name and a second one for the other make the formula so
   abbrev pub Possible : Formula → ℕ → ℕ → Type 0
   Possible f v node = Makes parts box (claim f) truth (bound (bound b name v) other node)
-
-  pub not_bounds : (formula f g : Formula) (set : List ℕ) → formula ≡ y.Not f → g ≡ f → Bounds care (λ v node. Makes parts box (claim g) (not truth) (bound (bound b name v) other node)) set → Bounds care (Possible formula) set
-  not_bounds formula f g set is alike bounds v node within so = bounds v node within ((not_makes parts box truth (bound (bound b name v) other node) formula f g is alike).1 so)
 
   -- ---- conjunctions and disjunctions
 
@@ -80,16 +70,7 @@ module _ (parts : Parts) (box : List (List Bool)) (truth : Bool) (b : ℕ → �
       pub several_bounds_skip : length still ≡ 0 → Bounds care (SeveralPossible each (take (i + 1) fs)) old
       several_bounds_skip none v node within so = joined_shut each care old still v (SeveralPossible each (take i fs) v node) (Possible f v node) within (open_is v) (so_far v node within) (none_in still v none) (parts_of v node so)
 
-    pub several_bounds_end : (i : ℕ) (set : List ℕ) → length fs ≤ i → Bounds care (SeveralPossible each (take i fs)) set → Bounds care (SeveralPossible each fs) set
-    several_bounds_end i set past bounds = subst (λ gs. Bounds care (SeveralPossible each gs) set) (take_all i fs past) bounds
-
-  pub and_bounds : (formula : Formula) (fs items : List Formula) (set : List ℕ) → formula ≡ y.And fs → items ≡ fs → Bounds care (SeveralPossible truth items) set → Bounds care (Possible formula) set
-  and_bounds formula fs items set is alike bounds v node within so = bounds v node within ((and_several parts box truth (bound (bound b name v) other node) formula fs items is alike).1 so)
-
-  pub or_bounds : (formula : Formula) (fs items : List Formula) (set : List ℕ) → formula ≡ y.Or fs → items ≡ fs → Bounds care (SeveralPossible (not truth) items) set → Bounds care (Possible formula) set
-  or_bounds formula fs items set is alike bounds v node within so = bounds v node within ((or_several parts box truth (bound (bound b name v) other node) formula fs items is alike).1 so)
-
-  -- ---- atoms
+  -- ---- pairs
 
   -- what stands for another name stays
   stays : (P : ℕ → Type 0) (first v node : ℕ) → (first ≡ other → ⊥) → P (bound (bound b name v) other node first) → P (bound b name v first)
@@ -102,31 +83,11 @@ module _ (parts : Parts) (box : List (List Bool)) (truth : Bool) (b : ℕ → �
       (stays (λ k. HasTruth truth (Relates pair (edges_for truth) parts box k (bound b name v second))) first v node first_differs
       (stays (λ k. HasTruth truth (Relates pair (edges_for truth) parts box (bound (bound b name v) other node first) k)) second v node second_differs so))
 
-  module _ (formula : Formula) (set : List ℕ) where
-    -- where the set bounds what holds of a pair
-    abbrev pub BoundsPair : Pair → ℕ → ℕ → Type 0
-    BoundsPair pair first second = (v node : ℕ) → v < nodes parts → HasTruth truth (Relates pair (edges_for truth) parts box (bound (bound b name v) other node first) (bound (bound b name v) other node second)) → has set v ≡ true
-
-    pub edge_bounds : (dim : DimId) (mother : ℕ) (label : LabelId) (daughter : ℕ) → formula ≡ y.Edge dim mother label daughter → AreFirst (nodes parts) care → BoundsPair (pairs.Edge dim label) mother daughter → Bounds care (Possible formula) set
-    edge_bounds dim mother label daughter is first pair v node within so = pair v node (first v within) ((edge_form parts box truth (bound (bound b name v) other node) formula dim mother label daughter is).1 so)
-
-    pub above_bounds : (dim : DimId) (upper lower : ℕ) → formula ≡ y.Above dim upper lower → AreFirst (nodes parts) care → BoundsPair (pairs.Path dim) upper lower → Bounds care (Possible formula) set
-    above_bounds dim upper lower is first pair v node within so = pair v node (first v within) ((above_form parts box truth (bound (bound b name v) other node) formula dim upper lower is).1 so)
-
-    pub left_bounds : (one two : ℕ) → formula ≡ y.Left one two → AreFirst (nodes parts) care → BoundsPair pairs.Left one two → Bounds care (Possible formula) set
-    left_bounds one two is first pair v node within so = pair v node (first v within) ((left_form parts box truth (bound (bound b name v) other node) formula one two is).1 so)
-
-    pub same_bounds : (one two : ℕ) → formula ≡ y.Same one two → AreFirst (nodes parts) care → BoundsPair pairs.Same one two → Bounds care (Possible formula) set
-    same_bounds one two is first pair v node within so = pair v node (first v within) ((same_form parts box truth (bound (bound b name v) other node) formula one two is).1 so)
-
   -- ---- nodes that are possible for the second name
 
   module _ (f : Formula) (all : List ℕ) (every : IsEvery (nodes parts) all) where
-    pub second_all : (v node : ℕ) → node < nodes parts → Possible f v node → has all node ≡ true
-    second_all v node l so = (every node).1 l
-
     pub second_bounds : (set met : List ℕ) → (other ≡ name → ⊥) → Bounds all (λ w node. Makes parts box (claim f) truth (bound (bound b other w) name node)) set → ((v : ℕ) → has met v ≡ (has all v && has set v)) → (v node : ℕ) → node < nodes parts → Possible f v node → has met node ≡ true
     second_bounds set met differ bounds meets v node l so = meets node ∙ and_from (has all node) (has set node) ((every node).1 l) (bounds node v ((every node).1 l) (subst (Makes parts box (claim f) truth) (bound_swapped b name other v node differ) so))
 
-    pub second_first : (set met : List ℕ) → ((v : ℕ) → has met v ≡ (has all v && has set v)) → AreFirst (nodes parts) met
-    second_first set met meets v h = (every v).0 (and_parts (has all v) (has set v) (sym (meets v) ∙ h)).0
+-- what a loop over parts asks for
+pub ruleset several_steps = (take_all, item_of, open_first, several_bounds_start, several_bounds_skip)

@@ -18,6 +18,9 @@ part_of parts [] i d l all = absurd (omega (arith, l))
 part_of parts (f ∷ fs) zero d l all = all.0
 part_of parts (f ∷ fs) (suc i) d l all = part_of parts fs i d (omega (arith, l)) all.1
 
+pub item_of : (parts : Parts) (fs : List Formula) (i : ℕ) (f : Formula) → f ≡ get_or fs i f → i < length fs → EachIsOf parts (claims_of (map claim fs)) → IsOf parts (claim f)
+item_of parts fs i f is l all = subst (λ g. IsOf parts (claim g)) (sym is) (part_of parts fs i f l all)
+
 module _ (parts : Parts) (box : List (List Bool)) (b : ℕ → ℕ) where
   each_split : (truth : Bool) (cs : List Claim) (c : Claim) → MakesEach parts box (claims_of (cs ++ c ∷ [])) truth b ↔ (MakesEach parts box (claims_of cs) truth b × Makes parts box c truth b)
   each_split truth [] c = (λ m. (tt, m.0), λ m. (m.1, tt))
@@ -47,11 +50,11 @@ module _ (parts : Parts) (box : List (List Bool)) (b : ℕ → ℕ) where
   several_none truth false = (λ h. false≢true h, λ h. absurd h)
 
   -- all parts
-  pub and_over : (truth : Bool) (cs : Claims) → MakesSeveral truth parts box cs truth b ↔ Makes parts box (conjunction cs) truth b
+  pub and_over : (truth : Bool) (cs : Claims) → Makes parts box (conjunction cs) truth b ↔ MakesSeveral truth parts box cs truth b
   and_over true cs = (λ h. h, λ h. h)
   and_over false cs = (λ h. h, λ h. h)
 
-  pub or_over : (truth : Bool) (cs : Claims) → MakesSeveral (not truth) parts box cs truth b ↔ Makes parts box (disjunction cs) truth b
+  pub or_over : (truth : Bool) (cs : Claims) → Makes parts box (disjunction cs) truth b ↔ MakesSeveral (not truth) parts box cs truth b
   or_over true cs = (λ h. h, λ h. h)
   or_over false cs = (λ h. h, λ h. h)
 

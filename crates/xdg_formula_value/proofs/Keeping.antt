@@ -155,9 +155,3 @@ module _ (parts : Parts) (old new : List (List Bool)) where
 
   pub keeps_left : (e : Edge) → (Must parts new e → ⊥) → Lasts whichs.May parts old new e.dim.0 e.mother.0 e.daughter.0 → KeepsPath parts old new e.dim.0 (decisions.Place e)
   keeps_left e mustnt lasts same = (λ must. absurd (mustnt must), λ isnt. lasts.2)
-
-pub keeps_else : (parts : Parts) (old new : List (List Bool)) (e : Edge) (dim : ℕ) → (e.dim.0 ≡ dim → ⊥) → KeepsPath parts old new dim (decisions.Place e)
-keeps_else parts old new e dim other same = absurd (other same)
-
-pub keeps_like : (parts : Parts) (old new : List (List Bool)) (e : Edge) (dim : ℕ) (d : Decision) → e.dim.0 ≡ dim → d ≡ decisions.Place e → KeepsPath parts old new e.dim.0 (decisions.Place e) → KeepsPath parts old new dim d
-keeps_like parts old new e dim d same is keeps = subst (KeepsPath parts old new dim) (sym is) (subst (λ n. KeepsPath parts old new n (decisions.Place e)) same keeps)

@@ -1,3 +1,4 @@
+pub mod Claiming
 pub mod Stood
 pub mod Edged
 pub mod Tabled

@@ -6,7 +6,7 @@ use Rattle.xdg_base.specs.declared.ids.DimId.{DimId}
 use Rattle.xdg_base.specs.declared.ids.LabelId.{LabelId}
 use Rattle.xdg_problem.specs.declared.parts.Parts.{Parts}
 use Rattle.xdg_problem.specs.Boxes.{IsBox}
-use Rattle.xdg_problem.specs.Paths.{Above, IsDaughterBy}
+use Rattle.xdg_problem.specs.Paths.{IsDaughterBy}
 use Rattle.xdg_problem.specs.Places.{nodes}
 use Rattle.xdg_problem.specs.Truths.{bound}
 use Rattle.xdg_problem.specs.Vectors.{shape}
@@ -86,13 +86,6 @@ module _ (which : Which) (way : Way) (parts : Parts) (box : List (List Bool)) (n
 
   pub pair_dim : (pair : Pair) (dim : DimId) → pair ≡ pairs.Path dim → IsPairOf parts pair → dim.0 < length parts.dims
   pair_dim pair dim is right = subst (IsPairOf parts) is right
-
-  -- the nodes at the ends of paths
-  pub path_row : (dim : DimId) (to : Way) → way ≡ to → ((x : ℕ) → (has set x ≡ true) ↔ Along to (Above (edges_of which parts box dim.0)) node x) → IsRow (nodes parts) (Along way (Relates (pairs.Path dim) which parts box) node) set
-  path_row dim to is exact = subst (λ w. IsRow (nodes parts) (Along w (Relates (pairs.Path dim) which parts box) node) set) (sym is) (by to exact) where
-    by : (w : Way) → ((x : ℕ) → (has set x ≡ true) ↔ Along w (Above (edges_of which parts box dim.0)) node x) → IsRow (nodes parts) (Along w (Relates (pairs.Path dim) which parts box) node) set
-    by ways.Down told v l = told v
-    by ways.Up told v l = told v
 
   -- the nodes before a node
   pub before_row : way ≡ ways.Up → ((v : ℕ) → (has set v ≡ true) ↔ (v < node)) → IsRow (nodes parts) (Along way (Relates pairs.Left which parts box) node) set

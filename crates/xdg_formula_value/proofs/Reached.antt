@@ -32,12 +32,6 @@ use Rattle.xdg_facts.proofs.Rising.{few_of}
 abbrev pub IsNext : Way → (ℕ → ℕ → Type 0) → ℕ → List ℕ → Type 0
 IsNext way R node set = (x : ℕ) → IsTrue (has set x) ↔ Along way R node x
 
-pub next_down : (way : Way) (R : ℕ → ℕ → Type 0) (node : ℕ) (set : List ℕ) → way ≡ ways.Down → ((x : ℕ) → IsTrue (has set x) ↔ R node x) → IsNext way R node set
-next_down way R node set is exact = subst (λ w. IsNext w R node set) (sym is) exact
-
-pub next_up : (way : Way) (R : ℕ → ℕ → Type 0) (node : ℕ) (set : List ℕ) → way ≡ ways.Up → ((x : ℕ) → IsTrue (has set x) ↔ R x node) → IsNext way R node set
-next_up way R node set is exact = subst (λ w. IsNext w R node set) (sym is) exact
-
 module _ (which : Which) (parts : Parts) (box : List (List Bool)) (dim : ℕ) (is_box : IsBox (shape parts) box) where
   abbrev edges : List Edge
   edges = edges_of which parts box dim

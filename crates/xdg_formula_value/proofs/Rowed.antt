@@ -43,10 +43,6 @@ open_first false n care old still first is v h = first v (and_parts (has care v)
 pub row_like : (care : List ℕ) (P Q : ℕ → Type 0) (set : List ℕ) → ((v : ℕ) → P v ↔ Q v) → IsRowOn care P set → IsRowOn care Q set
 row_like care P Q set like row v within = (λ h. (like v).0 ((row v within).0 h), λ q. (row v within).1 ((like v).1 q))
 
--- a row of all nodes is one of some
-pub row_on : (n : ℕ) (care : List ℕ) (P : ℕ → Type 0) (set : List ℕ) → AreFirst n care → IsRow n P set → IsRowOn care P set
-row_on n care P set first row v within = row v (first v within)
-
 pub row_told : (n : ℕ) (truth : Bool) (P : ℕ → Type 0) (set new : List ℕ) → n ≤ 128 → IsRow n P set → ((v : ℕ) → v < 128 → HasTruth truth (has set v ≡ true) ↔ (has new v ≡ true)) → IsRow n (λ v. HasTruth truth (P v)) new
 row_told n true P set new few row told v l = (λ h. (row v l).0 ((told v (omega (arith, l, few))).1 h), λ p. (told v (omega (arith, l, few))).0 ((row v l).1 p))
 row_told n false P set new few row told v l = (λ h p. (told v (omega (arith, l, few))).1 h ((row v l).1 p), λ none. (told v (omega (arith, l, few))).0 (λ there. none ((row v l).0 there)))

@@ -11,7 +11,6 @@ use Rattle.xdg_store.specs.States.{State}
 use Rattle.xdg_formula_value.specs.Filling.{TellsPaths}
 use Rattle.xdg_formula_value.specs.Pairs.{Along}
 use Rattle.xdg_formula_value.specs.declared.way.Way.{Way}
-use Rattle.xdg_formula_value.specs.declared.way.Way.TheVariants as ways
 use Rattle.xdg_facts.specs.Rises.{has}
 
 module _ (way : Way) (which : Which) (s : State) (k : ℕ) (known : List Bool) (tables : List (List (List ℕ))) (before : TellsPaths way which s k known tables) where
@@ -31,12 +30,6 @@ module _ (way : Way) (which : Which) (s : State) (k : ℕ) (known : List Bool) (
   ]
 
 -- a table of one way
-
-pub table_down : (way : Way) (which : Which) (s : State) (dim : ℕ) (table : List (List ℕ)) → way ≡ ways.Down → ((a b : ℕ) → In table a b ↔ Above (edges_of which s.parts s.now dim) a b) → (a b : ℕ) → In table a b ↔ Along way (Above (edges_of which s.parts s.now dim)) a b
-table_down way which s dim table is exact = subst (λ w. (a b : ℕ) → In table a b ↔ Along w (Above (edges_of which s.parts s.now dim)) a b) (sym is) exact
-
-pub table_up : (way : Way) (which : Which) (s : State) (dim : ℕ) (table : List (List ℕ)) → way ≡ ways.Up → ((a b : ℕ) → In table a b ↔ Above (edges_of which s.parts s.now dim) b a) → (a b : ℕ) → In table a b ↔ Along way (Above (edges_of which s.parts s.now dim)) a b
-table_up way which s dim table is exact = subst (λ w. (a b : ℕ) → In table a b ↔ Along w (Above (edges_of which s.parts s.now dim)) a b) (sym is) exact
 
 -- all eight
 pub tells_all : (way : Way) (which : Which) (s : State) (k : ℕ) (known : List Bool) (tables : List (List (List ℕ))) → 8 ≤ k → TellsPaths way which s k known tables → TellsPaths way which s 8 known tables

@@ -1,5 +1,5 @@
--- What a box makes of a formula under one binding, form by form.
-use Rattle.std.proofs.Common.{◌≡◌, ◌↔◌, ℕ, ◌+◌, ◌<◌, ◌≤◌, IsTrue, inl, inr, Bool, true, false, List, length, map, take, get_or, refl, sym, ◌∙◌, ap, subst}
+-- What a box makes of a formula under one binding.
+use Rattle.std.proofs.Common.{◌≡◌, ◌↔◌, ℕ, ◌+◌, ◌<◌, IsTrue, inl, inr, Bool, true, false, List, length, map, take, get_or, refl, sym, ◌∙◌}
 use Rattle.std.specs.Prelude.{not}
 use Rattle.std.proofs.lemmas.Bool.{false≢true}
 use Rattle.std.proofs.lemmas.List.{take_all}
@@ -8,15 +8,14 @@ use Rattle.xdg_problem.specs.declared.formula.Formula.TheVariants as y
 use Rattle.xdg_problem.specs.declared.parts.Parts.{Parts}
 use Rattle.xdg_problem.specs.Claims.{claims_of, claim}
 use Rattle.xdg_problem.specs.Places.{nodes}
-use Rattle.xdg_problem.specs.Truths.{bound, AreNodes}
+use Rattle.xdg_problem.specs.Truths.{bound}
 use Rattle.xdg_rules.specs.Worths.{Makes}
 use Rattle.xdg_graph.specs.Every.{IsEvery}
 use Rattle.xdg_formula_value.specs.Rows.{IsRowOn, Joined, Over}
 use Rattle.xdg_formula_value.specs.Several.{MakesSeveral}
-use Rattle.xdg_formula_value.proofs.Formed.{not_makes, and_several, or_several, every_makes, any_makes}
-use Rattle.xdg_formula_value.proofs.Fronts.{several_more, several_none}
+use Rattle.xdg_formula_value.proofs.Formed.{every_makes, any_makes}
+use Rattle.xdg_formula_value.proofs.Fronts.{item_of, several_more, several_none}
 use Rattle.xdg_formula_value.proofs.Rowed.{over_told}
-use Rattle.xdg_formula_value.proofs.Stood.{bound_back}
 use Rattle.xdg_facts.proofs.Facts.{both_steps}
 use Rattle.xdg_facts.specs.Rises.{has}
 
@@ -35,9 +34,6 @@ undecided false so_far here P Q still told now = (
 )
 
 module _ (parts : Parts) (box : List (List Bool)) (truth : Bool) (b : ℕ → ℕ) where
-  pub not_told : (formula f g : Formula) (result : Bool) → formula ≡ y.Not f → g ≡ f → IsTrue result ↔ Makes parts box (claim g) (not truth) b → IsTrue result ↔ Makes parts box (claim formula) truth b
-  not_told formula f g result is alike told = both_steps told (not_makes parts box truth b formula f g is alike)
-
   module _ (each : Bool) where
     -- the box makes each of some formulas so, or one or more of them
     abbrev pub SeveralMade : List Formula → Type 0
@@ -53,15 +49,6 @@ module _ (parts : Parts) (box : List (List Bool)) (truth : Bool) (b : ℕ → �
       pub several_turn : (here : Bool) → so_far ≡ each → IsTrue here ↔ Makes parts box (claim f) truth b → (here ≡ true) ↔ SeveralMade (take (i + 1) fs)
       several_turn here still now = both_steps (undecided each so_far here (SeveralMade (take i fs)) (Makes parts box (claim f) truth b) still told now) (several_more parts box b truth each fs i f l is)
 
-    pub several_end : (fs : List Formula) (i : ℕ) (result : Bool) → length fs ≤ i → (result ≡ true) ↔ SeveralMade (take i fs) → IsTrue result ↔ SeveralMade fs
-    several_end fs i result past told = subst (λ gs. IsTrue result ↔ SeveralMade gs) (take_all i fs past) told
-
-  pub and_told : (formula : Formula) (fs items : List Formula) (result : Bool) → formula ≡ y.And fs → items ≡ fs → IsTrue result ↔ SeveralMade truth items → IsTrue result ↔ Makes parts box (claim formula) truth b
-  and_told formula fs items result is alike told = both_steps told (and_several parts box truth b formula fs items is alike)
-
-  pub or_told : (formula : Formula) (fs items : List Formula) (result : Bool) → formula ≡ y.Or fs → items ≡ fs → IsTrue result ↔ SeveralMade (not truth) items → IsTrue result ↔ Makes parts box (claim formula) truth b
-  or_told formula fs items result is alike told = both_steps told (or_several parts box truth b formula fs items is alike)
-
   module _ (formula f g : Formula) (name : ℕ) (alike : g ≡ f) (all row : List ℕ) (holds : Bool) (size : ℕ) (every : IsEvery (nodes parts) all) (size_is : size ≡ nodes parts) (row_is : IsRowOn all (λ v. Makes parts box (claim g) truth (bound b name v)) row) where
     pub every_told : formula ≡ y.Every name f → IsTrue holds ↔ Over truth size (λ v. has row v ≡ true) → IsTrue holds ↔ Makes parts box (claim formula) truth b
     every_told is told = both_steps (over_told truth holds size (nodes parts) all (λ v. Makes parts box (claim g) truth (bound b name v)) row size_is every row_is told) (every_makes parts box truth b formula name f g is alike)
@@ -69,9 +56,5 @@ module _ (parts : Parts) (box : List (List Bool)) (truth : Bool) (b : ℕ → �
     pub any_told : formula ≡ y.Any name f → IsTrue holds ↔ Over (not truth) size (λ v. has row v ≡ true) → IsTrue holds ↔ Makes parts box (claim formula) truth b
     any_told is told = both_steps (over_told (not truth) holds size (nodes parts) all (λ v. Makes parts box (claim g) truth (bound b name v)) row size_is every row_is told) (any_makes parts box truth b formula name f g is alike)
 
-  -- what a row says at the node for which a name stands anyway
-  pub row_told : (formula : Formula) (all row : List ℕ) (holds : Bool) (node : ℕ) → IsEvery (nodes parts) all → AreNodes parts b → IsRowOn all (λ v. Makes parts box (claim formula) truth (bound b 0 v)) row → node ≡ b 0 → holds ≡ has row node → IsTrue holds ↔ Makes parts box (claim formula) truth b
-  row_told formula all row holds node every are row_is at holds_is =
-      let here = row_is (b 0) ((every (b 0)).1 (are 0)) in
-      let same : holds ≡ has row (b 0) = holds_is ∙ ap (has row) at in
-      (λ h. subst (Makes parts box (claim formula) truth) (bound_back b 0) (here.0 (sym same ∙ h)), λ m. same ∙ here.1 (subst (Makes parts box (claim formula) truth) (sym (bound_back b 0)) m))
+-- what a loop over parts asks for
+pub ruleset several_steps = (take_all, item_of, several_start)

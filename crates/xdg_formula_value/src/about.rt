@@ -232,6 +232,7 @@ fn found_edge(
 /// with which paths for which it asks may be new since a mark, or gone. For which nodes some of the names stand follows from the decision. It
 /// notes where not all was seen.
 #[cycle(about)]
+#[tactic(auto, using(crate::proofs::Claiming::the_claims))]
 fn found_about(
     store: &Store,
     paths: &Paths,
@@ -313,6 +314,7 @@ fn found_about(
 
 /// The same, where it is one of some parts that looks at the decision.
 #[cycle(about)]
+#[tactic(auto, using(xdg_problem::specs::declared::formula::Formula::TheViews::the_lemmas, crate::proofs::Concerning::touched_steps))]
 fn found_among(
     store: &Store,
     paths: &Paths,

@@ -46,6 +46,7 @@ fn are_paths_local(
 /// look at the whole: where an edge, an attribute, an entry or a path that may be new or gone has none of some names, and where the formula
 /// has quantifiers or asks for paths, of which no tables are made then, and more than one value was removed.
 #[cycle(local)]
+#[tactic(auto, using(crate::proofs::Claiming::the_claims))]
 pub(crate) fn is_local(store: &Store, names: NodeSet, formula: &Formula, since: Mark) -> bool
     requires earlier { HasEarlier store.now since }
     ensures { IsTrue result → AsksIf (LosesOne store.now.parts (box_at store.now since) store.now.now) (claim formula.now) }
@@ -81,6 +82,7 @@ pub(crate) fn is_local(store: &Store, names: NodeSet, formula: &Formula, since: 
 
 /// The same of each of some formulas.
 #[cycle(local)]
+#[tactic(auto, using(xdg_problem::specs::declared::formula::Formula::TheViews::the_lemmas, crate::proofs::Locals::each_steps))]
 fn are_local(store: &Store, names: NodeSet, formulas: &[Formula], since: Mark) -> bool
     requires earlier { HasEarlier store.now since }
     ensures { IsTrue result → EachAsksIf (LosesOne store.now.parts (box_at store.now since) store.now.now) (claims_of (map claim formulas.now)) }

@@ -53,6 +53,7 @@ fn possible_pair(
 /// Of some nodes, at least those for which a name has to stand so that the box makes a formula true, or false, for some node for which
 /// a further name stands. It doesn't look at what names the further name, nor under quantifiers: there each node is possible.
 #[cycle(possible)]
+#[tactic(auto, using(crate::proofs::Claiming::the_claims, crate::proofs::Formed::possible_forms))]
 pub(crate) fn possible_row(
     store: &Store,
     paths: &Paths,
@@ -133,6 +134,7 @@ pub(crate) fn possible_row(
 /// Of some nodes, at least those for which a name has to stand so that the box makes each of some formulas true, or false, or one or more of
 /// them, for some node for which a further name stands. It looks at a formula only where those before it leave something open.
 #[cycle(possible)]
+#[tactic(auto, using(xdg_problem::specs::declared::formula::Formula::TheViews::the_lemmas, crate::proofs::Bounding::several_steps))]
 fn possible_joined(
     store: &Store,
     paths: &Paths,

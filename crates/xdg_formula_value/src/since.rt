@@ -57,6 +57,7 @@ fn false_at(
 
 /// The same. Names of quantifiers that go with the truth are added to the names.
 #[cycle(under)]
+#[tactic(auto, using(crate::proofs::Claiming::the_claims, crate::proofs::Under::leads_not))]
 fn false_under(
     store: &Store,
     formula: &Formula,

@@ -24,6 +24,7 @@ use xdg_store::Store;
 
 /// Of some nodes, those for which a name has to stand so that the box makes a formula true, or false.
 #[cycle(rows)]
+#[tactic(auto, using(crate::proofs::Claiming::the_claims))]
 pub(crate) fn row_of(
     store: &Store,
     paths: &Paths,
@@ -88,6 +89,7 @@ pub(crate) fn row_of(
 
 /// Of some nodes, those for which a name has to stand so that the box makes each of some formulas true, or false, or one or more of them.
 #[cycle(rows)]
+#[tactic(auto, using(xdg_problem::specs::declared::formula::Formula::TheViews::the_lemmas, crate::proofs::Forms::several_steps))]
 fn joined_row(
     store: &Store,
     paths: &Paths,
@@ -119,6 +121,7 @@ fn joined_row(
 
 /// Whether the box makes a formula true, or false, under a binding of names to nodes.
 #[cycle(whole)]
+#[tactic(auto, using(crate::proofs::Claiming::the_claims))]
 pub(crate) fn makes(
     store: &Store,
     paths: &Paths,
@@ -160,6 +163,7 @@ pub(crate) fn makes(
 /// Whether the box makes each of some formulas true, or false, under a binding of names to nodes, or one or more of them. It looks at none
 /// behind the one that decides.
 #[cycle(whole)]
+#[tactic(auto, using(xdg_problem::specs::declared::formula::Formula::TheViews::the_lemmas, crate::proofs::Wholes::several_steps))]
 fn makes_joined(
     store: &Store,
     paths: &Paths,

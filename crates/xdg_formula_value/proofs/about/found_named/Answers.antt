@@ -7,13 +7,6 @@ use Rattle.xdg_problem.proofs.Bindings.{nodes_inside}
 use Rattle.xdg_formula_value.proofs.about.found_named.Goals as goal
 use Rattle.xdg_facts.specs.Rises.{has}
 
-pub returns-then-not-is_named : goal.returns-then-not-is_named
-returns-then-not-is_named c = finds_weaker c.args.store.now.parts c.args.store.now.now (claim c.args.formula.now) c.args.truth (λ b. AgreeBut c.args.free (stands c.args.binding.now) b × (has c.args.names c.args.name ≡ true → b c.args.name ≡ c.args.node.0)) (AgreeBut c.args.free (stands c.args.binding.now)) c.found.result
-    (λ b are w. w.0) c.found.ensures
-
-pub fewer-requires : goal.fewer-requires
-fewer-requires c = (c.is_named.ensures c.if-not-is_named.false).0
-
 pub found-requires-2-clause-nodes : goal.found-requires-2-clause-nodes
 found-requires-2-clause-nodes c = nodes_inside c.args.store.now.parts (stands c.args.binding.now) (stands c.bind-here.result) c.args.name c.args.node.0 c.bind-here.ensures c.requires.nodes c.requires.node
 

@@ -11,12 +11,6 @@ use Rattle.xdg_formula_value.proofs.about.found_since.Goals as goal
 pub loop-decision-init : goal.loop-decision-init
 loop-decision-init c = λ on. met_start c.args.store.now.parts (box_at c.args.store.now c.args.since) c.args.store.now.now (claim c.args.formula.now) c.args.truth c.args.names c.removed_since-decision-items.result.now
 
-pub removed_since-decision-items-requires : goal.removed_since-decision-items-requires
-removed_since-decision-items-requires c = c.requires.earlier.within
-
-pub found_about-requires-clause-decision : goal.found_about-requires-clause-decision
-found_about-requires-clause-decision c = c.removed_since-decision-items.ensures.names.each c.loop-decision.decision-index _ c.loop-decision-test.true
-
 pub returns-then-found_about : goal.returns-then-found_about
 returns-then-found_about c = finds_on c.args.store.now.parts c.args.store.now.now (claim c.args.formula.now) c.args.truth
     (λ b. AgreeBut c.args.names unbound b × (Makes c.args.store.now.parts (box_at c.args.store.now c.args.since) (claim c.args.formula.now) c.args.truth b → ⊥))

@@ -17,9 +17,6 @@ found-requires-clause-nodes c = nodes_unbound c.args.store.now.parts (stands c.n
 pub returns-then-not-is_named : goal.returns-then-not-is_named
 returns-then-not-is_named c = in_any c.args.store.now.parts c.args.store.now.now (claim c.args.formula.now) c.args.truth c.args.free c.args.names c.args.name c.args.ends (stands c.none_bound.result) c.found.result c.none_bound.ensures c.found.ensures
 
-pub fewer-rest-requires : goal.fewer-rest-requires
-fewer-rest-requires c = (c.is_named.ensures c.if-not-is_named.false).0
-
 pub loop-node-init : goal.loop-node-init
 loop-node-init c = (let all = c.into_iter-node-iterator.ensures.into_iter_gives ∙ c.iter-node-items.ensures.value in (
   tt,

@@ -6,9 +6,6 @@ use Rattle.xdg_graph.proofs.Remaining.{entry_end}
 use Rattle.xdg_formula_value.proofs.Told.{alike, differ, has_truth, truth_is}
 use Rattle.xdg_formula_value.proofs.atoms.entries_told.Goals as goal
 
-pub loop-place-preserved-then-not-entry_in : goal.loop-place-preserved-then-not-entry_in
-loop-place-preserved-then-not-entry_in c = below_more (λ k. Has c.args.store.now.now (entry_decision c.args.node.0) k → HasTruth c.args.truth (says c.args.table.now c.args.node.0 k ≡ true)) c.loop-place.place c.loop-place.invariant (λ has. absurd (false≢true (c.if-not-entry_in.ensures.exact.1 has)))
-
 pub returns-then-says-truth-clause-exact : goal.returns-then-says-truth-clause-exact
 returns-then-says-truth-clause-exact c = (λ t. absurd (false≢true t), λ each. absurd (differ c.says.result c.args.truth c.if-says-truth.true (c.says.ensures ∙ truth_is c.args.truth (says c.args.table.now c.args.node.0 c.loop-place.place) (each c.loop-place.place (c.if-not-entry_in.ensures.exact.0 refl)))))
 

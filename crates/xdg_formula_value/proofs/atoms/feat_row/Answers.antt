@@ -1,4 +1,4 @@
-use Rattle.std.proofs.Common.{◌≡◌, ◌<◌, ◌∙◌, true, arith, sym, subst}
+use Rattle.std.proofs.Common.{◌≡◌, ◌∙◌, true, arith, sym, subst}
 use Rattle.xdg_problem.specs.Places.{nodes}
 use Rattle.xdg_problem.specs.Truths.{says, HasTruth}
 use Rattle.xdg_rules.specs.Rules.{EachEntry}
@@ -7,9 +7,6 @@ use Rattle.xdg_formula_value.proofs.Rowed.{first_later, gathered_more, gathered_
 use Rattle.xdg_facts.proofs.Rising.{head_in}
 use Rattle.xdg_formula_value.proofs.Told.{else_row, name_row}
 use Rattle.xdg_formula_value.proofs.atoms.feat_row.Goals as goal
-
-pub entries_told-requires : goal.entries_told-requires
-entries_told-requires c = subst (λ k. k < nodes c.args.store.now.parts) (sym c.node_of.ensures) (c.requires.nodes c.args.node)
 
 pub returns-then-node-name : goal.returns-then-node-name
 returns-then-node-name c = else_row c.args.care (stands c.args.binding.now) c.args.name c.args.node (λ v. EachEntry c.args.store.now.now v (λ k. HasTruth c.args.truth (says c.args.table.now v k ≡ true))) c.constant.result

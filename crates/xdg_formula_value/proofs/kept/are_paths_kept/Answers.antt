@@ -3,14 +3,8 @@ use Rattle.xdg_propcore.specs.Standing.{box_at}
 use Rattle.xdg_formula_value.proofs.Keeping.{keep_more, keep_start, paths_stay}
 use Rattle.xdg_formula_value.proofs.kept.are_paths_kept.Goals as goal
 
-pub removed_since-decision-items-requires : goal.removed_since-decision-items-requires
-removed_since-decision-items-requires c = c.requires.earlier.within
-
 pub loop-decision-init : goal.loop-decision-init
 loop-decision-init c = keep_start c.args.store.now.parts (box_at c.args.store.now c.args.since) c.args.store.now.now c.removed_since-decision-items.result.now c.args.dim.0
-
-pub keeps_path-requires-clause-decision : goal.keeps_path-requires-clause-decision
-keeps_path-requires-clause-decision c = c.removed_since-decision-items.ensures.names.each c.loop-decision.decision-index _ c.loop-decision-test.true
 
 pub loop-decision-preserved : goal.loop-decision-preserved
 loop-decision-preserved c = keep_more c.args.store.now.parts (box_at c.args.store.now c.args.since) c.args.store.now.now c.removed_since-decision-items.result.now c.args.dim.0 c.loop-decision.decision-index _ c.loop-decision-test.true c.loop-decision.invariant (c.keeps_path.ensures c.if-not-keeps_path.false)

@@ -1,4 +1,3 @@
-use Rattle.std.proofs.Common.{arith}
 use Rattle.xdg_propcore.specs.Standing.{box_at}
 use Rattle.xdg_formula_value.proofs.Keeping.{last_either, last_none}
 use Rattle.xdg_formula_value.proofs.kept.lasting.Goals as goal
@@ -6,11 +5,5 @@ use Rattle.xdg_formula_value.proofs.kept.lasting.Goals as goal
 pub loop-label-init : goal.loop-label-init
 loop-label-init c = last_none c.args.which c.args.store.now.parts (box_at c.args.store.now c.args.since) c.args.store.now.now c.args.dim.0 c.args.mother.0 c.empty-row.result c.empty-row.ensures.value
 
-pub lasting_by-requires-clause-label : goal.lasting_by-requires-clause-label
-lasting_by-requires-clause-label c = (let count = c.labels_of-label-end.ensures.count in let less = c.loop-label-test.true in omega (arith, count, less))
-
 pub loop-label-preserved : goal.loop-label-preserved
 loop-label-preserved c = last_either c.args.which c.args.store.now.parts (box_at c.args.store.now c.args.since) c.args.store.now.now c.args.dim.0 c.args.mother.0 c.loop-label.row c.lasting_by.result c.union-row.result c.union-row.ensures.members c.loop-label.invariant c.lasting_by.ensures
-
-pub returns : goal.returns
-returns c = c.loop-label.invariant

@@ -3,15 +3,6 @@ use Rattle.xdg_propcore.specs.Standing.{box_at}
 use Rattle.xdg_formula_value.proofs.Keeping.{lasts_by, none_more}
 use Rattle.xdg_formula_value.proofs.kept.lasting_by.Goals as goal
 
-pub removed_since-decision-items-requires : goal.removed_since-decision-items-requires
-removed_since-decision-items-requires c = c.requires.earlier.within
-
-pub loop-decision-init : goal.loop-decision-init
-loop-decision-init c = λ x there. ((c.daughters_by-row.ensures.exact x).0 there, λ i d l. absurd (omega (arith, l)))
-
-pub but-row-requires : goal.but-row-requires
-but-row-requires c = c.removed_since-decision-items.ensures.names.each c.loop-decision.decision-index _ c.loop-decision-test.true
-
 pub loop-decision-preserved : goal.loop-decision-preserved
 loop-decision-preserved c = λ x there. (let it = c.but-row.ensures x there in let before = c.loop-decision.invariant x it.0 in
     (before.0, none_more c.removed_since-decision-items.result.now c.args.dim.0 c.args.mother.0 c.args.label.0 c.loop-decision.decision-index x _ c.loop-decision-test.true before.1 it.1))

@@ -1,26 +1,10 @@
-use Rattle.std.proofs.Common.{arith, sym, ◌∙◌}
 use Rattle.xdg_nodeset.specs.Nodes.{without}
 use Rattle.xdg_propcore.specs.Standing.{box_at}
 use Rattle.xdg_formula_value.proofs.Keeping.{fewer_minus, fewer_remove, has_first, last_beyond, last_either, last_fewer}
 use Rattle.xdg_formula_value.proofs.kept.leads.Goals as goal
 
-pub lasting-reached-requires-clause-mother : goal.lasting-reached-requires-clause-mother
-lasting-reached-requires-clause-mother c = c.requires.place.mother
-
-pub loop-turn-init : goal.loop-turn-init
-loop-turn-init c = (c.lasting-reached.ensures, c.lasting-reached.ensures)
-
-pub contains-requires : goal.contains-requires
-contains-requires c = (let l = c.requires.place.daughter in let size = c.node_count-size.ensures.size in let small = c.node_count-size.ensures.small in omega (arith, l, size, small))
-
-pub returns-then-contains : goal.returns-then-contains
-returns-then-contains c = λ so. c.loop-turn.invariant.0 c.args.edge.daughter.0 (sym c.contains.ensures.value ∙ c.if-contains.true)
-
 pub lasting-more-requires-clause-mother : goal.lasting-more-requires-clause-mother
 lasting-more-requires-clause-mother c = (c.loop-turn.invariant.1 c.in-Some.node.0 (has_first c.loop-turn.ahead (without c.loop-turn.ahead c.in-Some.node.0) c.in-Some.node.0 c.in-Some.ensures.value.0)).0
-
-pub remove-requires : goal.remove-requires
-remove-requires c = c.in-Some.ensures.value.1
 
 pub loop-turn-preserved : goal.loop-turn-preserved
 loop-turn-preserved c =

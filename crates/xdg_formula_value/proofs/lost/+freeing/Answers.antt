@@ -9,12 +9,6 @@ use Rattle.xdg_formula_value.proofs.lost.+freeing.Goals as goal
 pub returns-in-None : goal.returns-in-None
 returns-in-None t c = found_whole c.args.store.now.parts c.args.store.now.now (claim c.args.formula.now) c.args.truth c.args.free (stands c.args.binding.now) c.makes.result c.in-None.ensures.value c.requires.nodes c.makes.ensures
 
-pub fewer-rest-requires : goal.fewer-rest-requires
-fewer-rest-requires t c = c.in-Some.ensures.value.1
-
-pub fewer-last-requires : goal.fewer-last-requires
-fewer-last-requires t c = c.in-Some-first.ensures.value.1
-
 pub returns-in_default : goal.returns-in_default
 returns-in_default t c = found_single c.args.store.now.parts c.args.store.now.now (claim c.args.formula.now) c.args.truth c.args.free c.fewer-rest.result (stands c.args.binding.now) c.in-Some.name.0 c.found_one.result c.fewer-rest.ensures.members c.in_default.ensures.value c.requires.nodes c.found_one.ensures
 

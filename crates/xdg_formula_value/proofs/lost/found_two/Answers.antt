@@ -13,9 +13,6 @@ use Rattle.xdg_facts.specs.Rises.{has}
 pub returns-then-len-eq0 : goal.returns-then-len-eq0
 returns-then-len-eq0 c = pairs_none c.args.store.now.parts c.args.store.now.now (claim c.args.formula.now) c.args.truth (stands c.args.binding.now) c.args.name c.args.other c.possible_second-second.result (let count = c.len.ensures.value in let none = c.if-len-eq0.true in omega (arith, count, none)) c.possible_second-second.ensures.bounds
 
-pub possible_row-requires-clause-care : goal.possible_row-requires-clause-care
-possible_row-requires-clause-care c = λ v h. (c.requires.paths.all v).0 h
-
 pub loop-node-init : goal.loop-node-init
 loop-node-init c = (let all = c.into_iter-node-iterator.ensures.into_iter_gives ∙ c.iter-node-items.ensures.value in (
   tt,
@@ -26,9 +23,6 @@ loop-node-init c = (let all = c.into_iter-node-iterator.ensures.into_iter_gives 
 
 pub row_of-row-requires-clause-nodes : goal.row_of-row-requires-clause-nodes
 row_of-row-requires-clause-nodes c = nodes_inside c.args.store.now.parts (stands c.args.binding.now) (stands c.bind-here.result) c.args.name c.in-Some.node.0 c.bind-here.ensures c.requires.nodes (c.loop-node.invariant.2 c.in-Some.node.0 (head_in c.loop-node.node-iterator c.next.new.self c.in-Some.node.0 c.in-Some.ensures.steps))
-
-pub row_of-row-requires-clause-care : goal.row_of-row-requires-clause-care
-row_of-row-requires-clause-care c = c.possible_second-second.ensures.first
 
 pub returns-then-has_over : goal.returns-then-has_over
 returns-then-has_over c = pairs_found c.args.store.now.parts c.args.store.now.now (claim c.args.formula.now) c.args.truth (stands c.args.binding.now) c.args.name c.args.other c.in-Some.node.0 c.has_over.result (c.loop-node.invariant.2 c.in-Some.node.0 (head_in c.loop-node.node-iterator c.next.new.self c.in-Some.node.0 c.in-Some.ensures.steps)) c.if-has_over.true

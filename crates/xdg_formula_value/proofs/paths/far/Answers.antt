@@ -5,12 +5,6 @@ use Rattle.xdg_formula_value.specs.Filling.{AreFilled}
 use Rattle.xdg_formula_value.proofs.Tabled.{at_node, at_which}
 use Rattle.xdg_formula_value.proofs.paths.far.Goals as goal
 
-pub returns-in_default : goal.returns-in_default
-returns-in_default c = c.reach.ensures
-
-pub returns-then-not-filled-dim : goal.returns-then-not-filled-dim
-returns-then-not-filled-dim c = c.reach-then-not-filled-dim.ensures
-
 pub returns-in-May : goal.returns-in-May
 returns-in-May c = (let filled = subst (λ o. IfSome o (λ it. AreFilled c.args.way c.args.store.now it.now)) c.in-Some.is c.requires.filled in at_which c.args.way c.args.which whichs.May c.args.store.now c.args.dim.0 c.args.node.0 c.set_at.result c.in-May.is
     (at_node c.args.way whichs.May c.args.store.now c.args.dim.0 (slice_index_or c.in-Some.filled.now.may c.args.dim.0 []) c.args.node.0 c.set_at.result (filled.may c.args.dim.0 c.requires.dim c.if-not-filled-dim.false) c.set_at.ensures))

@@ -7,9 +7,6 @@ use Rattle.xdg_formula_value.proofs.reach.reach.Goals as goal
 pub loop-next-init : goal.loop-next-init
 loop-next-init c = walk_start c.args.way (edges_of c.args.which c.args.store.now.parts c.args.store.now.now c.args.dim.0) c.args.node.0 c.next_to-reached.result c.empty-taken.result c.next_to-reached.ensures c.empty-taken.ensures.value
 
-pub insert-requires : goal.insert-requires
-insert-requires c = c.in-Some.ensures.value.1
-
 pub loop-next-smaller : goal.loop-next-smaller
 loop-next-smaller c = walk_ends c.loop-next.reached c.loop-next.taken c.minus.result c.insert.new.self c.in-Some.next.0 c.minus.ensures.members
     (has_first c.minus.result (without c.minus.result c.in-Some.next.0) c.in-Some.next.0 c.in-Some.ensures.value.0) c.insert.ensures.members c.in-Some.ensures.value.1

@@ -6,9 +6,6 @@ use Rattle.xdg_formula_value.specs.Rows.{stands}
 use Rattle.xdg_problem.proofs.Bindings.{nodes_unbound}
 use Rattle.xdg_formula_value.proofs.value.is_false_by.Goals as goal
 
-pub makes-requires-clause-is_of : goal.makes-requires-clause-is_of
-makes-requires-clause-is_of c = c.requires.suits.is_of
-
 pub makes-requires-clause-nodes : goal.makes-requires-clause-nodes
 makes-requires-clause-nodes c = nodes_unbound c.args.store.now.parts (stands c.none_bound.result) c.none_bound.ensures c.requires.known.problem.some
 
