@@ -7,8 +7,8 @@ use Rattle.xdg_domain.specs.Joined.{fields_in}
 use Rattle.xdg_domain.specs.Joins.{SaysBoth, JoinsField, OnSome, ClashesField}
 use Rattle.xdg_domain.specs.declared.types.Ty.{Ty}
 use Rattle.xdg_types.specs.declared.table.DimType.{DimType}
-use Rattle.xdg_lexicon.specs.Partial.{Record, Partial, features, said_of, IsRecord, IsPartial, PartialsJoin, PartialsClash}
-use Rattle.xdg_lexicon.proofs.Dims.{JoinsAt, within_partial, joined_here, clashes_here}
+use Rattle.xdg_lexicon.specs.Partial.{Record, Partial, said_of, IsRecord, IsPartial, PartialsJoin}
+use Rattle.xdg_lexicon.proofs.Dims.{JoinsAt, within_partial, joined_here}
 
 -- Of two partial entries these records are left, and Q holds of those that are made of the ones behind them, the last first.
 pub record BackSoFar (Q : ℕ → Record → Type 0) (bound : ℕ) (a b one other made : Partial) : Type 0 where
@@ -25,9 +25,6 @@ module _ (Q : ℕ → Record → Type 0) (bound : ℕ) (a b one other made rest 
 
   pub back_within : length rest < bound
   back_within = (let c = s.count in let l = longer in omega (arith, c, l))
-
-  pub back_both : other ≡ [] → ⊥
-  back_both none = (let e : length other ≡ 0 = ap length none in let c = s.same in let l = longer in omega (arith, e, c, l))
 
   pub back_mine : x ≡ said_of a (length rest)
   back_mine = sym (get_or-append_seam rest x [] []) ∙ (ap (λ l. said_of l (length rest)) (sym popped) ∙ s.mine (length rest) (let l = longer in omega (arith, l)))
@@ -54,9 +51,6 @@ module _ (Q : ℕ → Record → Type 0) (bound : ℕ) (a b one other made rest 
 
 -- what is said of a dimension by two of which these two records are the last
 module _ (dims : List DimType) (a b : Partial) (k : ℕ) (d : DimType) (mine theirs : Record) (fs : List (List ℕ × Ty)) (within : k < length dims) (is : d ≡ get_or dims k d) (types : fs ≡ d.fields) where
-  pub record_back : (p : Partial) (x : Record) → x ≡ said_of p k → IsPartial dims p → IsRecord (fields_in fs) x
-  record_back p x here right = subst (λ l. IsRecord (fields_in l) x) (sym types) (subst (IsRecord (features d)) (sym here) (right.each k d (within, sym is)))
-
   stands : (p : Partial) (x : Record) → x ≡ said_of p k → IsPartial dims p → x ≡ get_or p k x
   stands p x here right = here ∙ sym (get_or_default p k x [] (within_partial dims p k within right))
 
@@ -65,9 +59,6 @@ module _ (dims : List DimType) (a b : Partial) (k : ℕ) (d : DimType) (mine the
   joined_back ra rb one other told m some h =
       joined_here dims a b k d mine theirs mine theirs fs within is ra rb (stands a mine one ra) (stands b theirs other rb) refl refl types m
       (subst (λ t. MatchOption t (OnSome (ClashesField (fields_in fs)) mine theirs) (λ n. SaysBoth (JoinsField (fields_in fs)) mine theirs n × IsRecord (fields_in fs) n)) some h)
-
-  pub clashes_back : IsPartial dims a → IsPartial dims b → mine ≡ said_of a k → theirs ≡ said_of b k → OnSome (ClashesField (fields_in fs)) mine theirs → PartialsClash dims a b
-  clashes_back ra rb one other = clashes_here dims a b k d mine theirs mine theirs fs within is ra rb (stands a mine one ra) (stands b theirs other rb) refl refl types
 
 -- nothing is left
 pub back_done : (dims : List DimType) (a b one other made rest whole : Partial) → one ≡ [] → rest ≡ [] → whole ≡ rest ++ reverse made → BackSoFar (JoinsAt dims a b) (length dims) a b one other made → PartialsJoin dims a b whole × IsPartial dims whole

@@ -1,14 +1,12 @@
 -- A body denotes at most as many partial entries as it has combinations, and the classes that an entry uses have places.
-use Rattle.std.proofs.Common.{◌≡◌, ℕ, zero, suc, ◌<◌, ◌≤◌, ◌+◌, ◌*◌, List, [], ◌∷◌, ◌++◌, length, map, get_or, refl, ap, sym, ◌∙◌, arith, inl, inr, subst, slice_index_or}
+use Rattle.std.proofs.Common.{◌≡◌, ℕ, zero, suc, ◌<◌, ◌≤◌, ◌+◌, ◌*◌, List, [], ◌∷◌, ◌++◌, length, get_or, refl, ap, sym, ◌∙◌, arith, inl, inr, subst, slice_index_or}
 use Rattle.std.specs.Prelude.{Some}
 use Rattle.std.proofs.Math.Nat.{suc-mul}
 use Rattle.std.proofs.lemmas.List.{length-append, length-map}
-use Rattle.xdg_ast.specs.declared.expressions.ExprKind.{ExprKind}
-use Rattle.xdg_names.specs.Texts.{place_of}
 use Rattle.xdg_names.proofs.Texts.{place_of-Some, place_of-has_text, stands-has_text}
 use Rattle.xdg_terms.specs.Forms.{Bindings}
 use Rattle.xdg_types.specs.declared.table.DimType.{DimType}
-use Rattle.xdg_classes.specs.Bodies.{Expr, Body, Bodies, body, Called, calls}
+use Rattle.xdg_classes.specs.Bodies.{Expr, Body, Bodies, body, calls}
 use Rattle.xdg_check.specs.declared.checked.Class.{Class}
 use Rattle.xdg_check.specs.declared.checked.EntryDef.{EntryDef}
 use Rattle.xdg_classes.specs.Wants.{NamedBody}

@@ -4,14 +4,14 @@ use Rattle.std.proofs.Math.Seq.{get_or-append_seam}
 use Rattle.std.proofs.lemmas.Bool.{cases_eq}
 use Rattle.std.proofs.lemmas.List.{length-append, length-map, get_or_append_left, get_or_default, get_or-map}
 use Rattle.xdg_domain.specs.Joined.{fields_in}
-use Rattle.xdg_domain.specs.Joins.{SaysBoth, JoinsField, OnSome, ClashesField}
+use Rattle.xdg_domain.specs.Joins.{SaysBoth, JoinsField}
 use Rattle.xdg_domain.specs.Shapes.{AreTypes}
 use Rattle.xdg_domain.specs.declared.types.Ty.{Ty}
 use Rattle.xdg_types.specs.Table.{typed, AreFeatures, KeepsDim, KeepDims}
 use Rattle.xdg_types.specs.declared.table.DimType.{DimType}
 use Rattle.xdg_terms.specs.Forms.{Bindings}
 use Rattle.xdg_classes.specs.Bodies.{Pairs}
-use Rattle.xdg_lexicon.specs.Partial.{Record, Partial, features, IsDim, said_of, IsRecord, IsPartial, nothing, PartialsClash, SaysRecord, ReadsDim}
+use Rattle.xdg_lexicon.specs.Partial.{Record, Partial, features, IsDim, said_of, IsRecord, IsPartial, nothing, SaysRecord, ReadsDim}
 
 -- ---- lists made one by one
 
@@ -78,14 +78,6 @@ module _ (dims : List DimType) (a b : Partial) (k : ℕ) (d : DimType) (x y mine
       let e : fs ≡ dim.fields = types ∙ ap (λ (z : DimType). z.fields) (sym (one_dim dims k d dim is at)) in
       subst (λ l. SaysBoth (JoinsField (fields_in l)) (said_of a k) (said_of b k) m × IsRecord (fields_in l) m) e
       (subst (λ z. SaysBoth (JoinsField (fields_in fs)) z (said_of b k) m × IsRecord (fields_in fs) m) mine_is (subst (λ z. SaysBoth (JoinsField (fields_in fs)) mine z m × IsRecord (fields_in fs) m) theirs_is h))
-
-  pub clashes_here : OnSome (ClashesField (fields_in fs)) mine theirs → PartialsClash dims a b
-  clashes_here h = record {
-    at = k;
-    dim = d;
-    is = (within, sym is);
-    clash = subst (λ l. OnSome (ClashesField (fields_in l)) (said_of a k) (said_of b k)) types (subst (λ z. OnSome (ClashesField (fields_in fs)) z (said_of b k)) mine_is (subst (λ z. OnSome (ClashesField (fields_in fs)) mine z) theirs_is h));
-  }
 
 -- ---- entries that are read
 

@@ -1,20 +1,19 @@
 -- The features of a dimension, by their places.
-use Rattle.std.proofs.Common.{◌≡◌, ℕ, zero, suc, ◌<◌, ◌≤◌, ◌+◌, List, [], ◌∷◌, ◌++◌, length, get_or, refl, ap, sym, ◌∙◌, arith, subst}
+use Rattle.std.proofs.Common.{◌≡◌, ◌↔◌, ℕ, zero, suc, ◌<◌, ◌≤◌, List, [], ◌∷◌, length, get_or, refl, sym, arith, subst}
 use Rattle.std.specs.Prelude.{Option, None, Some, IfSome, MatchOption}
-use Rattle.std.proofs.lemmas.Bool.{cases_lt}
 use Rattle.xdg_ast.specs.declared.names.Name.{Name}
 use Rattle.xdg_domain.specs.Joined.{fields_in}
 use Rattle.xdg_domain.specs.Joins.{Both, SaysBoth, Joins, JoinsField, OnBoth, OnSome, Clashes, ClashesField}
-use Rattle.xdg_domain.specs.Shapes.{Shape, shape, Fields, no_field, field_then, IsType, AreTypes}
+use Rattle.xdg_domain.specs.Shapes.{shape, Fields, field_then}
 use Rattle.xdg_domain.specs.Valencies.{said_at, KeysRise}
-use Rattle.xdg_domain.specs.Values.{EachSaid, IsValue, IsFieldOf}
+use Rattle.xdg_domain.specs.Values.{IsValue, IsFieldOf}
 use Rattle.xdg_domain.specs.declared.types.Ty.{Ty}
 use Rattle.xdg_domain.specs.declared.values.Value.{Value}
 use Rattle.xdg_domain.proofs.Keyed.{said_right, right_said, both_changes}
 use Rattle.xdg_terms.specs.Forms.{Term, Bindings}
 use Rattle.xdg_terms.specs.Means.{Means, MeansField, Said, written_for}
 use Rattle.xdg_classes.specs.Bodies.{Pairs}
-use Rattle.xdg_lexicon.specs.Made.{entry, IsMade}
+use Rattle.xdg_lexicon.specs.Made.{IsMade}
 use Rattle.xdg_lexicon.specs.Partial.{Record, IsRecord, SaysFields, written}
 use Rattle.xdg_lexicon.proofs.Made.{all}
 
@@ -23,36 +22,34 @@ use Rattle.xdg_lexicon.proofs.Made.{all}
 abbrev pub All : Type 0
 All = List (List ℕ × Ty)
 
-pub joins_at : (fs : All) (k : ℕ) (f : List ℕ × Ty) (x y z : Value) → k < length fs → f ≡ get_or fs k f → Joins (shape f.1) x y z → JoinsField (fields_in fs) k x y z
-joins_at [] k f x y z within is h = absurd (omega (arith, within))
-joins_at (g ∷ fs) zero f x y z within is h = subst (λ e. Joins (shape e.1) x y z) is h
-joins_at (g ∷ fs) (suc k) f x y z within is h = joins_at fs k f x y z (omega (arith, within)) is h
+-- what holds of the field with that place is what holds of the feature there
+at_field : (P : Fields → ℕ → Type 0) (Q : List ℕ × Ty → Type 0) → ((g : List ℕ × Ty) (gs : Fields) → P (field_then g.0 (shape g.1) gs) 0 ↔ Q g) → ((g : List ℕ × Ty) (gs : Fields) (k : ℕ) → P (field_then g.0 (shape g.1) gs) (suc k) ↔ P gs k)
+    → (fs : All) (k : ℕ) (f : List ℕ × Ty) → k < length fs → f ≡ get_or fs k f → P (fields_in fs) k ↔ Q f
+at_field P Q here later [] k f within is = absurd (omega (arith, within))
+at_field P Q here later (g ∷ fs) zero f within is = rw is (here g (fields_in fs))
+at_field P Q here later (g ∷ fs) (suc k) f within is =
+    let inner = at_field P Q here later fs k f (omega (arith, within)) is in
+    let both = later g (fields_in fs) k in
+    (λ h. inner.0 (both.0 h), λ h. both.1 (inner.1 h))
 
-pub clashes_at : (fs : All) (k : ℕ) (f : List ℕ × Ty) (x y : Value) → k < length fs → f ≡ get_or fs k f → Clashes (shape f.1) x y → ClashesField (fields_in fs) k x y
-clashes_at [] k f x y within is h = absurd (omega (arith, within))
-clashes_at (g ∷ fs) zero f x y within is h = subst (λ e. Clashes (shape e.1) x y) is h
-clashes_at (g ∷ fs) (suc k) f x y within is h = clashes_at fs k f x y (omega (arith, within)) is h
+joins_at : (fs : All) (k : ℕ) (f : List ℕ × Ty) (x y z : Value) → k < length fs → f ≡ get_or fs k f → Joins (shape f.1) x y z → JoinsField (fields_in fs) k x y z
+joins_at fs k f x y z within is = (at_field (λ gs j. JoinsField gs j x y z) (λ g. Joins (shape g.1) x y z) (λ _ _. (λ h. h, λ h. h)) (λ _ _ _. (λ h. h, λ h. h)) fs k f within is).1
 
-pub value_at : (fs : All) (k : ℕ) (f : List ℕ × Ty) (x : Value) → k < length fs → f ≡ get_or fs k f → IsValue (shape f.1) x → IsFieldOf (fields_in fs) k x
-value_at [] k f x within is h = absurd (omega (arith, within))
-value_at (g ∷ fs) zero f x within is h = subst (λ e. IsValue (shape e.1) x) is h
-value_at (g ∷ fs) (suc k) f x within is h = value_at fs k f x (omega (arith, within)) is h
+clashes_at : (fs : All) (k : ℕ) (f : List ℕ × Ty) (x y : Value) → k < length fs → f ≡ get_or fs k f → Clashes (shape f.1) x y → ClashesField (fields_in fs) k x y
+clashes_at fs k f x y within is = (at_field (λ gs j. ClashesField gs j x y) (λ g. Clashes (shape g.1) x y) (λ _ _. (λ h. h, λ h. h)) (λ _ _ _. (λ h. h, λ h. h)) fs k f within is).1
 
-pub of_value : (fs : All) (k : ℕ) (f : List ℕ × Ty) (x : Value) → k < length fs → f ≡ get_or fs k f → IsFieldOf (fields_in fs) k x → IsValue (shape f.1) x
-of_value [] k f x within is h = absurd (omega (arith, within))
-of_value (g ∷ fs) zero f x within is h = subst (λ e. IsValue (shape e.1) x) (sym is) h
-of_value (g ∷ fs) (suc k) f x within is h = of_value fs k f x (omega (arith, within)) is h
+value_at : (fs : All) (k : ℕ) (f : List ℕ × Ty) (x : Value) → k < length fs → f ≡ get_or fs k f → IsFieldOf (fields_in fs) k x ↔ IsValue (shape f.1) x
+value_at fs k f x = at_field (λ gs j. IsFieldOf gs j x) (λ g. IsValue (shape g.1) x) (λ _ _. (λ h. h, λ h. h)) (λ _ _ _. (λ h. h, λ h. h)) fs k f
 
 no_value : (fs : All) (k : ℕ) (x : Value) → length fs ≤ k → IsFieldOf (fields_in fs) k x → ⊥
 no_value [] k x order h = h
 no_value (g ∷ fs) zero x order h = omega (arith, order)
 no_value (g ∷ fs) (suc k) x order h = no_value fs k x (omega (arith, order)) h
 
-pub means_at : (bs : Bindings) (fs : All) (pairs : List (Name × Term)) (k : ℕ) (f : List ℕ × Ty) (said : Option Value) → k < length fs → f ≡ get_or fs k f
+means_at : (bs : Bindings) (fs : All) (pairs : List (Name × Term)) (k : ℕ) (f : List ℕ × Ty) (said : Option Value) → k < length fs → f ≡ get_or fs k f
     → Said (Means bs (shape f.1)) (written_for pairs f.0) said → MeansField bs (fields_in fs) pairs k said
-means_at bs [] pairs k f said within is h = absurd (omega (arith, within))
-means_at bs (g ∷ fs) pairs zero f said within is h = subst (λ e. Said (Means bs (shape e.1)) (written_for pairs e.0) said) is h
-means_at bs (g ∷ fs) pairs (suc k) f said within is h = means_at bs fs pairs k f said (omega (arith, within)) is h
+means_at bs fs pairs k f said within is =
+    (at_field (λ gs j. MeansField bs gs pairs j said) (λ g. Said (Means bs (shape g.1)) (written_for pairs g.0) said) (λ _ _. (λ h. h, λ h. h)) (λ _ _ _. (λ h. h, λ h. h)) fs k f within is).1
 
 means_none : (bs : Bindings) (fs : All) (pairs : List (Name × Term)) (k : ℕ) → length fs ≤ k → MeansField bs (fields_in fs) pairs k None
 means_none bs [] pairs k order = refl
@@ -66,7 +63,7 @@ said_value fs m k f within is right = told (said_at m k) refl
   where
     told : (o : Option Value) → said_at m k ≡ o → IfSome o (IsValue (shape f.1))
     told None e = tt
-    told (Some x) e = of_value fs k f x within is (said_right (IsFieldOf (fields_in fs)) m k x right.1 e)
+    told (Some x) e = (value_at fs k f x within is).0 (said_right (IsFieldOf (fields_in fs)) m k x right.1 e)
 
 said_nothing : (fs : All) (m : Record) (k : ℕ) → length fs ≤ k → IsRecord (fields_in fs) m → said_at m k ≡ None
 said_nothing fs m k order right = told (said_at m k) refl
@@ -77,7 +74,7 @@ said_nothing fs m k order right = told (said_at m k) refl
 
 if_value : (fs : All) (k : ℕ) (f : List ℕ × Ty) (o : Option Value) → k < length fs → f ≡ get_or fs k f → IfSome o (IsValue (shape f.1)) → IfSome o (IsFieldOf (fields_in fs) k)
 if_value fs k f None within is h = tt
-if_value fs k f (Some x) within is h = value_at fs k f x within is h
+if_value fs k f (Some x) within is h = (value_at fs k f x within is).1 h
 
 record_of : (fs : All) (m : Record) → KeysRise 0 m → ((key : ℕ) → IfSome (said_at m key) (IsFieldOf (fields_in fs) key)) → IsRecord (fields_in fs) m
 record_of fs m rises each = (rises, right_said (IsFieldOf (fields_in fs)) 0 m rises (λ key x is. subst (λ o. IfSome o (IsFieldOf (fields_in fs) key)) is (each key)))
@@ -139,9 +136,3 @@ pub read_all : (bs : Bindings) (fs : All) (pairs : Pairs) (bound : ℕ) (made : 
 read_all bs fs pairs bound made order m =
     let each = all (Reading bs fs pairs) bound made m (λ key over. (means_none bs fs (written pairs) key (omega (arith, order, over)), tt)) in
     ((m.rises, λ key. (each key).0), record_of fs made m.rises (λ key. (each key).1))
-
--- the types of the features are types that a grammar may have
-pub type_at : (fs : All) (k : ℕ) (f : List ℕ × Ty) → k < length fs → f ≡ get_or fs k f → AreTypes (fields_in fs) → IsType (shape f.1)
-type_at [] k f within is h = absurd (omega (arith, within))
-type_at (g ∷ fs) zero f within is h = subst (λ z. IsType (shape z.1)) (sym is) h.0
-type_at (g ∷ fs) (suc k) f within is h = type_at fs k f (omega (arith, within)) is h.1

@@ -1,7 +1,7 @@
 -- Lists of joins, made one by one.
-use Rattle.std.proofs.Common.{◌≡◌, ℕ, zero, suc, ◌<◌, ◌≤◌, ◌+◌, List, [], ◌∷◌, ◌++◌, length, take, get_or, refl, ap, ap₂, sym, ◌∙◌, arith, subst, append_assoc, length-append}
+use Rattle.std.proofs.Common.{◌≡◌, ℕ, zero, suc, ◌<◌, ◌+◌, List, [], ◌∷◌, ◌++◌, length, take, get_or, refl, ap, sym, ◌∙◌, arith, subst, append_assoc, length-append}
 use Rattle.std.specs.Prelude.{Option, None, Some, MatchOption, option_to_list}
-use Rattle.std.proofs.lemmas.List.{append-nil, take_more, take_all}
+use Rattle.std.proofs.lemmas.List.{append-nil, take_more}
 use Rattle.xdg_types.specs.declared.table.DimType.{DimType}
 use Rattle.xdg_lexicon.specs.Denotes.{JoinsEach, no_other, clashes, joins, JoinsAll, no_first, first_then}
 use Rattle.xdg_lexicon.specs.Partial.{Partial, IsPartial, ArePartial, PartialsJoin, PartialsClash}
@@ -50,9 +50,6 @@ module _ (dims : List DimType) (m : Partial) (ns old : List Partial) (i : ℕ) (
         ),
       )
 
-  pub each_ended : length ns ≤ i → EachSoFar dims m ns old i made → (js : List Partial) × ((made ≡ old ++ js) × (JoinsEach dims m ns js × ArePartial dims js))
-  each_ended past (js, (grown, (e, p))) = (js, (grown, (subst (λ xs. JoinsEach dims m xs js) (take_all i ns past) e, p)))
-
 -- ---- each with each
 
 all_more : (dims : List DimType) (m : Partial) (ms ns js ks : List Partial) → JoinsAll dims ms ns ks → JoinsEach dims m ns js → JoinsAll dims (ms ++ m ∷ []) ns (ks ++ js)
@@ -70,9 +67,6 @@ module _ (dims : List DimType) (ms ns : List Partial) (i : ℕ) (made : List Par
         subst (λ xs. JoinsAll dims xs ns new) (sym longer) (subst (JoinsAll dims (take i ms ++ m ∷ []) ns) (sym grown) (all_more dims m (take i ms) ns js made h.0 e)),
         subst (ArePartial dims) (sym grown) (are_all dims made js h.1 p),
       )
-
-  pub all_ended : length ms ≤ i → JoinsAll dims (take i ms) ns made × ArePartial dims made → JoinsAll dims ms ns made
-  all_ended past h = subst (λ xs. JoinsAll dims xs ns made) (take_all i ms past) h.0
 
 -- ---- answers
 

@@ -1,11 +1,10 @@
 -- Records made feature after feature.
-use Rattle.std.proofs.Common.{◌≡◌, ℕ, zero, suc, ◌<◌, ◌≤◌, ◌+◌, List, [], ◌∷◌, ◌++◌, length, get_or, refl, ap, sym, ◌∙◌, arith, inl, inr, subst}
+use Rattle.std.proofs.Common.{◌≡◌, ℕ, ◌≤◌, ◌+◌, List, [], ◌∷◌, ◌++◌, refl, ap, sym, ◌∙◌, arith, inl, inr, subst}
 use Rattle.std.proofs.lemmas.List.{append-nil}
-use Rattle.std.proofs.lemmas.Bool.{cases_eq, cases_lt, eq-eqb, ne_eqb}
+use Rattle.std.proofs.lemmas.Bool.{cases_eq, cases_lt}
 use Rattle.std.specs.Prelude.{Option, None, Some}
 use Rattle.xdg_domain.specs.Keys.{KeysBelow}
 use Rattle.xdg_domain.specs.Valencies.{said_at, KeysRise}
-use Rattle.xdg_domain.specs.Values.{EachSaid}
 use Rattle.xdg_domain.proofs.Keyed.{at_head, after_head}
 use Rattle.xdg_domain.proofs.KeyAfterKey.{rises_more, below_more}
 use Rattle.xdg_terms.proofs.Saying.{below_skip}

@@ -1,6 +1,6 @@
 -- The numbers of bodies are told by the classes.
 use Rattle.std.proofs.Common.{◌≡◌, ℕ, List, [], ◌∷◌, map, refl, sym, ap, ◌∙◌, subst, inl, inr}
-use Rattle.xdg_classes.specs.Bodies.{Body, body}
+use Rattle.xdg_classes.specs.Bodies.{Body}
 use Rattle.xdg_classes.specs.Wants.{NamedBody}
 use Rattle.xdg_check.specs.declared.checked.Class.{Class}
 use Rattle.xdg_check.specs.Checked.{named_body, named_bodies}

@@ -1,10 +1,9 @@
 -- A body denotes one list, where no two classes have one name.
 use Rattle.std.proofs.Common.{◌≡◌, inl, inr, ℕ, List, [], ◌∷◌, ◌++◌, map, refl, sym, ap, ap₂, ◌∙◌, subst}
-use Rattle.xdg_ast.specs.declared.names.Name.{Name}
 use Rattle.xdg_types.specs.Table.{KeepDims}
 use Rattle.xdg_types.specs.declared.table.DimType.{DimType}
 use Rattle.xdg_terms.specs.Forms.{Bindings}
-use Rattle.xdg_classes.specs.Bodies.{Pairs, Body, either, both, saying, calling, Bodies, no_body, body_then}
+use Rattle.xdg_classes.specs.Bodies.{Body, either, both, saying, calling, Bodies, no_body, body_then}
 use Rattle.xdg_classes.specs.Wants.{NamedBody}
 use Rattle.xdg_check.specs.declared.checked.Class.{Class}
 use Rattle.xdg_check.specs.Checked.{named_bodies}

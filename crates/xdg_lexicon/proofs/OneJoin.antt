@@ -1,57 +1,13 @@
 -- Two partial entries have one join at most, and none where they clash.
-use Rattle.std.proofs.Common.{◌≡◌, ℕ, zero, suc, ◌<◌, ◌+◌, List, [], ◌∷◌, ◌++◌, length, get_or, refl, ap, ap₂, sym, ◌∙◌, arith, inl, inr, ◌⊎◌}
-use Rattle.xdg_domain.specs.Joins.{AllowsBoth, IsApart, JoinsIn, JoinsField, Joins, ClashesIn, ClashesField, Clashes}
-use Rattle.xdg_domain.specs.Shapes.{Shape, domain, tuple, truth, integer, text, set, iset, card, valency, mapping, fields, Fields, no_field, field_then}
-use Rattle.xdg_domain.specs.declared.values.Value.{Value, out-Value}
-use Rattle.xdg_domain.specs.declared.values.Value.TheOpen.{Value-F}
+use Rattle.std.proofs.Common.{◌≡◌, ℕ, suc, ◌<◌, List, [], ◌∷◌, ◌++◌, length, get_or, refl, ap₂, sym, ◌∙◌, arith, inl, inr, ◌⊎◌}
+use Rattle.std.proofs.lemmas.Option.{get_or_from_slice_get}
+use Rattle.xdg_domain.specs.Joins.{JoinsField, ClashesField}
 use Rattle.xdg_domain.proofs.Keyed.{says_unique, says_exclusive}
-use Rattle.xdg_domain.proofs.Numbers.{union_unique, meet_unique, allows_unique, allows_exclusive}
 use Rattle.xdg_types.specs.declared.table.DimType.{DimType}
 use Rattle.xdg_lexicon.specs.Denotes.{JoinsEach, no_other, clashes, joins, JoinsAll, no_first, first_then}
 use Rattle.xdg_lexicon.specs.Partial.{Partial, features, IsDim, said_of, PartialsJoin, PartialsClash}
-use Rattle.xdg_domain.proofs.JoinLaws.{same_out}
-
--- ---- values
-
-mutual
-  one : (s : Shape) (x y z w : Value-F Value) → JoinsIn s x y z → JoinsIn s x y w → z ≡ w
-  one (domain cs) (Value-F.Const a) (Value-F.Const b) (Value-F.Const c) (Value-F.Const d) h k = ap Value-F.Const (h.1 ∙ sym k.1)
-  one (tuple ss) (Value-F.Tuple a) (Value-F.Tuple b) (Value-F.Tuple c) (Value-F.Tuple d) h k = ap Value-F.Tuple (h.1 ∙ sym k.1)
-  one truth (Value-F.Bool a) (Value-F.Bool b) (Value-F.Bool c) (Value-F.Bool d) h k = ap Value-F.Bool (h.1 ∙ sym k.1)
-  one integer (Value-F.Int a) (Value-F.Int b) (Value-F.Int c) (Value-F.Int d) h k = ap Value-F.Int (h.1 ∙ sym k.1)
-  one text (Value-F.Str a) (Value-F.Str b) (Value-F.Str c) (Value-F.Str d) h k = ap Value-F.Str (h.1 ∙ sym k.1)
-  one (set s) (Value-F.Set a) (Value-F.Set b) (Value-F.Set c) (Value-F.Set d) h k = ap Value-F.Set (union_unique a b c d h k)
-  one (iset s) (Value-F.Set a) (Value-F.Set b) (Value-F.Set c) (Value-F.Set d) h k = ap Value-F.Set (meet_unique a b c d h k)
-  one card (Value-F.Card a) (Value-F.Card b) (Value-F.Card c) (Value-F.Card d) h k = ap Value-F.Card (allows_unique a b c d h k)
-  one (valency key) (Value-F.Valency a) (Value-F.Valency b) (Value-F.Valency c) (Value-F.Valency d) h k = ap Value-F.Valency (says_unique (λ _. AllowsBoth) (λ _. allows_unique) a b c d h k)
-  one (mapping key u) (Value-F.Map a) (Value-F.Map b) (Value-F.Map c) (Value-F.Map d) h k = ap Value-F.Map (says_unique (λ _. Joins u) (λ _ x y z w i j. same_out z w (one u (out-Value x) (out-Value y) (out-Value z) (out-Value w) i j)) a b c d h k)
-  one (fields fs) (Value-F.Rec a) (Value-F.Rec b) (Value-F.Rec c) (Value-F.Rec d) h k = ap Value-F.Rec (says_unique (JoinsField fs) (one_field fs) a b c d h k)
-  one _ _ _ _ _ h k = absurd (assumption (h, k))
-
-  one_field : (fs : Fields) (place : ℕ) (x y z w : Value) → JoinsField fs place x y z → JoinsField fs place x y w → z ≡ w
-  one_field no_field place x y z w h k = absurd h
-  one_field (field_then name u fs) zero x y z w h k = same_out z w (one u (out-Value x) (out-Value y) (out-Value z) (out-Value w) h k)
-  one_field (field_then name u fs) (suc place) x y z w h k = one_field fs place x y z w h k
-
-mutual
-  apart : (s : Shape) (x y z : Value-F Value) → JoinsIn s x y z → ClashesIn s x y → ⊥
-  apart (domain cs) (Value-F.Const a) (Value-F.Const b) (Value-F.Const c) h k = k h.0
-  apart (tuple ss) (Value-F.Tuple a) (Value-F.Tuple b) (Value-F.Tuple c) h k = k h.0
-  apart truth (Value-F.Bool a) (Value-F.Bool b) (Value-F.Bool c) h k = k h.0
-  apart integer (Value-F.Int a) (Value-F.Int b) (Value-F.Int c) h k = k h.0
-  apart text (Value-F.Str a) (Value-F.Str b) (Value-F.Str c) h k = k h.0
-  apart card (Value-F.Card a) (Value-F.Card b) (Value-F.Card c) h k = allows_exclusive a b c h k
-  apart (valency key) (Value-F.Valency a) (Value-F.Valency b) (Value-F.Valency c) h k = says_exclusive (λ _. AllowsBoth) (λ _. IsApart) (λ _. allows_exclusive) a b c h k
-  apart (mapping key u) (Value-F.Map a) (Value-F.Map b) (Value-F.Map c) h k = says_exclusive (λ _. Joins u) (λ _. Clashes u) (λ _ x y z i j. apart u (out-Value x) (out-Value y) (out-Value z) i j) a b c h k
-  apart (fields fs) (Value-F.Rec a) (Value-F.Rec b) (Value-F.Rec c) h k = says_exclusive (JoinsField fs) (ClashesField fs) (apart_field fs) a b c h k
-  apart (set s) (Value-F.Set a) (Value-F.Set b) (Value-F.Set c) h k = absurd k
-  apart (iset s) (Value-F.Set a) (Value-F.Set b) (Value-F.Set c) h k = absurd k
-  apart _ _ _ _ h k = absurd h
-
-  apart_field : (fs : Fields) (place : ℕ) (x y z : Value) → JoinsField fs place x y z → ClashesField fs place x y → ⊥
-  apart_field no_field place x y z h k = h
-  apart_field (field_then name u fs) zero x y z h k = apart u (out-Value x) (out-Value y) (out-Value z) h k
-  apart_field (field_then name u fs) (suc place) x y z h k = apart_field fs place x y z h k
+use Rattle.xdg_domain.proofs.JoinLaws.{unique_field, apart_field}
+use Rattle.xdg_facts.proofs.Lists.{some_at}
 
 -- ---- partial entries
 
@@ -64,14 +20,12 @@ same_items d (x ∷ a) (y ∷ b) e h = ap₂ (λ z l. z ∷ l) (h 0 (omega arith
 
 -- a dimension stands at each place
 pub dim_at : (dims : List DimType) (k : ℕ) → k < length dims → (dim : DimType) × IsDim dims k dim
-dim_at [] k h = absurd (omega (arith, h))
-dim_at (d ∷ dims) zero h = (d, (h, refl))
-dim_at (d ∷ dims) (suc k) h = (let r = dim_at dims k (omega (arith, h)) in (r.0, (h, r.1.1)))
+dim_at dims k h = (let s = some_at dims k h in (s.0, (h, get_or_from_slice_get dims k s.0 s.0 s.1)))
 
 pub one_join : (dims : List DimType) (a b c d : Partial) → PartialsJoin dims a b c → PartialsJoin dims a b d → c ≡ d
 one_join dims a b c d h k = same_items [] c d (h.count ∙ sym k.count) (λ i within.
     let at = dim_at dims i (let long = h.count in omega (arith, within, long)) in
-    says_unique (JoinsField (features at.0)) (one_field (features at.0)) (said_of a i) (said_of b i) (said_of c i) (said_of d i) (h.each i at.0 at.1) (k.each i at.0 at.1))
+    says_unique (JoinsField (features at.0)) (unique_field (features at.0)) (said_of a i) (said_of b i) (said_of c i) (said_of d i) (h.each i at.0 at.1) (k.each i at.0 at.1))
 
 pub join_apart : (dims : List DimType) (a b c : Partial) → PartialsJoin dims a b c → PartialsClash dims a b → ⊥
 join_apart dims a b c h k =

@@ -16,6 +16,7 @@ use Rattle.xdg_lexicon.specs.Lexicon.{whole, AreWhole, Adds, SoFar, nothing_yet,
 use Rattle.xdg_lexicon.specs.Steps.{Once, AllOnce, OnceCounted}
 use Rattle.xdg_lexicon.specs.Answers.{IsAnswer, Gives}
 use Rattle.xdg_lexicon.proofs.Adding.{same_added, same_whole, none_lacks}
+use Rattle.xdg_facts.proofs.Lists.{head_of, tail_of}
 use Rattle.xdg_facts.specs.Membership.{In}
 
 -- ---- what is told by the source
@@ -165,25 +166,19 @@ module _ (source : Source) (definite : IsDefinite source) where
   once_there [] rest one once = once.0
   once_there (first ∷ front) rest one once = once_there front rest one once.1
 
-  heads : (x y : ℕ × Body) (xs ys : List (ℕ × Body)) → x ∷ xs ≡ y ∷ ys → x ≡ y
-  heads x y xs ys e = cc
-
-  tails : (x y : ℕ × Body) (xs ys : List (ℕ × Body)) → x ∷ xs ≡ y ∷ ys → xs ≡ ys
-  tails x y xs ys e = cc
-
   two_refused : (before mid others : SoFar) (front rest more left : List (ℕ × Body)) (one two : ℕ × Body) (f g : Fault) → front ++ one ∷ rest ≡ more ++ two ∷ left → AllOnce source front → OnceCounted source mid one.1
       → ExpandsAll source before front mid → OffendsAt source mid one f → ExpandsAll source before more others → OffendsAt source others two g → f ≡ g
   two_refused before _ _ [] rest [] left one two f g e once here (no_more _) offends (no_more _) offend =
-      offends_same before one f g here offends (subst (λ x. OffendsAt source before x g) (sym (heads one two rest left e)) offend)
+      offends_same before one f g here offends (subst (λ x. OffendsAt source before x g) (sym (head_of one two rest left e)) offend)
   two_refused before _ others [] rest (second ∷ more) left one two f g e once here (no_more _) offends (one_more _ next _ _ _ x xs) offend =
-      let is = heads one second rest (more ++ two ∷ left) e in
+      let is = head_of one second rest (more ++ two ∷ left) e in
       let x' = subst (λ z. Expands source before z.1 next) (sym is) x in
       absurd (not_both before one next f (here x'.counted) x' offends)
   two_refused before mid _ (first ∷ front) rest [] left one two f g e once here (one_more _ next _ _ _ x xs) offends (no_more _) offend =
-      absurd (not_both before first next g once.0 x (subst (λ z. OffendsAt source before z g) (sym (heads first two (front ++ one ∷ rest) left e)) offend))
+      absurd (not_both before first next g once.0 x (subst (λ z. OffendsAt source before z g) (sym (head_of first two (front ++ one ∷ rest) left e)) offend))
   two_refused before mid others (first ∷ front) rest (second ∷ more) left one two f g e once here (one_more _ next _ _ _ x xs) offends (one_more _ then _ _ _ y ys) offend =
-      let y' = subst (λ z. Expands source before z.1 then) (sym (heads first second (front ++ one ∷ rest) (more ++ two ∷ left) e)) y in
-      two_refused next mid others front rest more left one two f g (tails first second (front ++ one ∷ rest) (more ++ two ∷ left) e) once.1 here xs offends
+      let y' = subst (λ z. Expands source before z.1 then) (sym (head_of first second (front ++ one ∷ rest) (more ++ two ∷ left) e)) y in
+      two_refused next mid others front rest more left one two f g (tail_of first second (front ++ one ∷ rest) (more ++ two ∷ left) e) once.1 here xs offends
       (subst (λ s. ExpandsAll source s more others) (sym (expands_same before first.1 next then once.0 x y')) ys) offend
 
   -- ---- answers

@@ -9,14 +9,14 @@ use Rattle.xdg_domain.specs.Defaults.{record_of_defaults}
 use Rattle.xdg_domain.specs.Shapes.{fields, Fields, field_then, shape, fields_of, names_of, IsType, AreTypes}
 use Rattle.xdg_domain.specs.Valencies.{KeysRise}
 use Rattle.xdg_domain.specs.Values.{IsIn}
-use Rattle.xdg_domain.specs.Joined.{fields_in}
+use Rattle.xdg_domain.specs.Joined.{behind, fields_in}
 use Rattle.xdg_packed.specs.Filled as filled
 use Rattle.xdg_packed.specs.Filled.{filled_fields, fields_said, AreSaid}
 use Rattle.xdg_packed.proofs.Laws.{record_said, filled_right}
 use Rattle.xdg_types.specs.declared.table.DimType.{DimType}
 use Rattle.xdg_types.specs.Table.{Table, IsTable, KeepsDim, KeepDims, ArePlaces, AreFeatures, typed, firsts}
 use Rattle.xdg_packed.specs.Lexicon.{Record, Entry}
-use Rattle.xdg_lexicon.specs.Partial.{Partial, IsPartial, IsRecord, IsDim, features, said_of}
+use Rattle.xdg_lexicon.specs.Partial.{Partial, IsPartial, IsRecord, IsDim, said_of}
 use Rattle.xdg_packed.specs.Entries.{IsWhole, IsEntry, record_type}
 use Rattle.xdg_lexicon.specs.Lexicon.{whole_record, record_then, records_of, whole}
 use Rattle.xdg_facts.proofs.Lists.{any_default}
@@ -70,10 +70,8 @@ record Taken (o : Option Record) (r : Option Entry) (entry : Entry) : Type 0 whe
   parts : entry ≡ head ∷ rest
 
 taken : (o : Option Record) (r : Option Entry) (entry : Entry) → record_then o r ≡ Some entry → Taken o r entry
-taken None None entry e = absurd (cc)
-taken None (Some rest) entry e = absurd (cc)
-taken (Some m) None entry e = absurd (cc)
 taken (Some m) (Some rest) entry e = (let same : m ∷ rest ≡ entry = cc in record { head = m; rest = rest; one = refl; more = refl; parts = sym same })
+taken o r entry e = absurd (cc)
 
 some_record : (d : Option DimType) (m all : Record) → whole_record d m ≡ Some all → (dim : DimType) × ((d ≡ Some dim) × (filled_fields 0 (fields_of (typed dim.fields)) m ≡ Some all))
 some_record None m all e = absurd (cc)
@@ -116,15 +114,7 @@ whole_right table p entry is partial made = record {
 
 -- ---- one record after the other
 
-abbrev pub after : Entry → Option Entry → Option Entry
-after made None = None
-after made (Some rest) = Some (made ++ rest)
-
-after_nothing : (o : Option Entry) → after [] o ≡ o
-after_nothing None = refl
-after_nothing (Some rest) = refl
-
-after_more : (made : Entry) (m : Record) (rest : Option Entry) → after (made ++ m ∷ []) rest ≡ after made (record_then (Some m) rest)
+after_more : (made : Entry) (m : Record) (rest : Option Entry) → behind (made ++ m ∷ []) rest ≡ behind made (record_then (Some m) rest)
 after_more made m None = refl
 after_more made m (Some rest) = ap Some (append_assoc made (m ∷ []) rest)
 
@@ -134,31 +124,28 @@ none_then (Some rest) = refl
 
 -- what was made, and what the rest comes to
 abbrev pub RecordsSoFar : Table → Partial → ℕ → Entry → Type 0
-RecordsSoFar table p i made = after made (records_of table.dims p (drop i table.used)) ≡ whole table p
+RecordsSoFar table p i made = behind made (records_of table.dims p (drop i table.used)) ≡ whole table p
 
 module _ (table : Table) (p : Partial) where
-  pub records_begun : (made : Entry) → made ≡ [] → RecordsSoFar table p 0 made
-  records_begun made is = ap (λ l. after l (records_of table.dims p table.used)) is ∙ after_nothing (records_of table.dims p table.used)
-
-  opened : (i k : ℕ) (made : Entry) → i < length table.used → k ≡ get_or table.used i k → RecordsSoFar table p i made → after made (record_then (whole_record (slice_get table.dims k) (said_of p k)) (records_of table.dims p (drop (i + 1) table.used))) ≡ whole table p
+  opened : (i k : ℕ) (made : Entry) → i < length table.used → k ≡ get_or table.used i k → RecordsSoFar table p i made → behind made (record_then (whole_record (slice_get table.dims k) (said_of p k)) (records_of table.dims p (drop (i + 1) table.used))) ≡ whole table p
   opened i k made within is so_far =
-      ap (λ j. after made (record_then (whole_record (slice_get table.dims j) (said_of p j)) (records_of table.dims p (drop (i + 1) table.used)))) is
-      ∙ sym (at_drop_more (λ ks. after made (records_of table.dims p ks)) table.used i k within)
+      ap (λ j. behind made (record_then (whole_record (slice_get table.dims j) (said_of p j)) (records_of table.dims p (drop (i + 1) table.used)))) is
+      ∙ sym (at_drop_more (λ ks. behind made (records_of table.dims p ks)) table.used i k within)
       ∙ so_far
 
   pub records_further : (i k : ℕ) (made next : Entry) (m : Record) → i < length table.used → k ≡ get_or table.used i k → whole_record (slice_get table.dims k) (said_of p k) ≡ Some m → next ≡ made ++ m ∷ [] → RecordsSoFar table p i made → RecordsSoFar table p (i + 1) next
   records_further i k made next m within is has grown so_far =
       let rest = records_of table.dims p (drop (i + 1) table.used) in
-      ap (λ l. after l rest) grown ∙ after_more made m rest ∙ ap (λ o. after made (record_then o rest)) (sym has) ∙ opened i k made within is so_far
+      ap (λ l. behind l rest) grown ∙ after_more made m rest ∙ ap (λ o. behind made (record_then o rest)) (sym has) ∙ opened i k made within is so_far
 
   pub records_lacking : (i k : ℕ) (made : Entry) → i < length table.used → k ≡ get_or table.used i k → whole_record (slice_get table.dims k) (said_of p k) ≡ None → RecordsSoFar table p i made → None ≡ whole table p
   records_lacking i k made within is none so_far =
       let rest = records_of table.dims p (drop (i + 1) table.used) in
-      sym (ap (after made) (none_then rest)) ∙ ap (λ o. after made (record_then o rest)) (sym none) ∙ opened i k made within is so_far
+      sym (ap (behind made) (none_then rest)) ∙ ap (λ o. behind made (record_then o rest)) (sym none) ∙ opened i k made within is so_far
 
   pub records_done : (i : ℕ) (made : Entry) → length table.used ≤ i → RecordsSoFar table p i made → Some made ≡ whole table p
   records_done i made past so_far =
-      ap Some (sym (append-nil made)) ∙ sym (ap (λ ks. after made (records_of table.dims p ks)) (drop_all i table.used past)) ∙ so_far
+      ap Some (sym (append-nil made)) ∙ sym (ap (λ ks. behind made (records_of table.dims p ks)) (drop_all i table.used past)) ∙ so_far
 
 -- ---- what is looked at
 

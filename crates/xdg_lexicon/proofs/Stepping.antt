@@ -1,7 +1,7 @@
 -- The steps of expansion, put together.
-use Rattle.std.proofs.Common.{◌≡◌, ℕ, zero, suc, ◌+◌, ◌<◌, ◌≤◌, List, [], ◌∷◌, ◌++◌, length, get_or, drop, take, map, Result, Ok, Err, refl, sym, ap, ◌∙◌, subst, inl, inr, arith}
-use Rattle.std.proofs.Math.Seq.{take-suc}
-use Rattle.std.proofs.lemmas.List.{map-append}
+use Rattle.std.proofs.Common.{◌≡◌, ℕ, ◌+◌, ◌<◌, ◌≤◌, List, [], ◌∷◌, ◌++◌, length, get_or, drop, take, map, Result, Ok, Err, sym, ap, ◌∙◌, subst, inl, inr, arith}
+use Rattle.std.proofs.lemmas.List.{map-append, take_more, take_all, take-append-drop}
+use Rattle.xdg_facts.proofs.Lists.{from_place}
 use Rattle.xdg_base.specs.declared.faults.Cause.{Cause}
 use Rattle.xdg_base.specs.declared.faults.Cause.TheVariants as causes
 use Rattle.xdg_base.specs.declared.faults.Fault.{Fault}
@@ -161,19 +161,11 @@ module _ (source : Source) where
   once_last (first ∷ front) one all last = (all.0, once_last front one all.1 last)
 
 take_last : (defs : List EntryDef) (i : ℕ) (def : EntryDef) → i < length defs → def ≡ get_or defs i def → map one_of (take (i + 1) defs) ≡ map one_of (take i defs) ++ one_of def ∷ []
-take_last defs i def within is =
-    let next : i + 1 ≡ suc i = omega arith in
-    ap (λ k. map one_of (take k defs)) next
-    ∙ ap (map one_of) (take-suc defs i def within ∙ ap (λ e. take i defs ++ e ∷ []) (sym is))
-    ∙ map-append one_of (take i defs) (def ∷ [])
+take_last defs i def within is = ap (map one_of) (take_more defs i def within ∙ ap (λ e. take i defs ++ e ∷ []) (sym is)) ∙ map-append one_of (take i defs) (def ∷ [])
 
 split_at : (defs : List EntryDef) (i : ℕ) (def : EntryDef) → i < length defs → def ≡ get_or defs i def → map one_of defs ≡ map one_of (take i defs) ++ one_of def ∷ map one_of (drop (i + 1) defs)
-split_at [] i def within is = absurd (omega (arith, within))
-split_at (x ∷ defs) zero def within is = ap (λ e. one_of e ∷ map one_of defs) (sym is)
-split_at (x ∷ defs) (suc i) def within is =
-    let next : suc i + 1 ≡ suc (i + 1) = omega arith in
-    ap (λ l. one_of x ∷ l) (split_at defs i def (omega (arith, within)) is)
-    ∙ ap (λ k. one_of x ∷ map one_of (take i defs) ++ one_of def ∷ map one_of (drop k (x ∷ defs))) (sym next)
+split_at defs i def within is =
+    ap (map one_of) (sym (take-append-drop i defs) ∙ ap (λ l. take i defs ++ l) (from_place defs i def within is)) ∙ map-append one_of (take i defs) (def ∷ drop (i + 1) defs)
 
 -- what is known before a `defentry`: those before it are expanded, and each denotes one list
 pub record ExpandedSoFar (parts : Parts) (defs : List EntryDef) (i : ℕ) (so : SoFar) : Type 0 where
@@ -226,15 +218,9 @@ expanded_none parts defs entries none = subst (λ l. ExpandedSoFar parts defs 0 
   few_each = none_few parts.types;
 })
 
-take_past : (defs : List EntryDef) (i : ℕ) → length defs ≤ i → take i defs ≡ defs
-take_past [] zero past = refl
-take_past [] (suc i) past = refl
-take_past (def ∷ defs) zero past = absurd (omega (arith, past))
-take_past (def ∷ defs) (suc i) past = ap (λ l. def ∷ l) (take_past defs i (omega (arith, past)))
-
 module _ (parts : Parts) (defs : List EntryDef) (i : ℕ) (so : SoFar) (same : parts.entries ≡ defs) (past : length defs ≤ i) (so_far : ExpandedSoFar parts defs i so) where
   are_all : map one_of (take i defs) ≡ map one_of parts.entries
-  are_all = ap (map one_of) (take_past defs i past ∙ sym same)
+  are_all = ap (map one_of) (take_all i defs past ∙ sym same)
 
   pub all_expanded : ExpandsAll (source_of parts) nothing_yet (map one_of parts.entries) so
   all_expanded = subst (λ l. ExpandsAll (source_of parts) nothing_yet l so) are_all so_far.all

@@ -5,7 +5,7 @@ use Rattle.xdg_ast.specs.declared.names.Name.{Name}
 use Rattle.xdg_ast.specs.declared.expressions.ExprKind.{ExprKind}
 use Rattle.xdg_ast.specs.declared.expressions.ExprKind.TheVariants as v
 use Rattle.std.specs.Prelude.{Option}
-use Rattle.xdg_classes.specs.Bodies.{Pairs, Expr, Body, either, both, saying, calling, given, body}
+use Rattle.xdg_classes.specs.Bodies.{Pairs, Expr, Body, either, both, calling, given, body}
 use Rattle.xdg_classes.proofs.Bodied.{trees, body_or, body_and}
 use Rattle.xdg_check.specs.Checked.{Parts}
 use Rattle.xdg_check.specs.Counts.{Counting}
@@ -17,9 +17,7 @@ use Rattle.xdg_facts.proofs.Lists.{from_place}
 
 pub weighs_some : (names : Counting) (b : Body) → 0 < weigh names b
 weighs_some names (either bs) = omega arith
-weighs_some names (both bs) = omega arith
-weighs_some names (saying dim pairs) = omega arith
-weighs_some names (calling name args) = omega arith
+weighs_some names b = omega arith
 
 weigh_both : (names : Counting) (xs ys : List Expr) → weigh_in names (trees (xs ++ ys)) ≡ weigh_in names (trees xs) + weigh_in names (trees ys)
 weigh_both names [] ys = omega arith
@@ -80,8 +78,7 @@ joining_goes names items next place before e is within at =
 open_weighs : (checked : Parts) (frames : List Frame) (depth : ℕ) → 0 < length frames → 0 < heavy checked frames depth
 open_weighs checked [] depth some = absurd (omega (arith, some))
 open_weighs checked (frame.Listing members place listed ∷ fs) depth some = omega arith
-open_weighs checked (frame.Joining members place joined ∷ fs) depth some = omega arith
-open_weighs checked (frame.Using outside ∷ fs) depth some = omega arith
+open_weighs checked (f ∷ fs) depth some = omega arith
 
 pub some_weighs : (checked : Parts) (frames : List Frame) (depth : ℕ) → 0 < length frames → 0 < heavy checked (reverse frames) depth
 some_weighs checked frames depth some = open_weighs checked (reverse frames) depth (let long : length (reverse frames) ≡ length frames = length-reverse frames in omega (arith, some, long))

@@ -1,4 +1,4 @@
-use Rattle.std.proofs.Common.{◌≡◌, ap, sym, ◌∙◌, subst}
+use Rattle.std.proofs.Common.{sym, subst}
 use Rattle.xdg_domain.specs.Shapes.{AreTypes}
 use Rattle.xdg_domain.specs.Joined.{fields_in}
 use Rattle.xdg_lexicon.proofs.Dims.{types_of}

@@ -1,4 +1,4 @@
-use Rattle.xdg_lexicon.proofs.Dims.{ReadsAt, begun, further, keeps_at, read_here, read_says, read_right}
+use Rattle.xdg_lexicon.proofs.Dims.{ReadsAt, further, keeps_at, read_here}
 use Rattle.xdg_lexicon.proofs.entries.read_partial.Goals as goal
 use Rattle.xdg_facts.proofs.In.{in_at}
 

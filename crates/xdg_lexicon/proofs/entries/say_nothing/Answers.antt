@@ -1,4 +1,4 @@
-use Rattle.std.proofs.Common.{◌≡◌, ap, sym, ◌∙◌, subst}
+use Rattle.std.proofs.Common.{ap, sym, ◌∙◌, subst}
 use Rattle.std.proofs.lemmas.List.{take_all}
 use Rattle.xdg_lexicon.specs.Partial.{IsPartial, nothing}
 use Rattle.xdg_lexicon.proofs.Dims.{nothing_partial}

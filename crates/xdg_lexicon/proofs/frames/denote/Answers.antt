@@ -8,9 +8,6 @@ use Rattle.xdg_lexicon.proofs.frames.denote.Goals as goal
 pub enter-requires : goal.enter-requires
 enter-requires c = record { enters = begun c.args.checked.now (body c.args.whole.now) c.new.result.items (record { bindings = c.new-bindings.result; depth = c.args.depth }) c.new.ensures.items c.new-bindings.ensures c.requires.within c.requires.ranked c.requires.right }
 
-pub walk-init : goal.walk-init
-walk-init c = (c.in_ok-made.ensures.same, c.in_ok-made.ensures.leaves)
-
 pub leave-requires : goal.leave-requires
 leave-requires c = record { leaves = subst (λ b. Leaves c.args.checked.now b (open_in c.walk.walk) c.walk.walk.scope c.walk.made.items) (sym c.walk.invariant.0) c.walk.invariant.1 }
 

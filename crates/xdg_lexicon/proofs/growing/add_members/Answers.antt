@@ -28,9 +28,6 @@ returns-in-None-clause-adds c =
     subst (λ stop. AddsMembers c.args.types.now c.args.members.now c.args.at c.args.growing.now.entries c.loop-member.growing.entries (Err stop)) (sym c.passed.ensures)
     (c.member-item.result, (in_at c.args.members.now c.loop-member.member-index c.member-item.result c.loop-member-test.true c.member-item.is, (none, refl)))
 
-pub put-requires : goal.put-requires
-put-requires c = c.loop-member.invariant.grown
-
 pub loop-member-preserved : goal.loop-member-preserved
 loop-member-preserved c =
     let made = ap (whole c.args.types.now) (sym c.as_slice.ensures) ∙ sym c.in_ok-whole_entry.ensures.whole ∙ c.in-Some.is in
@@ -42,15 +39,6 @@ loop-member-preserved c =
       adds = adds_further c.args.types.now c.args.growing.now.entries c.args.members.now c.loop-member.member-index c.loop-member.growing.entries c.put.new.growing.entries c.member-item.result c.in-Some.entry c.loop-member-test.true c.member-item.is made
           c.in_ok-put-in-Some.ensures.puts c.loop-member.invariant.adds;
     }
-
-pub returns-clause-grown : goal.returns-clause-grown
-returns-clause-grown c = c.loop-member.invariant.grown
-
-pub returns-clause-right : goal.returns-clause-right
-returns-clause-right c = c.loop-member.invariant.right
-
-pub returns-clause-place : goal.returns-clause-place
-returns-clause-place c = c.loop-member.invariant.place
 
 pub returns-clause-adds : goal.returns-clause-adds
 returns-clause-adds c = adds_done c.args.types.now c.args.growing.now.entries c.args.members.now c.loop-member.member-index c.loop-member.growing.entries (omega (arith, c.loop-member-test.false)) c.loop-member.invariant.adds

@@ -1,6 +1,5 @@
 use Rattle.std.proofs.Common.{◌≡◌, rules, ap, sym, ◌∙◌, subst}
-use Rattle.std.specs.Prelude.{IfSome, MatchOption}
-use Rattle.xdg_domain.specs.Joins.{Both, Joins, OnBoth, Clashes}
+use Rattle.std.specs.Prelude.{IfSome}
 use Rattle.xdg_domain.specs.Shapes.{shape}
 use Rattle.xdg_domain.specs.Valencies.{said_at}
 use Rattle.xdg_domain.specs.Values.{IsValue}

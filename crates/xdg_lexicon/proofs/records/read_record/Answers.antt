@@ -4,8 +4,9 @@ use Rattle.xdg_domain.specs.Shapes.{shape}
 use Rattle.xdg_terms.specs.Answers.{IsRight}
 use Rattle.xdg_terms.specs.Means.{written_for}
 use Rattle.xdg_lexicon.specs.Partial.{written}
-use Rattle.xdg_lexicon.proofs.Fields.{Reading, read_one, read_all, type_at}
-use Rattle.xdg_lexicon.proofs.Made.{start, more}
+use Rattle.xdg_lexicon.proofs.Fields.{Reading, read_one, read_all}
+use Rattle.xdg_terms.proofs.Saying.{type_at}
+use Rattle.xdg_lexicon.proofs.Made.{more}
 use Rattle.xdg_lexicon.proofs.records.read_record.Goals as goal
 use Rattle.xdg_facts.proofs.In.{in_at}
 

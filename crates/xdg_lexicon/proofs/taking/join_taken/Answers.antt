@@ -1,9 +1,16 @@
 use Rattle.std.proofs.Common.{◌≡◌, ◌+◌, ◌-◌, get_or, rules, refl, sym, arith, subst}
 use Rattle.xdg_lexicon.proofs.Taken.{TakenSoFar, taken_begun, mine_value, theirs_value, taken_clash, taken_further, taken_done}
+use Rattle.xdg_lexicon.proofs.taking.join_taken.Goals.{After-index-fields-place}
 use Rattle.xdg_lexicon.proofs.taking.join_taken.Goals as goal
 
 pub loop-left-init : goal.loop-left-init
 loop-left-init c = taken_begun c.args.fields.now c.args.one c.args.other _ c.in_ok-made.made refl c.in_ok-made.ensures c.requires.one c.requires.other
+
+-- the last field that is left
+here : (c : After-index-fields-place) → (c.in-Ok.key ≡ c.loop-left.left - 1) × ((c.in-Ok.key + 1 ≡ c.loop-left.left) × (c.index-fields-place.result ≡ get_or c.args.fields.now c.in-Ok.key c.index-fields-place.result))
+here c =
+    let same : c.in-Ok.key ≡ c.loop-left.left - 1 = search (rules, c.in-Ok.ensures) in
+    (same, (omega (arith, same, c.loop-left-test.true), subst (λ n. c.index-fields-place.result ≡ get_or c.args.fields.now n c.index-fields-place.result) (sym same) c.index-fields-place.is))
 
 pub join_values-requires-clause-one : goal.join_values-requires-clause-one
 join_values-requires-clause-one c =
@@ -11,10 +18,8 @@ join_values-requires-clause-one c =
     let l = c.loop-left in
     let field = c.index-fields-place.result in
     let key = c.in-Ok.key in
-    let same : key ≡ l.left - 1 = search (rules, c.in-Ok.ensures) in
-    let next : key + 1 ≡ l.left = (let some = c.loop-left-test.true in omega (arith, same, some)) in
-    let is : field ≡ get_or fs key field = subst (λ n. field ≡ get_or fs n field) (sym same) c.index-fields-place.is in
-    mine_value fs c.args.one c.args.other l.left key l.one l.other l.made next l.invariant c.take_last-mine.result c.take_last-theirs.result c.take_last-mine.ensures.here c.take_last-theirs.ensures.here field is c.requires.one
+    let at = here (goal.at.join_values-requires-clause-one c).After-index-fields-place in
+    mine_value fs c.args.one c.args.other l.left key l.one l.other l.made at.1.0 l.invariant c.take_last-mine.result c.take_last-theirs.result c.take_last-mine.ensures.here c.take_last-theirs.ensures.here field at.1.1 c.requires.one
 
 pub join_values-requires-clause-other : goal.join_values-requires-clause-other
 join_values-requires-clause-other c =
@@ -22,10 +27,8 @@ join_values-requires-clause-other c =
     let l = c.loop-left in
     let field = c.index-fields-place.result in
     let key = c.in-Ok.key in
-    let same : key ≡ l.left - 1 = search (rules, c.in-Ok.ensures) in
-    let next : key + 1 ≡ l.left = (let some = c.loop-left-test.true in omega (arith, same, some)) in
-    let is : field ≡ get_or fs key field = subst (λ n. field ≡ get_or fs n field) (sym same) c.index-fields-place.is in
-    theirs_value fs c.args.one c.args.other l.left key l.one l.other l.made next l.invariant c.take_last-mine.result c.take_last-theirs.result c.take_last-mine.ensures.here c.take_last-theirs.ensures.here field is c.requires.other
+    let at = here (goal.at.join_values-requires-clause-other c).After-index-fields-place in
+    theirs_value fs c.args.one c.args.other l.left key l.one l.other l.made at.1.0 l.invariant c.take_last-mine.result c.take_last-theirs.result c.take_last-mine.ensures.here c.take_last-theirs.ensures.here field at.1.1 c.requires.other
 
 pub returns-in-None : goal.returns-in-None
 returns-in-None c =
@@ -33,10 +36,8 @@ returns-in-None c =
     let l = c.loop-left in
     let field = c.index-fields-place.result in
     let key = c.in-Ok.key in
-    let same : key ≡ l.left - 1 = search (rules, c.in-Ok.ensures) in
-    let next : key + 1 ≡ l.left = (let some = c.loop-left-test.true in omega (arith, same, some)) in
-    let is : field ≡ get_or fs key field = subst (λ n. field ≡ get_or fs n field) (sym same) c.index-fields-place.is in
-    taken_clash fs c.args.one c.args.other l.left key l.one l.other l.made next l.invariant c.take_last-mine.result c.take_last-theirs.result c.take_last-mine.ensures.here c.take_last-theirs.ensures.here field is c.in_ok-join_values.field-0 c.in_ok-join_values.ensures.joins c.in-None.is
+    let at = here (goal.at.returns-in-None c).After-index-fields-place in
+    taken_clash fs c.args.one c.args.other l.left key l.one l.other l.made at.1.0 l.invariant c.take_last-mine.result c.take_last-theirs.result c.take_last-mine.ensures.here c.take_last-theirs.ensures.here field at.1.1 c.in_ok-join_values.field-0 c.in_ok-join_values.ensures.joins c.in-None.is
 
 pub loop-left-preserved : goal.loop-left-preserved
 loop-left-preserved c =
@@ -44,13 +45,11 @@ loop-left-preserved c =
     let l = c.loop-left in
     let field = c.index-fields-place.result in
     let key = c.in-Ok.key in
-    let same : key ≡ l.left - 1 = search (rules, c.in-Ok.ensures) in
-    let next : key + 1 ≡ l.left = (let some = c.loop-left-test.true in omega (arith, same, some)) in
-    let is : field ≡ get_or fs key field = subst (λ n. field ≡ get_or fs n field) (sym same) c.index-fields-place.is in
+    let at = here (goal.at.loop-left-preserved c).After-index-fields-place in
     let mine = c.take_last-mine in
     let theirs = c.take_last-theirs in
-    subst (λ n. TakenSoFar fs c.args.one c.args.other n mine.new.said theirs.new.said c.add.new.made) same
-    (taken_further fs c.args.one c.args.other l.left key l.one l.other l.made next l.invariant c.take_last-mine.result c.take_last-theirs.result c.take_last-mine.ensures.here c.take_last-theirs.ensures.here field is c.in_ok-join_values.field-0 c.in_ok-join_values.ensures.joins
+    subst (λ n. TakenSoFar fs c.args.one c.args.other n mine.new.said theirs.new.said c.add.new.made) at.0
+    (taken_further fs c.args.one c.args.other l.left key l.one l.other l.made at.1.0 l.invariant c.take_last-mine.result c.take_last-theirs.result c.take_last-mine.ensures.here c.take_last-theirs.ensures.here field at.1.1 c.in_ok-join_values.field-0 c.in_ok-join_values.ensures.joins
     c.in-Some.both mine.new.said theirs.new.said c.add.new.made c.in-Some.is c.in_ok-add-in-Some.ensures mine.ensures.front mine.ensures.rises mine.ensures.below theirs.ensures.front theirs.ensures.rises theirs.ensures.below)
 
 pub returns : goal.returns

@@ -1,4 +1,4 @@
-use Rattle.std.proofs.Common.{◌≡◌, ◌<◌, ◌+◌, ◌-◌, ◌∙◌, ◌∷◌, length, get_or, reverse, arith, ap, sym, subst, refl}
+use Rattle.std.proofs.Common.{◌≡◌, ◌<◌, ◌+◌, ◌-◌, ◌∙◌, ◌∷◌, length, get_or, reverse, arith, ap, sym, subst}
 use Rattle.std.proofs.lemmas.List.{get_or_default}
 use Rattle.xdg_classes.specs.Bodies.{Expr, body}
 use Rattle.xdg_lexicon.specs.declared.frames.Scope.{Scope}
@@ -11,12 +11,14 @@ use Rattle.xdg_lexicon.specs.Weights.{heavy, sized, weigh}
 use Rattle.xdg_lexicon.proofs.Denoted.{record_denotes, as_use}
 use Rattle.xdg_lexicon.proofs.Framed.{is_none, is_some, pushed, part_stands, or_parts, and_parts, first_listed, last_joined, nothing_listed, nothing_joined, use_entered, further}
 use Rattle.xdg_lexicon.proofs.Settled.{record_right}
-use Rattle.xdg_lexicon.proofs.Weighed.{IsLighter, weighs_some, or_lighter, and_lighter, use_lighter}
+use Rattle.xdg_lexicon.proofs.Weighed.{IsLighter, or_lighter, and_lighter, use_lighter}
+use Rattle.xdg_lexicon.proofs.frames.Walk.enter.Goals.{After-dims-dims, Else-is_empty-2}
 use Rattle.xdg_lexicon.proofs.frames.Walk.enter.Goals as goal
 use Rattle.xdg_facts.specs.Membership.{In}
 
-pub down-init : goal.down-init
-down-init c = record { enters = c.requires.enters; same = refl; lighter = omega arith }
+-- the dimensions are those of the table
+dims_are : (c : After-dims-dims) → c.dims-dims.result.now ≡ c.args.checked.now.types.dims
+dims_are c = c.dims-dims.ensures.same ∙ ap (λ ty. ty.dims) c.types.ensures.same
 
 -- ---- disjunctions
 
@@ -24,15 +26,6 @@ pub returns-then-is_empty-clause-leaves : goal.returns-then-is_empty-clause-leav
 returns-then-is_empty-clause-leaves c =
     nothing_listed c.args.checked.now (body c.args.self.now.whole.now) (open_in c.down.self) c.down.self.scope c.down.kind.now c.in-Or.members c.as_slice-members.result.now c.as_slice-members.ensures c.down.invariant.enters c.new.result.items c.in-Or.is
     (is_none _ c.is_empty.result c.is_empty.ensures c.if-is_empty.true) c.new.ensures.items
-
-pub returns-then-is_empty-clause-same : goal.returns-then-is_empty-clause-same
-returns-then-is_empty-clause-same c = c.down.invariant.same
-
-pub returns-then-is_empty-clause-less : goal.returns-then-is_empty-clause-less
-returns-then-is_empty-clause-less c =
-    let most = c.down.invariant.lighter in
-    let some = weighs_some (sized c.args.checked.now c.down.self.scope.depth) (body c.down.kind.now) in
-    omega (arith, most, some)
 
 pub bounds-members-0 : goal.bounds-members-0
 bounds-members-0 c = is_some _ c.is_empty.result c.is_empty.ensures c.if-is_empty.false
@@ -68,58 +61,44 @@ down-preserved-in-Or c =
 
 pub returns-then-is_empty-2-clause-leaves : goal.returns-then-is_empty-2-clause-leaves
 returns-then-is_empty-2-clause-leaves c =
-    let dims : c.dims-dims.result.now ≡ c.args.checked.now.types.dims = c.dims-dims.ensures.same ∙ ap (λ ty. ty.dims) c.types.ensures.same in
+    let dims = dims_are (goal.at.returns-then-is_empty-2-clause-leaves c).After-dims-dims in
     nothing_joined c.args.checked.now (body c.args.self.now.whole.now) (open_in c.down.self) c.down.self.scope c.down.kind.now c.in-And.members c.as_slice-members-in-And.result.now c.as_slice-members-in-And.ensures c.down.invariant.enters c.in_ok-say_nothing-in-And.field-0
     c.in_ok-nothing-in-And.nothing.items c.in-And.is (is_none _ c.is_empty-in-And.result c.is_empty-in-And.ensures c.if-is_empty-2.true) (c.in_ok-say_nothing-in-And.ensures.same ∙ ap nothing dims)
     (subst (λ ds. IsPartial ds c.in_ok-say_nothing-in-And.field-0) dims c.in_ok-say_nothing-in-And.ensures.partial) c.in_ok-nothing-in-And.ensures
 
-pub returns-then-is_empty-2-clause-same : goal.returns-then-is_empty-2-clause-same
-returns-then-is_empty-2-clause-same c = c.down.invariant.same
-
-pub returns-then-is_empty-2-clause-less : goal.returns-then-is_empty-2-clause-less
-returns-then-is_empty-2-clause-less c =
-    let most = c.down.invariant.lighter in
-    let some = weighs_some (sized c.args.checked.now c.down.self.scope.depth) (body c.down.kind.now) in
-    omega (arith, most, some)
+-- it has members
+some : (c : Else-is_empty-2) → 0 < length c.as_slice-members-in-And.result.now
+some c = is_some _ c.is_empty-in-And.result c.is_empty-in-And.ensures c.if-is_empty-2.false
 
 pub overflow_sub-last : goal.overflow_sub-last
-overflow_sub-last c =
-    let some = is_some _ c.is_empty-in-And.result c.is_empty-in-And.ensures c.if-is_empty-2.false in
-    omega (arith, some)
+overflow_sub-last c = omega (arith, some (goal.at.overflow_sub-last c).Else-is_empty-2)
 
 pub bounds-members-last : goal.bounds-members-last
-bounds-members-last c =
-    let some = is_some _ c.is_empty-in-And.result c.is_empty-in-And.ensures c.if-is_empty-2.false in
-    omega (arith, some)
+bounds-members-last c = omega (arith, some (goal.at.bounds-members-last c).Else-is_empty-2)
 
 pub offset_bounds-members-last : goal.offset_bounds-members-last
-offset_bounds-members-last c =
-    let some = is_some _ c.is_empty-in-And.result c.is_empty-in-And.ensures c.if-is_empty-2.false in
-    let b = c.as_slice-members-in-And.type_inv.1 in
-    omega (arith, some, b)
+offset_bounds-members-last c = omega (arith, some (goal.at.offset_bounds-members-last c).Else-is_empty-2, c.as_slice-members-in-And.type_inv.1)
 
 pub down-smaller-in-And : goal.down-smaller-in-And
 down-smaller-in-And c =
     let items = c.as_slice-members-in-And.result.now in
-    let some = is_some _ c.is_empty-in-And.result c.is_empty-in-And.ensures c.if-is_empty-2.false in
     let last = length items - 1 in
-    let long : last + 1 ≡ length items = omega (arith, some) in
+    let long : last + 1 ≡ length items = omega (arith, some (goal.at.down-smaller-in-And c).Else-is_empty-2) in
     let e : Expr = get_or items last c.index-members-last.result in
     let at : e ≡ get_or items last e = get_or_default items last c.index-members-last.result e (omega (arith, long)) in
     (and_lighter (sized c.args.checked.now c.down.self.scope.depth) c.down.kind.now c.in-And.members items e c.as_slice-members-in-And.ensures 0 last c.in-And.is long at).0
 
 pub down-preserved-in-And : goal.down-preserved-in-And
 down-preserved-in-And c =
-    let dims : c.dims-dims.result.now ≡ c.args.checked.now.types.dims = c.dims-dims.ensures.same ∙ ap (λ ty. ty.dims) c.types.ensures.same in
+    let dims = dims_are (goal.at.down-preserved-in-And c).After-dims-dims in
     let checked = c.args.checked.now in
     let whole = body c.args.self.now.whole.now in
     let walk = c.down.self in
     let items = c.as_slice-members-in-And.result.now in
     let same = c.as_slice-members-in-And.ensures in
     let enters = c.down.invariant.enters in
-    let some = is_some _ c.is_empty-in-And.result c.is_empty-in-And.ensures c.if-is_empty-2.false in
     let last = length items - 1 in
-    let long : last + 1 ≡ length items = omega (arith, some) in
+    let long : last + 1 ≡ length items = omega (arith, some (goal.at.down-preserved-in-And c).Else-is_empty-2) in
     let inside : last < length items = omega (arith, long) in
     let e : Expr = get_or items last c.index-members-last.result in
     let at : e ≡ get_or items last e = get_or_default items last c.index-members-last.result e inside in
@@ -139,13 +118,13 @@ down-preserved-in-And c =
 
 pub read_partial-requires-clause-right : goal.read_partial-requires-clause-right
 read_partial-requires-clause-right c dim stands named =
-    let dims : c.dims-dims.result.now ≡ c.args.checked.now.types.dims = c.dims-dims.ensures.same ∙ ap (λ ty. ty.dims) c.types.ensures.same in
+    let dims = dims_are (goal.at.read_partial-requires-clause-right c).After-dims-dims in
     subst (AreRight c.down.self.scope.bindings dim.fields) (sym c.as_slice.ensures)
     (record_right c.args.checked.now.types c.args.checked.now.classes c.down.self.scope.bindings c.down.kind.now c.in-Dim.dim c.in-Dim.pairs dim c.types.ensures.keeps.types c.down.invariant.enters.stands.right c.in-Dim.is (subst (λ ds. In ds dim) dims stands) (named ∙ c.as_str-name.ensures))
 
 pub returns-in-Dim-clause-leaves : goal.returns-in-Dim-clause-leaves
 returns-in-Dim-clause-leaves c =
-    let dims : c.dims-dims.result.now ≡ c.args.checked.now.types.dims = c.dims-dims.ensures.same ∙ ap (λ ty. ty.dims) c.types.ensures.same in
+    let dims = dims_are (goal.at.returns-in-Dim-clause-leaves c).After-dims-dims in
     record {
       part = body c.down.kind.now;
       denotes =
@@ -156,19 +135,7 @@ returns-in-Dim-clause-leaves c =
       around = c.down.invariant.enters.around;
     }
 
-pub returns-in-Dim-clause-same : goal.returns-in-Dim-clause-same
-returns-in-Dim-clause-same c = c.down.invariant.same
-
-pub returns-in-Dim-clause-less : goal.returns-in-Dim-clause-less
-returns-in-Dim-clause-less c =
-    let most = c.down.invariant.lighter in
-    let some = weighs_some (sized c.args.checked.now c.down.self.scope.depth) (body c.down.kind.now) in
-    omega (arith, most, some)
-
 -- ---- uses
-
-pub follow-requires-clause-within : goal.follow-requires-clause-within
-follow-requires-clause-within c = c.down.invariant.enters.stands.within
 
 pub follow-requires-clause-ranked : goal.follow-requires-clause-ranked
 follow-requires-clause-ranked c = as_use (IsRanked c.args.checked.now c.down.self.scope.depth) c.down.kind.now c.in-Use.name c.in-Use.args c.args_of-args.result.now c.in-Use.is c.args_of-args.ensures c.down.invariant.enters.stands.ranked

@@ -7,38 +7,26 @@ use Rattle.xdg_lexicon.specs.Partial.{ArePartial}
 use Rattle.xdg_lexicon.specs.Weights.{heavy, sized}
 use Rattle.xdg_lexicon.proofs.Framed.{pushed, joins_told, all_joined, next_joined}
 use Rattle.xdg_lexicon.proofs.Weighed.{joining_goes}
+use Rattle.xdg_lexicon.proofs.frames.Walk.join.Goals.{After-dims-dims}
 use Rattle.xdg_lexicon.proofs.frames.Walk.join.Goals as goal
 use Rattle.xdg_facts.proofs.Options.{if_ok}
 
+-- the dimensions are those of the table
+dims_are : (c : After-dims-dims) → c.dims-dims.result.now ≡ c.args.checked.now.types.dims
+dims_are c = c.dims-dims.ensures.same ∙ ap (λ ty. ty.dims) c.types.ensures.same
+
 pub join_all-requires-clause-first : goal.join_all-requires-clause-first
-join_all-requires-clause-first c =
-    let dims : c.dims-dims.result.now ≡ c.args.checked.now.types.dims = c.dims-dims.ensures.same ∙ ap (λ ty. ty.dims) c.types.ensures.same in
-    subst (λ ds. ArePartial ds c.args.made.items) (sym dims) c.requires.leaves.partial
+join_all-requires-clause-first c = subst (λ ds. ArePartial ds c.args.made.items) (sym (dims_are (goal.at.join_all-requires-clause-first c).After-dims-dims)) c.requires.leaves.partial
 
 pub join_all-requires-clause-second : goal.join_all-requires-clause-second
-join_all-requires-clause-second c =
-    let dims : c.dims-dims.result.now ≡ c.args.checked.now.types.dims = c.dims-dims.ensures.same ∙ ap (λ ty. ty.dims) c.types.ensures.same in
-    subst (λ ds. ArePartial ds c.args.joined.items) (sym dims) c.requires.leaves.around.0.so_far.1.1
+join_all-requires-clause-second c = subst (λ ds. ArePartial ds c.args.joined.items) (sym (dims_are (goal.at.join_all-requires-clause-second c).After-dims-dims)) c.requires.leaves.around.0.so_far.1.1
 
 pub returns-then-place-eq0-clause-leaves : goal.returns-then-place-eq0-clause-leaves
 returns-then-place-eq0-clause-leaves c =
     let l = c.requires.leaves in
-    let dims : c.dims-dims.result.now ≡ c.args.checked.now.types.dims = c.dims-dims.ensures.same ∙ ap (λ ty. ty.dims) c.types.ensures.same in
-    let told = joins_told _ c.args.checked.now.types.dims c.args.made.items c.args.joined.items c.in_ok-both.both.items dims c.in_ok-both.ensures.joins c.in_ok-both.ensures.partial in
+    let told = joins_told _ c.args.checked.now.types.dims c.args.made.items c.args.joined.items c.in_ok-both.both.items (dims_are (goal.at.returns-then-place-eq0-clause-leaves c).After-dims-dims) c.in_ok-both.ensures.joins c.in_ok-both.ensures.partial in
     all_joined c.args.checked.now (body c.args.self.now.whole.now) (open_in c.args.self.now) c.args.self.now.scope c.args.members.now c.args.place c.args.joined.items c.args.made.items c.in_ok-both.both.items l.part l.denotes l.around.0 l.around.1 told.0 told.1
     (let past = c.if-place-eq0.true in omega (arith, past))
-
-pub returns-then-place-eq0-clause-less : goal.returns-then-place-eq0-clause-less
-returns-then-place-eq0-clause-less c = omega arith
-
-pub overflow_sub-next : goal.overflow_sub-next
-overflow_sub-next c = (let some = c.if-place-eq0.false in omega (arith, some))
-
-pub bounds-members-next : goal.bounds-members-next
-bounds-members-next c = (let within = c.requires.leaves.around.0.open_at.within in omega (arith, within))
-
-pub offset_bounds-members-next : goal.offset_bounds-members-next
-offset_bounds-members-next c = (let within = c.requires.leaves.around.0.open_at.within in let b = c.well_formed in omega (arith, within, b))
 
 pub enter-requires : goal.enter-requires
 enter-requires c =
@@ -52,8 +40,7 @@ enter-requires c =
     let inside : next < length items = (let within = l.around.0.open_at.within in omega (arith, within)) in
     let e : Expr = get_or items next c.index-members-next.result in
     let at : e ≡ get_or items next e = get_or_default items next c.index-members-next.result e inside in
-    let dims : c.dims-dims.result.now ≡ checked.types.dims = c.dims-dims.ensures.same ∙ ap (λ ty. ty.dims) c.types.ensures.same in
-    let told = joins_told _ checked.types.dims c.args.made.items c.args.joined.items c.in_ok-both.both.items dims c.in_ok-both.ensures.joins c.in_ok-both.ensures.partial in
+    let told = joins_told _ checked.types.dims c.args.made.items c.args.joined.items c.in_ok-both.both.items (dims_are (goal.at.enter-requires c).After-dims-dims) c.in_ok-both.ensures.joins c.in_ok-both.ensures.partial in
     let further = next_joined checked whole (open_in walk) walk.scope items c.args.place c.args.joined.items c.args.made.items c.in_ok-both.both.items l.part l.denotes l.around.0 l.around.1 told.0 told.1 e next before at in
     record {
       enters = record {

@@ -21,9 +21,6 @@ returns-then-next-members-clause-leaves c =
     all_listed c.args.checked.now (body c.args.self.now.whole.now) (open_in c.args.self.now) c.args.self.now.scope c.args.members.now c.args.place c.args.listed.items c.args.made.items c.append.new.self.items l.part l.denotes l.partial l.around.0 l.around.1
     c.in_ok-append.ensures.items (let past = c.if-next-members.true in omega (arith, past))
 
-pub returns-then-next-members-clause-less : goal.returns-then-next-members-clause-less
-returns-then-next-members-clause-less c = omega arith
-
 pub bounds-members-next : goal.bounds-members-next
 bounds-members-next c =
     let within = c.requires.leaves.around.0.open_at.within in
