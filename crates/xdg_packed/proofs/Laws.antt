@@ -1,33 +1,26 @@
 -- What is filled is a value that says all, and nothing is filled exactly where a plain part lacks.
-use Rattle.std.proofs.Common.{◌≡◌, ◌⊎◌, ℕ, ◌<◌, ◌≤◌, ◌+◌, zero, suc, List, [], ◌∷◌, map, Option, None, Some, inl, inr, refl, ap, ap₂, sym, ◌∙◌, arith, subst}
-use Rattle.std.specs.Prelude.{◌↔◌, ◌==◌, MatchOption, Result, Ok, Err, IfOk, IfSome}
+use Rattle.std.proofs.Common.{◌≡◌, ◌⊎◌, ℕ, ◌<◌, ◌≤◌, ◌+◌, zero, suc, List, [], ◌∷◌, Option, None, Some, inl, inr, refl, ap, ap₂, sym, ◌∙◌, arith, subst}
+use Rattle.std.specs.Prelude.{◌↔◌, MatchOption, Result, Ok, Err, IfOk, IfSome}
 use Rattle.xdg_base.specs.declared.faults.OutOfMemory.{OutOfMemory}
 use Rattle.std.specs.List.{range_with_len}
-use Rattle.std.proofs.lemmas.Bool.{cond-true, cond-false, cases_eq, eq-eqb, ne_eqb}
+use Rattle.std.proofs.lemmas.Bool.{cases_eq}
 use Rattle.xdg_domain.specs.Cards.{IsCards}
 use Rattle.xdg_domain.specs.Valencies.{said_at, KeysRise}
-use Rattle.xdg_domain.specs.Shapes.{Shape, domain, tuple, truth, integer, text, set, iset, card, valency, mapping, fields, Fields, no_field, field_then, count, IsType, AreTypes, IsMapped}
+use Rattle.xdg_domain.specs.Shapes.{Shape, set, iset, card, valency, mapping, fields, Fields, no_field, field_then, count, IsType, AreTypes, IsMapped}
 use Rattle.xdg_domain.specs.Values.{EachSaid, IsIn, IsFieldOf, IsValue}
 use Rattle.xdg_domain.specs.Defaults.{field_and_defaults, record_of_defaults, IsFilledIn, AreFilled, IsFilled}
 use Rattle.xdg_domain.specs.declared.values.Value.{Value, out-Value}
 use Rattle.xdg_domain.specs.declared.values.Value.TheOpen.{Value-F}
 use Rattle.xdg_domain.specs.declared.values.Value.TheVariants as v
-use Rattle.xdg_domain.proofs.DefaultLaws.{default_is_value, zero_alone, each_wider, IsRight, IsAt, by_layer, differ}
+use Rattle.xdg_domain.proofs.DefaultLaws.{default_is_value, zero_alone, each_wider, IsRight, IsAt, by_layer, differ, taken}
+use Rattle.xdg_domain.proofs.Each.{keyed_rises, keyed_each, keyed_said}
+use Rattle.xdg_domain.proofs.Keyed.{at_head, after_head, said_right}
 use Rattle.xdg_domain.proofs.Made.{none_and}
 use Rattle.xdg_packed.specs.Filled.{cards_in, cards_said, keys_in, keys_said, fields_in, fields_said, or_zero, each_key, filled_cards, filled, filled_fields, Lacks, SomeLacks, IsSaid, AreValuesOf, AreSaid}
 use Rattle.xdg_facts.proofs.Options.{some_same}
 use Rattle.xdg_domain.specs.Joined.{of_map}
 
 -- ---- what is said
-
-said_each : {V : Type 0} (P : ℕ → V → Type 0) (m : List (ℕ × V)) (key : ℕ) (w : V) → EachSaid P m → said_at m key ≡ Some w → P key w
-said_each P [] key w each e = absurd (cc)
-said_each P (entry ∷ m) key w each e = elim (cases_eq entry.0 key) [
-  | inl same ↦
-      let is : entry.1 ≡ w = some_same entry.1 w (sym (cond-true (entry.0 == key) (Some entry.1) (said_at m key) (eq-eqb entry.0 key same)) ∙ e) in
-      subst (λ k. P k w) same (subst (P entry.0) is each.0)
-  | inr other ↦ said_each P m key w each.1 (sym (cond-false (entry.0 == key) (Some entry.1) (said_at m key) (ne_eqb entry.0 key other)) ∙ e)
-]
 
 is_said : (s : Shape) (o : Option Value) → ((w : Value) → o ≡ Some w → IsValue s w) → IsSaid s o
 is_said s None h = tt
@@ -41,7 +34,7 @@ are_said (field_then name u fs) place m h = (
 )
 
 record_layer : (fs : Fields) (l : Value-F Value) → IsIn (fields fs) l → KeysRise 0 (fields_in l) × AreSaid 0 fs (fields_in l)
-record_layer fs (Value-F.Rec m) h = (h.0, are_said fs 0 m (λ j w e. said_each (IsFieldOf fs) m j w h.1 (ap (said_at m) (omega arith) ∙ e)))
+record_layer fs (Value-F.Rec m) h = (h.0, are_said fs 0 m (λ j w e. said_right (IsFieldOf fs) m j w h.1 (ap (said_at m) (omega arith) ∙ e)))
 record_layer fs other h = absurd h
 
 nothing_said : (fs : Fields) (place : ℕ) → AreSaid place fs []
@@ -54,7 +47,7 @@ record_said fs None h = (tt, nothing_said fs 0)
 record_said fs (Some x) h = record_layer fs (out-Value x) h
 
 map_layer : (k u : Shape) (l : Value-F Value) → IsIn (mapping k u) l → AreValuesOf u (keys_in l)
-map_layer k u (Value-F.Map m) h = λ key. is_said u (said_at m key) (λ w e. (said_each (λ key v. (key < count k) × IsIn u (out-Value v)) m key w h.1 e).1)
+map_layer k u (Value-F.Map m) h = λ key. is_said u (said_at m key) (λ w e. (said_right (λ key v. (key < count k) × IsIn u (out-Value v)) m key w h.1 e).1)
 map_layer k u other h = absurd h
 
 -- what is said of the keys of a map is right
@@ -71,7 +64,7 @@ cards_or_zero None h = zero_alone
 cards_or_zero (Some ns) h = h ns refl
 
 valency_layer : (k : Shape) (l : Value-F Value) → IsIn (valency k) l → AreCards (cards_in l)
-valency_layer k (Value-F.Valency m) h = λ key. cards_or_zero (said_at m key) (λ ns e. (said_each (λ key ns. (key < count k) × IsCards ns) m key ns h.1 e).1)
+valency_layer k (Value-F.Valency m) h = λ key. cards_or_zero (said_at m key) (λ ns e. (said_right (λ key ns. (key < count k) × IsCards ns) m key ns h.1 e).1)
 valency_layer k other h = absurd h
 
 valency_said : (k : Shape) (said : Option Value) → IsSaid (valency k) said → AreCards (cards_said said)
@@ -81,17 +74,12 @@ valency_said k (Some x) h = valency_layer k (out-Value x) h
 -- ---- whether something lacks
 
 mapped_full : (s : Shape) (said : Option Value) → IsMapped s → Lacks s said → ⊥
-mapped_full (domain cs) said h p = h
-mapped_full (tuple ss) said h p = h
-mapped_full truth said h p = h
-mapped_full integer said h p = h
-mapped_full text said h p = h
 mapped_full (set s) said h p = p
 mapped_full (iset s) said h p = p
 mapped_full card said h p = p
 mapped_full (valency k) said h p = p
 mapped_full (mapping k u) said h p = p
-mapped_full (fields fs) said h p = h
+mapped_full s said h p = h
 
 abbrev Decided : Shape → Option Value → Type 0
 Decided s said = ((filled s said ≡ None) × Lacks s said) ⊎ ((Lacks s said → ⊥) × ((x : Value) × (filled s said ≡ Some x)))
@@ -111,22 +99,9 @@ found u o mapped d = elim d [
 
 mutual
   decided : (s : Shape) → IsType s → (said : Option Value) → Decided s said
-  decided (domain cs) h None = inl (refl, tt)
-  decided (domain cs) h (Some x) = inr (λ p. p, (x, refl))
-  decided (tuple ss) h None = inl (refl, tt)
-  decided (tuple ss) h (Some x) = inr (λ p. p, (x, refl))
-  decided truth h None = inl (refl, tt)
-  decided truth h (Some x) = inr (λ p. p, (x, refl))
-  decided integer h None = inl (refl, tt)
-  decided integer h (Some x) = inr (λ p. p, (x, refl))
-  decided text h None = inl (refl, tt)
-  decided text h (Some x) = inr (λ p. p, (x, refl))
   decided (set s) h None = inr (λ p. p, (v.Set [], refl))
-  decided (set s) h (Some x) = inr (λ p. p, (x, refl))
   decided (iset s) h None = inr (λ p. p, (v.Set (range_with_len 0 (count s)), refl))
-  decided (iset s) h (Some x) = inr (λ p. p, (x, refl))
   decided card h None = inr (λ p. p, (_, refl))
-  decided card h (Some x) = inr (λ p. p, (x, refl))
   decided (valency k) h said = inr (λ p. p, (v.Valency (filled_cards (count k) (cards_said said)), refl))
   decided (mapping k u) h said =
       let f : ℕ → Option Value = λ key. filled u (said_at (keys_said said) key) in
@@ -136,6 +111,8 @@ mutual
     | inl none ↦ inl (ap record_of_defaults none.0, none.1)
     | inr some ↦ inr (some.0, (v.Rec some.1.0, ap record_of_defaults some.1.1))
   ]
+  decided s h None = inl (refl, tt)
+  decided s h (Some x) = inr (λ p. p, (x, refl))
 
   all_decided : (fs : Fields) → AreTypes fs → (place : ℕ) (m : List (ℕ × Value)) → AllDecided place fs m
   all_decided no_field h place m = inr (λ p. p, ([], refl))
@@ -154,48 +131,13 @@ none_lacks s h said = (
   λ p. elim (decided s h said) [ inl none ↦ none.0 | inr some ↦ absurd (some.0 p) ],
 )
 
--- ---- what a function says of each key
-
-abbrev keyed : {V : Type 0} → (ℕ → V) → ℕ → ℕ → List (ℕ × V)
-keyed g start n = map (λ key. (key, g key)) (range_with_len start n)
-
-keyed_rises : {V : Type 0} (g : ℕ → V) (start n : ℕ) → KeysRise start (keyed g start n)
-keyed_rises g start zero = tt
-keyed_rises g start (suc n) = (omega arith, keyed_rises g (start + 1) n)
-
-keyed_each : {V : Type 0} (P : ℕ → V → Type 0) (g : ℕ → V) (bound start n : ℕ) → start + n ≤ bound → ((key : ℕ) → key < bound → P key (g key)) → EachSaid P (keyed g start n)
-keyed_each P g bound start zero within holds = tt
-keyed_each P g bound start (suc n) within holds = (holds start (omega (arith, within)), keyed_each P g bound (start + 1) n (omega (arith, within)) holds)
-
-keyed_said : {V : Type 0} (g : ℕ → V) (start n key : ℕ) → start ≤ key → key < start + n → said_at (keyed g start n) key ≡ Some (g key)
-keyed_said g start zero key above below = absurd (omega (arith, above, below))
-keyed_said g start (suc n) key above below = elim (cases_eq start key) [
-  | inl e ↦ cond-true (start == key) (Some (g start)) (said_at (keyed g (start + 1) n) key) (eq-eqb start key e) ∙ ap (λ k. Some (g k)) e
-  | inr other ↦
-      cond-false (start == key) (Some (g start)) (said_at (keyed g (start + 1) n) key) (ne_eqb start key other)
-      ∙ keyed_said g (start + 1) n key (omega (arith, above, other)) (omega (arith, below))
-]
-
 -- ---- what it is
 
-record Taken (place : ℕ) (o : Option Value) (r : Option (List (ℕ × Value))) (all : List (ℕ × Value)) : Type 0 where
-  head : Value
-  rest : List (ℕ × Value)
-  one : o ≡ Some head
-  more : r ≡ Some rest
-  whole : (place, head) ∷ rest ≡ all
-
-taken : (place : ℕ) (o : Option Value) (r : Option (List (ℕ × Value))) (all : List (ℕ × Value)) → field_and_defaults place o r ≡ Some all → Taken place o r all
-taken place None None all e = absurd (cc)
-taken place None (Some rest) all e = absurd (cc)
-taken place (Some x) None all e = absurd (cc)
-taken place (Some x) (Some rest) all e = record { head = x; rest = rest; one = refl; more = refl; whole = some_same ((place, x) ∷ rest) all e }
-
 head_said : (place : ℕ) (x : Value) (rest all : List (ℕ × Value)) → (place, x) ∷ rest ≡ all → said_at all place ≡ Some x
-head_said place x rest all whole = ap (λ l. said_at l place) (sym whole) ∙ cond-true (place == place) (Some x) (said_at rest place) (eq-eqb place place refl)
+head_said place x rest all whole = ap (λ l. said_at l place) (sym whole) ∙ at_head (place, x) rest place refl
 
 rest_said : (place : ℕ) (x : Value) (rest all : List (ℕ × Value)) (key : ℕ) → (place, x) ∷ rest ≡ all → (place ≡ key → ⊥) → said_at all key ≡ said_at rest key
-rest_said place x rest all key whole other = ap (λ l. said_at l key) (sym whole) ∙ cond-false (place == key) (Some x) (said_at rest key) (ne_eqb place key other)
+rest_said place x rest all key whole other = ap (λ l. said_at l key) (sym whole) ∙ after_head (place, x) rest key other
 
 -- the keys of a map
 module _ (f : ℕ → Option Value) (P : Value → Type 0) (holds : (key : ℕ) (x : Value) → f key ≡ Some x → P x) where
@@ -209,17 +151,17 @@ module _ (f : ℕ → Option Value) (P : Value → Type 0) (holds : (key : ℕ) 
   each_holds bound start zero all within e = subst (EachSaid (λ key x. (key < bound) × P x)) (some_same [] all e) tt
   each_holds bound start (suc n) all within e =
       let t = taken start (f start) (each_key f (range_with_len (start + 1) n)) all e in
-      subst (EachSaid (λ key x. (key < bound) × P x)) t.whole ((omega (arith, within), holds start t.head t.one), each_holds bound (start + 1) n t.rest (omega (arith, within)) t.more)
+      subst (EachSaid (λ key x. (key < bound) × P x)) t.whole ((omega (arith, within), holds start t.first t.one), each_holds bound (start + 1) n t.rest (omega (arith, within)) t.more)
 
   each_has : (start n : ℕ) (all : List (ℕ × Value)) → each_key f (range_with_len start n) ≡ Some all → (key : ℕ) → start ≤ key → key < start + n → (x : Value) × ((said_at all key ≡ Some x) × P x)
   each_has start zero all e key above below = absurd (omega (arith, above, below))
   each_has start (suc n) all e key above below =
       let t = taken start (f start) (each_key f (range_with_len (start + 1) n)) all e in
       elim (cases_eq start key) [
-        | inl same ↦ (t.head, (ap (said_at all) (sym same) ∙ head_said start t.head t.rest all t.whole, holds start t.head t.one))
+        | inl same ↦ (t.first, (ap (said_at all) (sym same) ∙ head_said start t.first t.rest all t.whole, holds start t.first t.one))
         | inr other ↦
             let later = each_has (start + 1) n t.rest t.more key (omega (arith, above, other)) (omega (arith, below)) in
-            (later.0, (rest_said start t.head t.rest all key t.whole other ∙ later.1.0, later.1.1))
+            (later.0, (rest_said start t.first t.rest all key t.whole other ∙ later.1.0, later.1.1))
       ]
 
 -- a value of the type that says all
@@ -232,22 +174,9 @@ fields_rise (field_then name u fs) place m all e =
 
 mutual
   right : (s : Shape) → IsType s → (said : Option Value) → IsSaid s said → (x : Value) → filled s said ≡ Some x → IsRight s x
-  right (domain cs) h None given x e = absurd (cc)
-  right (domain cs) h (Some y) given x e = (subst (IsValue (domain cs)) (some_same y x e) given, tt)
-  right (tuple ss) h None given x e = absurd (cc)
-  right (tuple ss) h (Some y) given x e = (subst (IsValue (tuple ss)) (some_same y x e) given, tt)
-  right truth h None given x e = absurd (cc)
-  right truth h (Some y) given x e = (subst (IsValue truth) (some_same y x e) given, tt)
-  right integer h None given x e = absurd (cc)
-  right integer h (Some y) given x e = (subst (IsValue integer) (some_same y x e) given, tt)
-  right text h None given x e = absurd (cc)
-  right text h (Some y) given x e = (subst (IsValue text) (some_same y x e) given, tt)
   right (set s) h None given x e = (default_is_value (set s) h x e, tt)
-  right (set s) h (Some y) given x e = (subst (IsValue (set s)) (some_same y x e) given, tt)
   right (iset s) h None given x e = (default_is_value (iset s) h x e, tt)
-  right (iset s) h (Some y) given x e = (subst (IsValue (iset s)) (some_same y x e) given, tt)
   right card h None given x e = (default_is_value card h x e, tt)
-  right card h (Some y) given x e = (subst (IsValue card) (some_same y x e) given, tt)
   right (valency k) h said given x e =
       let m = cards_said said in
       let g : ℕ → List ℕ = λ key. or_zero (said_at m key) in
@@ -282,13 +211,15 @@ mutual
           fields_filled fs h.1 0 m are all some.1.1 all (λ q above. refl),
         )
   ]
+  right s h None given x e = absurd (cc)
+  right s h (Some y) given x e = (subst (IsValue s) (some_same y x e) given, tt)
 
   fields_each : (fs : Fields) → AreTypes fs → (place : ℕ) (m : List (ℕ × Value)) → AreSaid place fs m → (all : List (ℕ × Value)) → filled_fields place fs m ≡ Some all → EachSaid (IsAt fs place) all
   fields_each no_field h place m are all e = subst (EachSaid (IsAt no_field place)) (some_same [] all e) tt
   fields_each (field_then name u fs) h place m are all e =
       let t = taken place (filled u (said_at m place)) (filled_fields (place + 1) fs m) all e in
       subst (EachSaid (IsAt (field_then name u fs) place)) t.whole (
-        (zero, (omega arith, (right u h.0 (said_at m place) are.0 t.head t.one).0)),
+        (zero, (omega arith, (right u h.0 (said_at m place) are.0 t.first t.one).0)),
         each_wider (IsAt fs (place + 1)) (IsAt (field_then name u fs) place) (λ k w g. (suc g.0, (omega (arith, g.1.0), g.1.1))) t.rest (fields_each fs h.1 (place + 1) m are.1 t.rest t.more),
       )
 
@@ -296,9 +227,9 @@ mutual
   fields_filled no_field h place m are all e n same = tt
   fields_filled (field_then name u fs) h place m are all e n same =
       let t = taken place (filled u (said_at m place)) (filled_fields (place + 1) fs m) all e in
-      let here : said_at n place ≡ Some t.head = same place (omega arith) ∙ head_said place t.head t.rest all t.whole in (
-        subst (λ o. MatchOption o ⊥ (λ w. IsFilledIn u (out-Value w))) (sym here) ((right u h.0 (said_at m place) are.0 t.head t.one).1),
-        fields_filled fs h.1 (place + 1) m are.1 t.rest t.more n (λ q above. same q (omega (arith, above)) ∙ rest_said place t.head t.rest all q t.whole (λ f. omega (arith, f, above))),
+      let here : said_at n place ≡ Some t.first = same place (omega arith) ∙ head_said place t.first t.rest all t.whole in (
+        subst (λ o. MatchOption o ⊥ (λ w. IsFilledIn u (out-Value w))) (sym here) ((right u h.0 (said_at m place) are.0 t.first t.one).1),
+        fields_filled fs h.1 (place + 1) m are.1 t.rest t.more n (λ q above. same q (omega (arith, above)) ∙ rest_said place t.first t.rest all q t.whole (λ f. omega (arith, f, above))),
       )
 
 -- what is filled is a value of the type, and says something of each key and of each field

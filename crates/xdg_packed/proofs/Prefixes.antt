@@ -85,16 +85,9 @@ keyed_spelled [] = refl
 keyed_spelled (entry ∷ entries) = ap (λ rest. codes "," ++ (number entry.0 ++ spelling entry.1) ++ rest) (keyed_spelled entries)
 
 layer_is : (l : Value-F Value) → layer (map-Value Value (List ℕ) spelling l) ≡ inner l
-layer_is (Value-F.Const n) = refl
-layer_is (Value-F.Tuple n) = refl
-layer_is (Value-F.Set ns) = refl
-layer_is (Value-F.Card ns) = refl
-layer_is (Value-F.Valency entries) = refl
 layer_is (Value-F.Map entries) = ap (λ rest. codes "m" ++ rest) (keyed_spelled entries)
-layer_is (Value-F.Bool b) = refl
-layer_is (Value-F.Int n) = refl
-layer_is (Value-F.Str bytes) = refl
 layer_is (Value-F.Rec entries) = ap (λ rest. codes "r" ++ rest) (keyed_spelled entries)
+layer_is l = refl
 
 pub spelling_is : (v : Value) → spelling v ≡ inner (out-Value v)
 unfolding spelling
@@ -123,48 +116,23 @@ known_entries (entry ∷ entries) = (pair_told spelling entry.0 entry.1.0 entry.
 entries_told : (entries : List (ℕ × Known)) → Told (keyed spelling) (forget_each entries)
 entries_told entries = list_told (λ entry. number entry.0 ++ spelling entry.1) (forget_each entries) (known_entries entries)
 
+-- a mark and what follows it tell one variant
+mark_told : {A : Type 0} (make : A → Value-F Value) (mark : ℕ) (spell : A → List ℕ) (x y : A) (r s : List ℕ) → Told spell x → mark ∷ (spell x ++ r) ≡ mark ∷ (spell y ++ s) → (make x ≡ make y) × (r ≡ s)
+mark_told make mark spell x y r s told e = let rest = told y r s (tails mark mark (spell x ++ r) (spell y ++ s) e) in (ap make rest.0, rest.1)
+
 -- what the layer holds is told, so the layer is
 layer_told : (z : Value-F Known) (l : Value-F Value) (r s : List ℕ) → inner (forget z) ++ r ≡ inner l ++ s → (forget z ≡ l) × (r ≡ s)
-layer_told (Value-F.Const n) (Value-F.Const m) r s e =
-    let rest = number_told n m r s (tails 99 99 (number n ++ r) (number m ++ s) e) in
-    (ap Value-F.Const rest.0, rest.1)
-layer_told (Value-F.Const n) l r s e = absurd (apart _ _ _ _ refl e)
-layer_told (Value-F.Tuple n) (Value-F.Tuple m) r s e =
-    let rest = number_told n m r s (tails 116 116 (number n ++ r) (number m ++ s) e) in
-    (ap Value-F.Tuple rest.0, rest.1)
-layer_told (Value-F.Tuple n) l r s e = absurd (apart _ _ _ _ refl e)
-layer_told (Value-F.Set ns) (Value-F.Set ms) r s e =
-    let rest = numbers_told ns ms r s (tails 115 115 (numbers ns ++ r) (numbers ms ++ s) e) in
-    (ap Value-F.Set rest.0, rest.1)
-layer_told (Value-F.Set ns) l r s e = absurd (apart _ _ _ _ refl e)
-layer_told (Value-F.Card ns) (Value-F.Card ms) r s e =
-    let rest = numbers_told ns ms r s (tails 110 110 (numbers ns ++ r) (numbers ms ++ s) e) in
-    (ap Value-F.Card rest.0, rest.1)
-layer_told (Value-F.Card ns) l r s e = absurd (apart _ _ _ _ refl e)
-layer_told (Value-F.Valency entries) (Value-F.Valency others) r s e =
-    let rest = valency_told entries others r s (tails 118 118 (keyed numbers entries ++ r) (keyed numbers others ++ s) e) in
-    (ap Value-F.Valency rest.0, rest.1)
-layer_told (Value-F.Valency entries) l r s e = absurd (apart _ _ _ _ refl e)
-layer_told (Value-F.Map entries) (Value-F.Map others) r s e =
-    let rest = entries_told entries others r s (tails 109 109 (keyed spelling (forget_each entries) ++ r) (keyed spelling others ++ s) e) in
-    (ap Value-F.Map rest.0, rest.1)
-layer_told (Value-F.Map entries) l r s e = absurd (apart _ _ _ _ refl e)
-layer_told (Value-F.Bool b) (Value-F.Bool d) r s e =
-    let rest = truth_told b d r s (tails 98 98 (truth b ++ r) (truth d ++ s) e) in
-    (ap Value-F.Bool rest.0, rest.1)
-layer_told (Value-F.Bool b) l r s e = absurd (apart _ _ _ _ refl e)
-layer_told (Value-F.Int n) (Value-F.Int m) r s e =
-    let rest = number_told n m r s (tails 105 105 (number n ++ r) (number m ++ s) e) in
-    (ap Value-F.Int rest.0, rest.1)
-layer_told (Value-F.Int n) l r s e = absurd (apart _ _ _ _ refl e)
-layer_told (Value-F.Str bytes) (Value-F.Str others) r s e =
-    let rest = text_told bytes others r s (tails 113 113 (text bytes ++ r) (text others ++ s) e) in
-    (ap Value-F.Str rest.0, rest.1)
-layer_told (Value-F.Str bytes) l r s e = absurd (apart _ _ _ _ refl e)
-layer_told (Value-F.Rec entries) (Value-F.Rec others) r s e =
-    let rest = entries_told entries others r s (tails 114 114 (keyed spelling (forget_each entries) ++ r) (keyed spelling others ++ s) e) in
-    (ap Value-F.Rec rest.0, rest.1)
-layer_told (Value-F.Rec entries) l r s e = absurd (apart _ _ _ _ refl e)
+layer_told (Value-F.Const n) (Value-F.Const m) r s e = mark_told Value-F.Const 99 number n m r s (number_told n) e
+layer_told (Value-F.Tuple n) (Value-F.Tuple m) r s e = mark_told Value-F.Tuple 116 number n m r s (number_told n) e
+layer_told (Value-F.Set ns) (Value-F.Set ms) r s e = mark_told Value-F.Set 115 numbers ns ms r s (numbers_told ns) e
+layer_told (Value-F.Card ns) (Value-F.Card ms) r s e = mark_told Value-F.Card 110 numbers ns ms r s (numbers_told ns) e
+layer_told (Value-F.Valency entries) (Value-F.Valency others) r s e = mark_told Value-F.Valency 118 (keyed numbers) entries others r s (valency_told entries) e
+layer_told (Value-F.Map entries) (Value-F.Map others) r s e = mark_told Value-F.Map 109 (keyed spelling) (forget_each entries) others r s (entries_told entries) e
+layer_told (Value-F.Bool b) (Value-F.Bool d) r s e = mark_told Value-F.Bool 98 truth b d r s (truth_told b) e
+layer_told (Value-F.Int n) (Value-F.Int m) r s e = mark_told Value-F.Int 105 number n m r s (number_told n) e
+layer_told (Value-F.Str bytes) (Value-F.Str others) r s e = mark_told Value-F.Str 113 text bytes others r s (text_told bytes) e
+layer_told (Value-F.Rec entries) (Value-F.Rec others) r s e = mark_told Value-F.Rec 114 (keyed spelling) (forget_each entries) others r s (entries_told entries) e
+layer_told z l r s e = absurd (apart _ _ _ _ refl e)
 
 rolled_told : (z : Value-F Known) → Told spelling (roll-Value (forget z))
 rolled_told z y r s e =
