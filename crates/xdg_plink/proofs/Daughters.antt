@@ -1,8 +1,7 @@
 -- The daughters of a node by a label, one after another, and those near which nothing was lost.
-use Rattle.std.proofs.Common.{◌≡◌, ◌≢◌, ℕ, ◌<◌, ◌↔◌, ◌||◌, ◌&&◌, IsTrue, inl, inr, Bool, true, List, [], ◌∷◌, length, refl, sym, ◌∙◌, subst}
-use Rattle.std.proofs.lemmas.Bool.{cases_Bool, cases_eq, false≢true, ne_eqb}
+use Rattle.std.proofs.Common.{◌≡◌, ◌≢◌, ℕ, ◌<◌, ◌↔◌, ◌&&◌, IsTrue, inl, inr, Bool, true, List, [], length, refl, sym, ◌∙◌, subst}
+use Rattle.std.proofs.lemmas.Bool.{cases_Bool, false≢true}
 use Rattle.xdg_nodeset.proofs.TableSets.{both, none_in}
-use Rattle.xdg_problem.specs.declared.analysis.Edge.{Edge}
 use Rattle.xdg_problem.specs.declared.parts.Group.{Group}
 use Rattle.xdg_problem.specs.declared.parts.Parts.{Parts}
 use Rattle.xdg_problem.specs.Analyses.{IsPlace}
@@ -11,16 +10,16 @@ use Rattle.xdg_problem.specs.Boxes.{May}
 use Rattle.xdg_problem.specs.Places.{edge, nodes}
 use Rattle.xdg_problem.specs.Problems.{IsGroup}
 use Rattle.xdg_problem.proofs.PlaceOrder.{is_place}
-use Rattle.xdg_rules.specs.Rules.{IsPlaceOn}
 use Rattle.xdg_store.specs.States.{State, Known}
 use Rattle.xdg_propcore.specs.Passes.{IsQuiet, Progress}
 use Rattle.xdg_propcore.specs.Sweeps.{Sweeps}
 use Rattle.xdg_propcore.proofs.Passing.{goes_none}
-use Rattle.xdg_propcore.proofs.Sweeping.{sweeps_next, sweeps_start}
+use Rattle.xdg_propcore.proofs.Sweeping.{sweeps_start}
+use Rattle.xdg_propcore.proofs.Turns.{AreDone, quiet_later}
 use Rattle.xdg_graph.specs.Edges.{edge_labels}
 use Rattle.xdg_graph.proofs.Labelled.{place_between}
 use Rattle.xdg_plink.specs.Family.{IsLinking}
-use Rattle.xdg_plink.specs.Steps.{AreLabelsDone, Asks, DoneAt, IsDoneAt, IsExact, IsLabelDone, IsOnPlace}
+use Rattle.xdg_plink.specs.Steps.{AreLabelsDone, Asks, DoneAt, IsDoneAt, IsLabelDone, IsOnPlace}
 use Rattle.xdg_plink.specs.Untouched.{AreNear, AreOthersDone, AreOthersDoneAt, ArePlaces, IsFree}
 use Rattle.xdg_plink.specs.declared.near.Near.{Near}
 use Rattle.xdg_plink.proofs.Present.{takes_asked, takes_present}
@@ -79,36 +78,22 @@ node_skipped near group table u k p s known free others = record {
 
 -- as long as nothing is taken the others stay done
 pub others_later : (near : Near) (group : Group) (Done : List (List Bool) → Type 0) (p : Progress) (old : State) (q : Progress) (mid : State) → (IsQuiet p → AreOthersDone near old.parts group old.now) → Sweeps group Done p old q mid → IsQuiet q → AreOthersDone near mid.parts group mid.now
-others_later near group Done p old q mid others a quiet =
-    let before = a.goes.quiet quiet in
-    subst (λ parts. AreOthersDone near parts group mid.now) (sym a.goes.extends.same) (subst (AreOthersDone near old.parts group) (sym before.1) (others before.0))
+others_later near group = quiet_later group (λ parts box. AreOthersDone near parts group box)
 
 -- ---- one daughter after another
 
--- if the table is exact, nothing is left at the places to those of the first ones that aren't still to come
-abbrev pub AreDaughtersDone : Parts → Group → List (List ℕ) → ℕ → ℕ → List ℕ → List ℕ → List (List Bool) → Type 0
-AreDaughtersDone parts group table u label first left box =
-    IsExact parts group table box → (e : Edge) → IsPlaceOn parts (first_dim group) e → e.mother.0 ≡ u → e.label.0 ≡ label → has first e.daughter.0 ≡ true → (has left e.daughter.0 ≡ true → ⊥) → IsDoneAt parts group e box
-
-daughters_next : (parts : Parts) (group : Group) (table : List (List ℕ)) (dim u label v : ℕ) (first left : List ℕ) (box : List (List Bool)) → dim ≡ first_dim group → AreDaughtersDone parts group table u label first (v ∷ left) box → DoneAt parts group table (edge dim u label v) box → AreDaughtersDone parts group table u label first left box
-daughters_next parts group table dim u label v first left box dim_is before here exact e on mother label_is is gone = elim (cases_eq e.daughter.0 v) [
-  | inl same ↦ subst (λ f. IsDoneAt parts group f box) (sym (edge_at e dim u label v (on.1 ∙ sym dim_is) mother label_is same)) (here exact)
-  | inr other ↦ before exact e on mother label_is is (λ h. gone (subst (λ b. (b || has left e.daughter.0) ≡ true) (ne_eqb v e.daughter.0 (λ q. other (sym q))) h))
-]
-
-pub daughters_turn : (group : Group) (table : List (List ℕ)) (dim u label v : ℕ) (first left rest : List ℕ) (p : Progress) (old : State) (q : Progress) (mid : State) (r : Progress) (new : State) → dim ≡ first_dim group → left ≡ v ∷ rest → Sweeps group (AreDaughtersDone old.parts group table u label first left) p old q mid → Sweeps group (DoneAt mid.parts group table (edge dim u label v)) q mid r new → Sweeps group (AreDaughtersDone old.parts group table u label first rest) p old r new
-daughters_turn group table dim u label v first left rest p old q mid r new dim_is left_is a b =
-    sweeps_next group (AreDaughtersDone old.parts group table u label first left) (AreDaughtersDone old.parts group table u label first rest) (λ parts. DoneAt parts group table (edge dim u label v)) p old q mid r new a b
-    (λ box done here. daughters_next old.parts group table dim u label v first rest box dim_is (subst (λ s. AreDaughtersDone old.parts group table u label first s box) left_is done) here)
-
-pub daughters_last : (group : Group) (table : List (List ℕ)) (u label : ℕ) (first left : List ℕ) (p : Progress) (old : State) (q : Progress) (new : State) → left ≡ [] → (IsQuiet p → AreOthersDoneAt old.parts group u label first old.now) → Sweeps group (AreDaughtersDone old.parts group table u label first left) p old q new → Sweeps group (IsLabelDone old.parts group table u label) p old q new
-daughters_last group table u label first left p old q new left_is others a = record {
+-- behind the last of them nothing is left at the label
+pub daughters_last : (group : Group) (table : List (List ℕ)) (dim u label : ℕ) (first left : List ℕ) (p : Progress) (old : State) (q : Progress) (new : State)
+    → dim ≡ first_dim group → left ≡ [] → (IsQuiet p → AreOthersDoneAt old.parts group u label first old.now)
+    → Sweeps group (AreDone (λ v. DoneAt old.parts group table (edge dim u label v)) first left) p old q new → Sweeps group (IsLabelDone old.parts group table u label) p old q new
+daughters_last group table dim u label first left p old q new dim_is left_is others a = record {
   goes = a.goes;
   known = a.known;
   done = λ quiet exact e on mother label_is.
       let before = a.goes.quiet quiet in
       elim (cases_Bool (has first e.daughter.0)) [
-        | inl there ↦ a.done quiet exact e on mother label_is there (λ h. false≢true (subst (λ s. has s e.daughter.0 ≡ true) left_is h))
+        | inl there ↦ subst (λ f. IsDoneAt old.parts group f new.now) (sym (edge_at e dim u label e.daughter.0 (on.1 ∙ sym dim_is) mother label_is refl))
+            (a.done quiet e.daughter.0 there (λ h. false≢true (subst (λ s. has s e.daughter.0 ≡ true) left_is h)) exact)
         | inr gone ↦ subst (IsDoneAt old.parts group e) (sym before.1) (others before.0 e on mother label_is (λ there. false≢true (sym gone ∙ there)))
       ];
 }

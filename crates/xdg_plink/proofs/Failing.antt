@@ -1,6 +1,6 @@
 -- Where no rule of a linking principle takes a value that remains, no test of it that is decided fails.
-use Rattle.std.proofs.Common.{◌≡◌, ℕ, ◌<◌, ◌↔◌, ◌&&◌, ◌==◌, inl, Bool, true, List, length, refl, sym, ◌∙◌, ap, subst, arith}
-use Rattle.std.specs.Prelude.{Contains, filter}
+use Rattle.std.proofs.Common.{◌≡◌, ℕ, ◌<◌, ◌==◌, inl, inr, Bool, true, List, length, refl, sym, subst}
+use Rattle.std.specs.Prelude.{Contains}
 use Rattle.std.specs.List.{Any}
 use Rattle.std.proofs.lemmas.Bool.{eq-eqb}
 use Rattle.std.proofs.lemmas.List.Elements.{All-contains}
@@ -20,15 +20,12 @@ use Rattle.xdg_problem.specs.Places.{edge, nodes, places}
 use Rattle.xdg_problem.specs.Tests.{Test, can_link, looks_at, looks_first, looks_second, linked, unlinked}
 use Rattle.xdg_problem.specs.Vectors.{shape}
 use Rattle.xdg_problem.proofs.EachTest.{Each, each_tested}
-use Rattle.xdg_problem.proofs.FilterFacts.{filter_both, filter_alike}
-use Rattle.xdg_problem.proofs.Looking.{and_3, any_same, any_weaker, on_same, sees_place}
-use Rattle.xdg_problem.proofs.PlaceOrder.{place_is}
-use Rattle.xdg_rules.specs.Rules.{has, may_edges, FailsTest, IsDecided, LinkingNotDaughter, LinkingReach, TakesBy, TestDecided, TestPasses, value_in}
-use Rattle.xdg_rules.proofs.Failing.{value_is}
+use Rattle.xdg_problem.proofs.Looking.{and_3, any_weaker}
+use Rattle.xdg_rules.specs.Rules.{may_edges, FailsTest, IsClosedFor, IsDecided, LinkingNotDaughter, LinkingReach, TestDecided, TestPasses, value_in}
 use Rattle.xdg_rules.proofs.Shrinking.{may_exact, must_exact}
+use Rattle.xdg_propcore.proofs.ByRules.{NoRule}
+use Rattle.xdg_propcore.proofs.SeenEdges.{all_seen, any_seen, decided_must, only_value, seen, seen_at}
 use Rattle.xdg_plink.specs.Family.{IsLinking}
-use Rattle.xdg_plink.proofs.Places.{may_by}
-use Rattle.xdg_facts.proofs.Truths.{and_swap}
 use Rattle.xdg_facts.proofs.Truths.{and_2, or_here, either_true}
 
 module _ (parts : Parts) (group : Group) (box : List (List Bool)) (is : IsBox (shape parts) box) where
@@ -41,64 +38,24 @@ module _ (parts : Parts) (group : Group) (box : List (List Bool)) (is : IsBox (s
   abbrev may : ℕ → List Edge
   may dim = may_edges parts box dim
 
-  abbrev present : Edge → Bool
-  present e = has box (edge_decision parts e) 0
-
-  -- the edges that may be
-  abbrev all_may : List Edge
-  all_may = filter present (places parts)
-
-  -- those of them that a test looks at
-  abbrev seen : Test → List Edge
-  seen test = filter (λ e. looks_at group test e && present e) (places parts)
-
-  seen_is : (test : Test) → seen test ≡ filter (looks_at group test) all_may
-  seen_is test =
-      filter_alike (λ e. looks_at group test e && present e) (λ e. present e && looks_at group test e) (places parts)
-      (λ k d l. and_swap (looks_at group test _) (present _))
-      ∙ sym (filter_both (looks_at group test) present (places parts))
-
-  on_may : (dim : ℕ) → edges_on dim all_may ≡ may dim
-  on_may dim =
-      filter_both (λ e. e.dim.0 == dim) present (places parts)
-      ∙ filter_alike (λ e. present e && (e.dim.0 == dim)) (λ e. (e.dim.0 == dim) && present e) (places parts) (λ k d l. and_swap (present _) (_ == dim))
-
-  any_seen : (test : Test) (dim : ℕ) (P : Edge → Type 0) → ((e : Edge) → P e → (e.dim.0 == dim) ≡ true → looks_at group test e ≡ true)
-      → Any P (edges_on dim (seen test)) ↔ Any P (may dim)
-  any_seen test dim P looks =
-      subst (λ es. Any P (edges_on dim es) ↔ Any P (may dim)) (sym (seen_is test))
-      (subst (λ es. Any P (edges_on dim (filter (looks_at group test) all_may)) ↔ Any P es) (on_may dim)
-      (any_same (looks_at group test) dim all_may P looks))
-
-  all_seen : (test : Test) (dim : ℕ) → ((e : Edge) → (e.dim.0 == dim) ≡ true → looks_at group test e ≡ true) → edges_on dim (seen test) ≡ may dim
-  all_seen test dim looks = ap (edges_on dim) (seen_is test) ∙ on_same (looks_at group test) dim all_may looks ∙ on_may dim
-
-  -- the edge that a test of a place looks at
-  place_seen : (test : Test) (u l v : ℕ)
-      → ((e : Edge) → looks_first one test e ≡ ((e.dim.0 == one) && (e.mother.0 == u) && (e.label.0 == l) && (e.daughter.0 == v)))
-      → IsDaughterBy (edges_on one (seen test)) u l v → IsDaughterBy (may one) u l v
-  place_seen test u l v looks =
-      (any_seen test one (λ e. (e.mother.0 ≡ u) × (e.label.0 ≡ l) × (e.daughter.0 ≡ v))
-      (λ e here on. either_true (looks_second two test e) (looks_first one test e) (looks e ∙ sees_place one u l v e here on))).0
-
   -- a test sees what can link
   sees : (way : Linking) (u l v : ℕ) (e : Edge) → can_link way u v e ≡ true → (e.dim.0 == two) ≡ true → looks_at group (linked way u l v) e ≡ true
   sees way u l v e can on =
       or_here (looks_second two (linked way u l v) e) (looks_first one (linked way u l v) e) (and_2 (e.dim.0 == two) (can_link way u v e) on can)
 
   any_linked : (way : Linking) (u l v : ℕ) (P : Edge → Type 0) → ((e : Edge) → P e → can_link way u v e ≡ true)
-      → Any P (may two) → Any P (edges_on two (seen (linked way u l v)))
-  any_linked way u l v P can = (any_seen (linked way u l v) two P (λ e is. sees way u l v e (can e is))).1
+      → Any P (may two) → Any P (edges_on two (seen parts group box (linked way u l v)))
+  any_linked way u l v P can = (any_seen parts group box (linked way u l v) two P (λ e is. sees way u l v e (can e is))).1
 
   path_seen : (way : Linking) (u l v from to : ℕ) (labels : List ℕ) → ((e : Edge) → can_link way u v e ≡ true)
-      → AboveByFirst (may two) from labels to → AboveByFirst (edges_on two (seen (linked way u l v))) from labels to
+      → AboveByFirst (may two) from labels to → AboveByFirst (edges_on two (seen parts group box (linked way u l v))) from labels to
   path_seen way u l v from to labels can =
-      subst (λ es. AboveByFirst es from labels to) (sym (all_seen (linked way u l v) two (λ e. sees way u l v e (can e))))
+      subst (λ es. AboveByFirst es from labels to) (sym (all_seen parts group box (linked way u l v) two (λ e. sees way u l v e (can e))))
 
   sister_seen : (u l v : ℕ) (labels : List ℕ) → AreSistersByAny (may two) u labels v
-      → AreSistersByAny (edges_on two (seen (linked linkings.Sisters u l v))) u labels v
+      → AreSistersByAny (edges_on two (seen parts group box (linked linkings.Sisters u l v))) u labels v
   sister_seen u l v labels s =
-      let few : List Edge = edges_on two (seen (linked linkings.Sisters u l v)) in
+      let few : List Edge = edges_on two (seen parts group box (linked linkings.Sisters u l v)) in
       any_linked linkings.Sisters u l v (λ e. (e.daughter.0 ≡ u) × IsDaughterByAny few e.mother.0 labels v)
       (λ e is. or_here (e.daughter.0 == u) (e.daughter.0 == v) (eq-eqb e.daughter.0 u is.0))
       (any_weaker (λ e. (e.daughter.0 ≡ u) × IsDaughterByAny (may two) e.mother.0 labels v) (λ e. (e.daughter.0 ≡ u) × IsDaughterByAny few e.mother.0 labels v)
@@ -110,7 +67,7 @@ module _ (parts : Parts) (group : Group) (box : List (List Bool)) (is : IsBox (s
       )) s)
 
   link_seen : (way : Linking) (u l v : ℕ) (labels : List ℕ) → IsLinked way (may two) u labels v
-      → IsLinked way (edges_on two (seen (linked way u l v))) u labels v
+      → IsLinked way (edges_on two (seen parts group box (linked way u l v))) u labels v
   link_seen linkings.End u l v labels =
       any_linked linkings.End u l v (λ e. Contains labels e.label.0 × (e.daughter.0 ≡ v)) (λ e is. eq-eqb e.daughter.0 v is.1)
   link_seen linkings.Daughter u l v labels =
@@ -125,13 +82,13 @@ module _ (parts : Parts) (group : Group) (box : List (List Bool)) (is : IsBox (s
 
   -- what a test asks of an edge
   abbrev Asks : Principle → Test → ℕ → ℕ → ℕ → ℕ → Type 0
-  Asks p test c u l v = IsDaughterBy (edges_on one (seen test)) u l v → AsksLink p group c (edges_on two (seen test)) u l v
+  Asks p test c u l v = IsDaughterBy (edges_on one (seen parts group box test)) u l v → AsksLink p group c (edges_on two (seen parts group box test)) u l v
 
   -- what the test of a way asks of it
   abbrev AsksIn : Linking → ℕ → ℕ → ℕ → ℕ → Type 0
   AsksIn way c u l v =
-      IsDaughterBy (edges_on one (seen (linked way u l v))) u l v → 0 < length (map_row group u c l)
-      → IsLinked way (edges_on two (seen (linked way u l v))) u (map_row group u c l) v
+      IsDaughterBy (edges_on one (seen parts group box (linked way u l v))) u l v → 0 < length (map_row group u c l)
+      → IsLinked way (edges_on two (seen parts group box (linked way u l v))) u (map_row group u c l) v
 
   -- a test that asks for an edge
   reach_fails : (principle : Principle) (way : Linking) → group.principle ≡ principle
@@ -149,22 +106,19 @@ module _ (parts : Parts) (group : Group) (box : List (List Bool)) (is : IsBox (s
       failing : AsksIn way c u l v → ⊥
       failing h = fails (subst (λ q. Asks q test c u l v) (sym same) (asks c u l v h))
 
-      only : (x : ℕ) → Has box (entry_decision u) x → x ≡ c
-      only x remains = decided.2 x remains ∙ sym (value_is box (entry_decision u) decided)
-
       apart : (x : ℕ) → Has box (entry_decision u) x → IsLinked way (may two) u (map_row group u x l) v → ⊥
       apart x remains link =
           failing
-          (λ d some. link_seen way u l v (map_row group u c l) (subst (λ z. IsLinked way (may two) u (map_row group u z l) v) (only x remains) link))
+          (λ d some. link_seen way u l v (map_row group u c l) (subst (λ z. IsLinked way (may two) u (map_row group u z l) v) (only_value box (entry_decision u) decided x remains) link))
 
-      reach : IsDaughterBy (edges_on one (seen test)) u l v → 0 < length (map_row group u c l) → ⊥
+      reach : IsDaughterBy (edges_on one (seen parts group box test)) u l v → 0 < length (map_row group u c l) → ⊥
       reach d some =
-          let place = (may_by parts box one u l v).0 (place_seen test u l v (λ e. refl) d) in
-          closed (edge_decision parts (edge one u l v)) 0 place.1 (record {
+          let (on, saw, here) = seen_at parts group box test one u l v d in
+          closed (edge_decision parts (edge one u l v)) 0 here (record {
             place = edge one u l v;
-            is = (place_is parts (edge one u l v) place.0, refl);
+            is = on;
             says = (refl, refl);
-            links = λ x remains. subst (λ z. 0 < length (map_row group u z l)) (sym (only x remains)) some;
+            links = λ x remains. subst (λ z. 0 < length (map_row group u z l)) (sym (only_value box (entry_decision u) decided x remains)) some;
             apart = apart;
           })
 
@@ -183,31 +137,27 @@ module _ (parts : Parts) (group : Group) (box : List (List Bool)) (is : IsBox (s
       failing : Asks principles.LinkingNotDaughter test c u l v → ⊥
       failing h = fails (subst (λ q. Asks q test c u l v) (sym same) h)
 
-      only : (x : ℕ) → Has box (entry_decision u) x → x ≡ c
-      only x remains = decided.entry.2 x remains ∙ sym (value_is box (entry_decision u) decided.entry)
-
       looks : (e : Edge) → (e.mother.0 ≡ u) × (e.daughter.0 ≡ v) → (e.dim.0 == two) ≡ true → looks_at group test e ≡ true
       looks e at on =
           or_here (looks_second two test e) (looks_first one test e)
           (and_3 (e.dim.0 == two) (e.mother.0 == u) (e.daughter.0 == v) on (eq-eqb e.mother.0 u at.0) (eq-eqb e.daughter.0 v at.1))
 
-      apart : IsDaughterBy (edges_on one (seen test)) u l v → Contains (set_row group u c) l → IsDaughter (edges_on two (seen test)) u v → ⊥
+      apart : IsDaughterBy (edges_on one (seen parts group box test)) u l v → Contains (set_row group u c) l → IsDaughter (edges_on two (seen parts group box test)) u v → ⊥
       apart d keeps joined =
-          let place = (may_by parts box one u l v).0 (place_seen test u l v (λ e. refl) d) in
-          let (k, e, within, at, (m, b)) = (any_seen test two (λ e. (e.mother.0 ≡ u) × (e.daughter.0 ≡ v)) looks).0 joined in
+          let (on, saw, here) = seen_at parts group box test one u l v d in
+          let (k, e, within, at, (m, b)) = (any_seen parts group box test two (λ e. (e.mother.0 ≡ u) × (e.daughter.0 ≡ v)) looks).0 joined in
           let other = (may_exact parts box two e).0 (k, within, at) in
           let one_value : IsDecided box (edge_decision parts e) = All-contains (λ e. looks_at group test e ≡ true → IsDecided box (edge_decision parts e))
           (places parts) e decided.edges other.0.0 (looks e (m, b) (eq-eqb e.dim.0 two other.0.1)) in
-          let must = (must_exact parts box two e is).1
-          (other.0, λ absent. (let x = one_value.2 0 other.1 in let y = one_value.2 1 absent in omega (arith, x, y))) in
-          closed (edge_decision parts (edge one u l v)) 0 place.1 (record {
+          let must = (must_exact parts box two e is).1 (other.0, decided_must parts box e one_value other.1) in
+          closed (edge_decision parts (edge one u l v)) 0 here (record {
             place = edge one u l v;
-            is = (place_is parts (edge one u l v) place.0, refl);
+            is = on;
             other = e;
             other_is = other.0;
             mother = sym m;
             daughter = sym b;
-            keeps = λ x remains. subst (λ z. Contains (set_row group u z) l) (sym (only x remains)) keeps;
+            keeps = λ x remains. subst (λ z. Contains (set_row group u z) l) (sym (only_value box (entry_decision u) decided.entry x remains)) keeps;
             one = inl ((refl, refl), must);
           })
 
@@ -215,7 +165,7 @@ module _ (parts : Parts) (group : Group) (box : List (List Bool)) (is : IsBox (s
   abbrev Fine : Test → Type 0
   Fine test = TestDecided parts group box test → (TestPasses parts group box test → ⊥) → ⊥
 
-  each_fine : (p : Principle) → IsLinking p → group.principle ≡ p → ((d x : ℕ) → Has box d x → TakesBy p parts group box d x → ⊥)
+  each_fine : (p : Principle) → IsLinking p → group.principle ≡ p → NoRule parts group box p
       → Each group.truths (nodes parts) (label_count parts one) Fine p
   each_fine principles.LinkingEnd f e closed = λ u a l b v w decided fails. reach_fails principles.LinkingEnd linkings.End e (λ c u l v h. h) u l v decided.entry closed fails
   each_fine principles.LinkingDaughter f e closed = λ u a l b v w decided fails. reach_fails principles.LinkingDaughter linkings.Daughter e (λ c u l v h. h) u l v decided.entry closed fails
@@ -226,7 +176,12 @@ module _ (parts : Parts) (group : Group) (box : List (List Bool)) (is : IsBox (s
   each_fine principles.LinkingNotDaughter f e closed = λ u a l b v w decided fails. apart_fails e u l v decided closed fails
   each_fine principle f e closed = absurd f
 
-  pub none_fails : IsLinking group.principle → ((d x : ℕ) → Has box d x → TakesBy group.principle parts group box d x → ⊥) → FailsTest parts group box → ⊥
+  none_fails : IsLinking group.principle → NoRule parts group box group.principle → FailsTest parts group box → ⊥
   none_fails linking closed failing =
       each_tested group.truths (nodes parts) (label_count parts one) Fine group.principle (each_fine group.principle linking refl closed) failing.test
       failing.is failing.decided failing.fails
+
+  -- so the box is closed
+  pub closed_by_rules : IsLinking group.principle → NoRule parts group box group.principle → IsClosedFor parts group box
+  closed_by_rules linking none d v remains (inl failing) = none_fails linking none failing
+  closed_by_rules linking none d v remains (inr rule) = none d v remains rule

@@ -1,4 +1,3 @@
-pub mod Places
 pub mod Failing
 pub mod Edges
 pub mod Leading
@@ -13,3 +12,4 @@ pub mod Others
 pub mod Closing
 pub mod Staying
 pub mod Swept
+pub mod Reaching

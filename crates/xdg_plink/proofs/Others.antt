@@ -28,7 +28,7 @@ use Rattle.xdg_plink.specs.Untouched.{AreLinksFree, AreOthersDone, HasJoins, Has
 use Rattle.xdg_plink.specs.Ways.{way_of}
 use Rattle.xdg_plink.specs.declared.near.Near.{Near}
 use Rattle.xdg_plink.proofs.Keeping.{KeepsEntries, KeepsLinks, apart_before, reach_before}
-use Rattle.xdg_plink.proofs.Sweeping.{reach_at, reach_takes}
+use Rattle.xdg_plink.proofs.Reaching.{is_reach}
 use Rattle.xdg_facts.specs.Rises.{has}
 use Rattle.xdg_propcore.proofs.Losing.{kept_or_lost}
 
@@ -73,10 +73,10 @@ module _ (parts : Parts) (old new : List (List Bool)) (dim : ℕ) (t : Touched) 
 module _ (parts : Parts) (group : Group) (problem : IsProblem parts) (old new : List (List Bool)) (lies : LiesIn new old) (closed : IsClosedFor parts group old) (near : Near) (second : Touched) (touched : HasTouched parts (second_dim group) old new second) where
   pub links_stay : Reaches group.principle → HasLinks near (way_of group.principle) second → AreOthersDone near parts group new
   links_stay reaches links e on free d v remains takes =
-      let (rule, same) = reach_at group.principle reaches parts group new e d v takes in
+      let (rule, same) = ((is_reach group.principle reaches).at parts group new e d v).0 takes in
       let place = is_place parts e on.0 in
       let kept = links e.mother.0 e.daughter.0 (let most = problem.most in let within = place.mother in omega (arith, within, most)) free in
-      closed d v (lies d v remains) (inr (reach_takes group.principle reaches parts group old d v (reach_before parts group old new (way_of group.principle) d v rule
+      closed d v (lies d v remains) (inr (((is_reach group.principle reaches).takes parts group old d v).1 (reach_before parts group old new (way_of group.principle) d v rule
       (subst (KeepsEntries parts group old new) (sym same) (λ c. entry_kept parts old new (second_dim group) second touched e.mother.0 c place.mother kept.0))
       (subst (KeepsLinks parts group old new (way_of group.principle)) (sym same) (linked_kept parts old new (second_dim group) second touched (way_of group.principle) e.mother.0 e.daughter.0 kept.1)))))
 

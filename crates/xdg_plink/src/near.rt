@@ -31,6 +31,7 @@ pub struct Near {
 }
 
 /// All nodes.
+#[tactic(auto, using(xdg_propcore::proofs::Touches::words_all))]
 fn every() -> NodeSet
     ensures { (n : ℕ) → n < 128 → has result n ≡ true }
 {
@@ -171,6 +172,7 @@ fn near_lost(store: &Store, group: &Group, mark: Mark) -> Near
 }
 
 /// Those at which a principle use may take something that took nothing at a mark, or all, if there is none.
+#[tactic(auto, using(crate::proofs::Others::others_none))]
 pub(crate) fn near_since(store: &Store, group: &Group, since: &Option<Mark>) -> Near
     requires known { Known store.now }
     requires group { IsGroup store.now.parts group.now }

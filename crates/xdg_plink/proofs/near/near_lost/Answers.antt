@@ -3,14 +3,8 @@ use Rattle.xdg_propcore.specs.Standing.{box_at}
 use Rattle.xdg_propcore.specs.Touching.{HasTouched}
 use Rattle.xdg_plink.specs.Untouched.{HasLinks}
 use Rattle.xdg_plink.proofs.Others.{joins_stay, links_stay}
-use Rattle.xdg_plink.proofs.Sweeping.{not_reaching}
+use Rattle.xdg_plink.proofs.Reaching.{not_reaching}
 use Rattle.xdg_plink.proofs.near.near_lost.Goals as goal
-
-pub gather-requires : goal.gather-requires
-gather-requires c = c.requires.held.within
-
-pub gather-requires-2 : goal.gather-requires-2
-gather-requires-2 c = c.requires.held.within
 
 pub returns-then-asks_edges : goal.returns-then-asks_edges
 returns-then-asks_edges c =

@@ -4,6 +4,3 @@ use Rattle.xdg_plink.proofs.neighbours.may_daughters.Goals as goal
 
 pub returns-then-label-from-clause-exact : goal.returns-then-label-from-clause-exact
 returns-then-label-from-clause-exact c = no_daughters c.args.store.now.parts c.args.store.now.now c.args.dim.0 c.args.mother.0 c.args.label c.empty.result c.empty.ensures.value (let e = c.labels_of.ensures.count in let f = c.from.ensures in let t = c.if-label-from.true in omega (arith, e, f, t))
-
-pub returns-clause-exact : goal.returns-clause-exact
-returns-clause-exact c = c.daughters_by.ensures.exact

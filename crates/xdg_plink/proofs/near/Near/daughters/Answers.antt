@@ -1,14 +1,7 @@
-use Rattle.std.proofs.Common.{◌∙◌, arith, sym}
+use Rattle.std.proofs.Common.{◌∙◌, sym}
 use Rattle.std.proofs.lemmas.Bool.{false≢true}
-use Rattle.xdg_graph.proofs.Labelled.{has_edges}
 use Rattle.xdg_plink.proofs.Daughters.{all_near, some_near}
 use Rattle.xdg_plink.proofs.near.Near.daughters.Goals as goal
-
-pub daughters_may-daughters-requires : goal.daughters_may-daughters-requires
-daughters_may-daughters-requires c = has_edges c.args.store.now.parts c.args.dim.0 c.args.node.0 c.args.label.0 c.requires.node c.requires.label
-
-pub contains-requires : goal.contains-requires
-contains-requires c = (let within = c.requires.node in let most = c.requires.known.problem.most in omega (arith, within, most))
 
 pub returns-then-contains : goal.returns-then-contains
 returns-then-contains c = all_near c.args.self.now c.args.store.now.parts c.args.store.now.now c.args.dim.0 c.args.node.0 c.args.label.0 c.daughters_may-daughters.result c.requires.node c.requires.label c.daughters_may-daughters.ensures.exact
