@@ -49,9 +49,6 @@ module _ (parts : Parts) (group : Group) (labels : ℕ) where
   past : (rows : List (List Class)) (bundle : Bundle) → length rows ≤ class_place labels bundle → HasClasses parts group bundle (get_or rows (class_place labels bundle) [])
   past rows bundle behind some = absurd (some (get_or_past rows (class_place labels bundle) [] behind))
 
-  pub rows_none : AreRows parts group labels []
-  rows_none bundle l some = absurd (some refl)
-
   pub rows_more : (rows : List (List Class)) (bundle : Bundle) (row : List Class) → bundle.label < labels → length rows ≡ class_place labels bundle → HasClasses parts group bundle row → AreRows parts group labels rows → AreRows parts group labels (rows ++ row ∷ [])
   rows_more rows bundle row l at has are other k = elim (cases_lt (class_place labels other) (length rows)) [
     | inl before ↦ subst (HasClasses parts group other) (sym (get_or_append_left rows (row ∷ []) [] (class_place labels other) before)) (are other k)

@@ -17,6 +17,9 @@ use Rattle.xdg_propcore.specs.Families.{LosesUnseen}
 use Rattle.xdg_propcore.proofs.Unseen.{LooksOn, edge_stays}
 use Rattle.xdg_facts.proofs.Truths.{same_and, same_flag}
 
+pub both_same : (a b c d : Bool) → a ≡ b → c ≡ d → (a && not c) ≡ (b && not d)
+both_same a b c d first second = ap (λ z. z && not c) first ∙ ap (λ z. b && not z) second
+
 module _ (parts : Parts) (group : Group) (old new : List (List Bool)) (unseen : LosesUnseen parts group old new) (dim : ℕ) (looks : LooksOn group dim) where
   lies : LiesIn new old
   lies = unseen.inside
@@ -36,9 +39,6 @@ module _ (parts : Parts) (group : Group) (old new : List (List Bool)) (unseen : 
       (λ e c. same_and (e.dim.0 == dim) (has new (edge_decision parts e) 0) (has old (edge_decision parts e) 0) (λ on. has_same e c on 0)) (places parts)
       (All-contains_itself (places parts)))
 
-  both_same : (a b c d : Bool) → a ≡ b → c ≡ d → (a && not c) ≡ (b && not d)
-  both_same a b c d first second = ap (λ z. z && not c) first ∙ ap (λ z. b && not z) second
-
   pub must_same : must_edges parts new dim ≡ must_edges parts old dim
   must_same = filter_alike (must_be parts new dim) (must_be parts old dim) (places parts)
       (All-weaker (Contains (places parts)) (λ e. must_be parts new dim e ≡ must_be parts old dim e)
@@ -48,9 +48,7 @@ module _ (parts : Parts) (group : Group) (old new : List (List Bool)) (unseen : 
       (has old (edge_decision parts e) 1) (has_same e c on 0) (has_same e c on 1)))
       (places parts) (All-contains_itself (places parts)))
 
-module _ (parts : Parts) (group : Group) (old new : List (List Bool)) (d v : ℕ)
-    (may : may_edges parts new (first_dim group) ≡ may_edges parts old (first_dim group))
-    (must : must_edges parts new (first_dim group) ≡ must_edges parts old (first_dim group)) where
+module _ (parts : Parts) (group : Group) (old new : List (List Bool)) (d v : ℕ) (must : must_edges parts new (first_dim group) ≡ must_edges parts old (first_dim group)) where
   pub one_mother_stays : OneMother parts group new d v → OneMother parts group old d v
   one_mother_stays r =
       record
@@ -72,8 +70,8 @@ module _ (parts : Parts) (group : Group) (old new : List (List Bool)) (d v : ℕ
         daughter = r.daughter;
       }
 
-  pub root_stays : TakesForRoot parts group new d v → TakesForRoot parts group old d v
-  root_stays taken = elim taken [
+  pub root_stays : may_edges parts new (first_dim group) ≡ may_edges parts old (first_dim group) → TakesForRoot parts group new d v → TakesForRoot parts group old d v
+  root_stays may taken = elim taken [
     | inl r ↦ inl (record { place = r.place; is = r.is; says = r.says; root = ap (roots (nodes parts)) (sym must) ∙ r.root })
     | inr more ↦ elim more [
       | inl none ↦ inr (inl (ap (roots (nodes parts)) (sym must) ∙ none))

@@ -27,6 +27,7 @@ use Rattle.xdg_propcore.specs.Touching.{HasAll, HasTouched, InTable, MarksEdge}
 use Rattle.xdg_propcore.specs.declared.touched.Touched.{Touched}
 use Rattle.xdg_pgraph.specs.Bundles.{EdgeAt, IsBundleDone, IsWayDone, count_of, near_node, numbers_of}
 use Rattle.xdg_pgraph.proofs.CountsStay.{greatest_before, least_before}
+use Rattle.xdg_pgraph.proofs.EdgesStay.{both_same}
 use Rattle.xdg_pgraph.specs.Untouched.{AreOthersDone, IsTouched, side}
 use Rattle.xdg_pgraph.specs.declared.bundle.Way.{Way}
 use Rattle.xdg_pgraph.specs.declared.bundle.Way.TheVariants as ways
@@ -89,9 +90,6 @@ module _ (parts : Parts) (group : Group) (old new : List (List Bool)) (lies : Li
       sym (counted way (may_edges parts new dim) node label)
       ∙ same_length (in_bundle way node label) (may_be parts new dim) (may_be parts old dim) (places parts) (λ e c inside. same_and (e.dim.0 == dim) (has new (edge_decision parts e) 0) (has old (edge_decision parts e) 0) (λ on. flag_same e c inside on 0))
       ∙ counted way (may_edges parts old dim) node label
-
-  both_same : (a b c d : Bool) → a ≡ b → c ≡ d → (a && not c) ≡ (b && not d)
-  both_same a b c d first second = ap (λ z. z && not c) first ∙ ap (λ z. b && not z) second
 
   must_counts : count_of way (must_edges parts new dim) node label ≡ count_of way (must_edges parts old dim) node label
   must_counts =

@@ -29,9 +29,6 @@ abbrev pub IntoBelow : List Edge → ℕ → ℕ → Edge → Type 0
 IntoBelow edges v l e = Into edges v e × (e.label.0 < l)
 
 module _ (edges : List Edge) (dim u v : ℕ) (on : (e : Edge) → Contains edges e → e.dim.0 ≡ dim) where
-  pub joined_start : Finds (JoinsBelow edges u v 0) founds.Nothing
-  joined_start e j = (let l = j.1 in omega (arith, l))
-
   this_edge : (l : ℕ) (e : Edge) → Joins edges u v e → e.label.0 ≡ l → edge dim u l v ≡ e
   this_edge l e j k = sym (edge_equal e (edge dim u l v) (on e j.0) j.1.0 k j.1.1)
 
@@ -52,9 +49,6 @@ module _ (edges : List Edge) (dim u v : ℕ) (on : (e : Edge) → Contains edges
   joined_all l found all f = finds_like (JoinsBelow edges u v l) (Joins edges u v) found (λ e j. j.0) (λ e j. (j, all e j.0)) f
 
 module _ (edges : List Edge) (v : ℕ) where
-  pub into_start : Finds (IntoBelow edges v 0) founds.Nothing
-  into_start e j = (let l = j.1 in omega (arith, l))
-
   with_cases : (l : ℕ) (e : Edge) → IntoBelow edges v (l + 1) e → IntoBelow edges v l e ⊎ IntoWith edges v l e
   with_cases l e j = elim (cases_eq e.label.0 l) [
     | inl same ↦ inr (j.0, same)

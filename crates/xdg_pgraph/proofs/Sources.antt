@@ -8,7 +8,6 @@ use Rattle.xdg_nodeset.proofs.TableSets.{both, either}
 use Rattle.xdg_problem.specs.declared.analysis.Edge.{Edge}
 use Rattle.xdg_problem.specs.declared.parts.Parts.{Parts}
 use Rattle.xdg_problem.specs.Boxes.{Has, edge_decision}
-use Rattle.xdg_problem.specs.Places.{edge, nodes}
 use Rattle.xdg_rules.specs.Rules.{may_edges, must_edges}
 use Rattle.xdg_rules.proofs.DecidingBoxes.{decided_edges}
 use Rattle.xdg_rules.proofs.Shrinking.{must_is}

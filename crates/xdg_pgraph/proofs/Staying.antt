@@ -35,10 +35,10 @@ module _ (parts : Parts) (problem : IsProblem parts) (group : Group) (family : I
       let may = may_same parts group old new unseen (first_dim group) on in
       let must = must_same parts group old new unseen (first_dim group) on in
       elim rule [
-        | inl mother ↦ inl (one_mother_stays parts group old new d v may must mother)
+        | inl mother ↦ inl (one_mother_stays parts group old new d v must mother)
         | inr more ↦ elim more [
-          | inl root ↦ inr (inl (root_stays parts group old new d v may must root))
-          | inr cycle ↦ inr (inr (no_cycle_stays parts group old new d v may must cycle))
+          | inl root ↦ inr (inl (root_stays parts group old new d v must may root))
+          | inr cycle ↦ inr (inr (no_cycle_stays parts group old new d v must cycle))
         ]
       ]
   rule_before principles.Dag e f d v rule =
@@ -46,10 +46,10 @@ module _ (parts : Parts) (problem : IsProblem parts) (group : Group) (family : I
       let may = may_same parts group old new unseen (first_dim group) on in
       let must = must_same parts group old new unseen (first_dim group) on in
       elim rule [
-        | inl cycle ↦ inl (no_cycle_stays parts group old new d v may must cycle)
+        | inl cycle ↦ inl (no_cycle_stays parts group old new d v must cycle)
         | inr more ↦ elim more [
-          | inl root ↦ inr (inl (root.0, root_stays parts group old new d v may must root.1))
-          | inr label ↦ inr (inr (label.0, one_label_stays parts group old new d v may must label.1))
+          | inl root ↦ inr (inl (root.0, root_stays parts group old new d v must may root.1))
+          | inr label ↦ inr (inr (label.0, one_label_stays parts group old new d v must label.1))
         ]
       ]
   rule_before principles.Valency e f d v rule =

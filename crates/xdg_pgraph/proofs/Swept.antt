@@ -10,7 +10,7 @@ use Rattle.xdg_problem.specs.Boxes.{Has, IsBox, edge_decision}
 use Rattle.xdg_problem.specs.Problems.{IsGroup, IsProblem}
 use Rattle.xdg_problem.specs.Vectors.{shape}
 use Rattle.xdg_problem.proofs.PlaceOrder.{is_place}
-use Rattle.xdg_rules.specs.Rules.{IsClosedFor, TakesBy, TakesForRoot, must_edges}
+use Rattle.xdg_rules.specs.Rules.{IsClosedFor, Takes, TakesBy, TakesForRoot, must_edges}
 use Rattle.xdg_rules.proofs.Counting.{label_on}
 use Rattle.xdg_rules.proofs.Shrinking.{may_is, may_of, must_is}
 use Rattle.xdg_store.specs.States.{State, Known}
@@ -21,7 +21,7 @@ use Rattle.xdg_pgraph.specs.Bundles.{AreLabelsDone, IsLabelDone}
 use Rattle.xdg_pgraph.proofs.Closing.{closed_by_rules}
 use Rattle.xdg_pgraph.specs.Family.{IsOfFamily}
 use Rattle.xdg_pgraph.specs.Musts.{AreMustsDone, ByMusts, RestsIf, RunsBut}
-use Rattle.xdg_pgraph.specs.Ruling.{RunsFor, OthersIf, ByTree, ByDag}
+use Rattle.xdg_pgraph.specs.Ruling.{Runs, RunsFor, OthersIf, ByTree, ByDag}
 
 -- ---- where nothing is left to take by the edges that must be, nor by those that may be
 
@@ -48,9 +48,11 @@ module _ (group : Group) (p q : Progress) (old new : State) (is : IsGroup old.pa
   closes principle principle_is none = closed_by_rules old.parts group new.now (subst IsProblem same known.problem) (subst (λ parts. IsBox (shape parts) new.now) same known.is_box) family (subst (λ z. (d v : ℕ) → Has new.now d v → TakesBy z old.parts group new.now d v → ⊥) (sym principle_is) none)
 
   -- the rules of a principle were run
-  ruled : (principle : Principle) → group.principle ≡ principle → RunsFor (TakesBy principle) dim p old q new → Sweeps group (IsClosedFor old.parts group) p old q new
-  ruled principle principle_is c =
-      let runs = c group is (sym on) (λ box d v rule. inr (subst (λ z. TakesBy z old.parts group box d v) (sym principle_is) rule)) in
+  ruled : (principle : Principle) → group.principle ≡ principle
+      → (((box : List (List Bool)) (d v : ℕ) → TakesBy principle old.parts group box d v → Takes old.parts group box d v) → Runs (TakesBy principle old.parts group) group p old q new)
+      → Sweeps group (IsClosedFor old.parts group) p old q new
+  ruled principle principle_is run =
+      let runs = run (λ box d v rule. inr (subst (λ z. TakesBy z old.parts group box d v) (sym principle_is) rule)) in
       record {
         goes = runs.goes;
         known = known;
@@ -58,35 +60,14 @@ module _ (group : Group) (p q : Progress) (old new : State) (is : IsGroup old.pa
       }
 
   pub tree_swept : group.principle ≡ principles.Tree → RunsFor ByTree dim p old q new → Sweeps group (IsClosedFor old.parts group) p old q new
-  tree_swept principle_is c = ruled principles.Tree principle_is c
+  tree_swept principle_is c = ruled principles.Tree principle_is (c group is (sym on))
 
   -- of a dag, whose truth values are those that were read
-  dag_by : (rooted disjoint : Bool) → rooted ≡ truth_of group.truths 0 → disjoint ≡ truth_of group.truths 1 → (box : List (List Bool)) (d v : ℕ) → ByDag rooted disjoint old.parts group box d v → TakesBy principles.Dag old.parts group box d v
-  dag_by rooted disjoint rooted_is disjoint_is box d v rule = elim rule [
-    | inl cycle ↦ inl cycle
-    | inr more ↦ elim more [
-      | inl root ↦ inr (inl (sym rooted_is ∙ root.0, root.1))
-      | inr label ↦ inr (inr (sym disjoint_is ∙ label.0, label.1))
-    ]
-  ]
-
-  by_dag : (rooted disjoint : Bool) → rooted ≡ truth_of group.truths 0 → disjoint ≡ truth_of group.truths 1 → (box : List (List Bool)) (d v : ℕ) → TakesBy principles.Dag old.parts group box d v → ByDag rooted disjoint old.parts group box d v
-  by_dag rooted disjoint rooted_is disjoint_is box d v rule = elim rule [
-    | inl cycle ↦ inl cycle
-    | inr more ↦ elim more [
-      | inl root ↦ inr (inl (rooted_is ∙ root.0, root.1))
-      | inr label ↦ inr (inr (disjoint_is ∙ label.0, label.1))
-    ]
-  ]
-
   pub dag_swept : (rooted disjoint : Bool) → rooted ≡ truth_of group.truths 0 → disjoint ≡ truth_of group.truths 1 → group.principle ≡ principles.Dag → RunsFor (ByDag rooted disjoint) dim p old q new → Sweeps group (IsClosedFor old.parts group) p old q new
-  dag_swept rooted disjoint rooted_is disjoint_is principle_is c =
-      let runs = c group is (sym on) (λ box d v rule. inr (subst (λ z. TakesBy z old.parts group box d v) (sym principle_is) (dag_by rooted disjoint rooted_is disjoint_is box d v rule))) in
-      record {
-        goes = runs.goes;
-        known = known;
-        done = λ quiet. closes principles.Dag principle_is (λ d v h rule. runs.done quiet d v (by_dag rooted disjoint rooted_is disjoint_is new.now d v rule) h);
-      }
+  dag_swept rooted disjoint rooted_is disjoint_is principle_is c = ruled principles.Dag principle_is (λ takes.
+      subst (λ r. Runs (ByDag r (truth_of group.truths 1) old.parts group) group p old q new) rooted_is
+      (subst (λ k. Runs (ByDag rooted k old.parts group) group p old q new) disjoint_is
+      (c group is (sym on) (λ box d v rule. takes box d v (subst (λ r. ByDag r (truth_of group.truths 1) old.parts group box d v) rooted_is (subst (λ k. ByDag rooted k old.parts group box d v) disjoint_is rule))))))
 
   -- ---- where the edges that must be are those of before
 
