@@ -1,16 +1,16 @@
 -- Reading one item after the other, as a loop does.
-use Rattle.std.proofs.Common.{◌≡◌, ℕ, zero, suc, ◌≤◌, ◌<◌, Bool, true, false, List, [], ◌∷◌, ◌++◌, length, Ok, Err, refl, sym, ap, ◌∙◌, append_assoc, arith}
-use Rattle.std.proofs.lemmas.List.{append-nil}
+use Rattle.std.proofs.Common.{◌≡◌, ℕ, zero, suc, ◌≤◌, ◌<◌, Bool, true, false, List, [], ◌∷◌, length, Ok, Err, refl, ap, ◌∙◌, arith}
 use Rattle.xdg_ast.specs.Lexemes.{Lexeme}
-use Rattle.xdg_ast.specs.Language.{State, Outcome, Kinds, ◌>>=◌, items, sees, kind_of}
+use Rattle.xdg_ast.specs.Language.{Language, State, Outcome, Kinds, ◌>>=◌, items, sees, kind_of}
 
 -- each item takes a token
 pub record Shortens {A : Type 0} (read : State → Outcome A) : Type 0 where
   pub shorter : (s : State) (x : A) (s' : State) → read s ≡ Ok (x, s') → length s'.left < length s.left
 
--- what was read before, and what is still read
-abbrev pub with_front : {A : Type 0} → List A → Outcome (List A) → Outcome (List A)
-with_front front read = read >>= λ xs. Ok (front ++ xs.0, xs.1)
+-- an item begins with a token of these kinds, and takes one
+pub record Item {A : Type 0} (first : Kinds) (l : Language A) : Type 0 where
+  pub begins : l.first ≡ first
+  pub short : Shortens l.read
 
 module _ {A : Type 0} (first : Kinds) (read : State → Outcome A) (short : Shortens read) where
   -- two numbers give the same after an item, if they do from all that is left then
@@ -59,22 +59,7 @@ module _ {A : Type 0} (first : Kinds) (read : State → Outcome A) (short : Shor
   pub turn : (s : State) → sees first s.left ≡ true → items first read (length s.left) s ≡ (read s >>= λ x. items first read (length x.1.left) x.1 >>= λ xs. Ok (x.0 ∷ xs.0, xs.1))
   turn s h = turn-at s.ended s.left h
 
-  regroup : (front : List A) (x : A) (r : Outcome (List A)) → with_front front (r >>= λ xs. Ok (x ∷ xs.0, xs.1)) ≡ with_front (front ++ x ∷ []) r
-  regroup front x (Ok xs) = ap (λ (all : List A). Ok (all, xs.1)) (simp append_assoc)
-  regroup front x (Err e) = refl
-
-  pub goes_on : (front : List A) (s : State) (x : A) (s' : State) (total : Outcome (List A)) → sees first s.left ≡ true → read s ≡ Ok (x, s')
-      → with_front front (items first read (length s.left) s) ≡ total → with_front (front ++ x ∷ []) (items first read (length s'.left) s') ≡ total
-  goes_on front s x s' total h r so_far =
-      let one : with_front front (items first read (length s.left) s) ≡ with_front (front ++ x ∷ []) (items first read (length s'.left) s') = rw (turn s h, r) (regroup front x (items first read (length s'.left) s')) in
-      sym one ∙ so_far
-
   pub none_at : (e : ℕ) (ts : List Lexeme) → sees first ts ≡ false → items first read (length ts) (record { ended = e; left = ts }) ≡ Ok ([], record { ended = e; left = ts })
   unfolding items
   none_at e [] h = refl
   none_at e (t ∷ ts) h = rw h refl
-
-  pub is_done : (front : List A) (s : State) (total : Outcome (List A)) → sees first s.left ≡ false → with_front front (items first read (length s.left) s) ≡ total → total ≡ Ok (front, s)
-  is_done front s total h so_far =
-      let one : with_front front (items first read (length s.left) s) ≡ Ok (front, s) = rw (none_at s.ended s.left h) (ap (λ (xs : List A). Ok (xs, s)) (append-nil front)) in
-      sym so_far ∙ one

@@ -17,7 +17,7 @@ pub mod Bodies
 pub mod RulesTerms
 pub mod Rules
 pub mod RulesStatements
-pub mod Shortens
+pub mod Listed
 pub mod Whole
 pub mod Unique
 pub mod Once

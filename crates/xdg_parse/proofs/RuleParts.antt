@@ -11,7 +11,7 @@ use Rattle.xdg_parse.specs.Laws.{Alive, Law}
 use Rattle.xdg_parse.proofs.Combinators.{Apart, Plain, nothing_law, token_law, both_law}
 use Rattle.xdg_parse.proofs.More.{either_law, many_law, spanned_law}
 use Rattle.xdg_parse.proofs.SteadyParts.{token_steady, nothing_steady, both_steady, either_steady, many_steady, spanned_steady}
-use Rattle.xdg_parse.proofs.Items.{Shortens}
+use Rattle.xdg_parse.proofs.Items.{Item}
 use Rattle.xdg_parse.proofs.Shrinking.{shortens_of}
 use Rattle.xdg_parse.proofs.EachKind.{some, token_alive}
 
@@ -110,9 +110,8 @@ spanned_rule f {l} {m} {d} {n} a some = record {
   meant_steady = spanned_steady f m a.meant_steady (a.law.same_empty ∙ some);
 }
 
--- an item of a loop takes a token
-pub item_shortens : {A : Type 0} {l m : Language A} {d n : ℕ} → Rule d n l m → l.empty ≡ false → Shortens l.read
-item_shortens {A} {l} a some = shortens_of l a.steady.shrinks some
+pub item : {A : Type 0} {l m : Language A} {d n : ℕ} → Rule d n l m → l.empty ≡ false → Item l.first l
+item {A} {l} a some = record { begins = refl; short = shortens_of l a.steady.shrinks some }
 
 -- ---- said by those
 

@@ -28,6 +28,7 @@ fn keyed_name(alloc: Global, cursor: &mut Cursor<'_, '_>) -> Result<Pair<Name>, 
     Ok(Pair { key, value })
 }
 
+#[tactic(auto, unfolding(xdg_ast::specs::Grammar::keyed_names), using(crate::proofs::Loop::reading, crate::proofs::Listed::keyed_name_item))]
 fn keyed_names(alloc: Global, cursor: &mut Cursor<'_, '_>) -> Result<List<Pair<Name>>, Why>
     ensures { Reads (grammar.keyed_names.read cursor.old) result cursor.new }
 {
@@ -155,6 +156,7 @@ fn begins_part(cursor: &Cursor<'_, '_>) -> bool
 }
 
 /// Parts, as many as come.
+#[tactic(auto, unfolding(xdg_ast::specs::Grammar::parts), using(crate::proofs::Loop::reading, crate::proofs::Listed::part_item))]
 pub(crate) fn parts(
     alloc: Global,
     cursor: &mut Cursor<'_, '_>,

@@ -131,7 +131,7 @@ fn begins_next_prim(cursor: &Cursor<'_, '_>) -> bool
 }
 
 #[cycle(expr)]
-#[tactic(auto, unfolding(xdg_ast::specs::Grammar::prims))]
+#[tactic(auto, unfolding(xdg_ast::specs::Grammar::prims), using(crate::proofs::Loop::reading, crate::proofs::Listed::next_prim_item))]
 fn prims(
     alloc: Global,
     params: &Params,
@@ -178,7 +178,7 @@ fn next_conj(
 }
 
 #[cycle(expr)]
-#[tactic(auto, unfolding(xdg_ast::specs::Grammar::conjs))]
+#[tactic(auto, unfolding(xdg_ast::specs::Grammar::conjs), using(crate::proofs::Loop::reading, crate::proofs::Listed::next_conj_item))]
 fn conjs(
     alloc: Global,
     params: &Params,

@@ -78,7 +78,7 @@ fn next_gprim(
 }
 
 #[cycle(generator)]
-#[tactic(auto, unfolding(xdg_ast::specs::Grammar::gprims))]
+#[tactic(auto, unfolding(xdg_ast::specs::Grammar::gprims), using(crate::proofs::Loop::reading, crate::proofs::Listed::next_gprim_item))]
 fn gprims(
     alloc: Global,
     params: &Params,
@@ -125,7 +125,7 @@ fn next_gconj(
 }
 
 #[cycle(generator)]
-#[tactic(auto, unfolding(xdg_ast::specs::Grammar::gconjs))]
+#[tactic(auto, unfolding(xdg_ast::specs::Grammar::gconjs), using(crate::proofs::Loop::reading, crate::proofs::Listed::next_gconj_item))]
 fn gconjs(
     alloc: Global,
     params: &Params,

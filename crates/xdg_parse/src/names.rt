@@ -33,6 +33,7 @@ pub fn name(alloc: Global, cursor: &mut Cursor<'_, '_>) -> Result<Name, Why>
 }
 
 /// Constants, as many as come.
+#[tactic(auto, unfolding(xdg_ast::specs::Grammar::names), using(crate::proofs::Loop::reading, crate::proofs::Listed::name_item))]
 pub(crate) fn names(alloc: Global, cursor: &mut Cursor<'_, '_>) -> Result<List<Name>, Why>
     ensures { Reads (grammar.names.read cursor.old) result cursor.new }
 {
@@ -56,6 +57,7 @@ pub(crate) fn num(cursor: &mut Cursor<'_, '_>) -> Result<Num, Why>
 }
 
 /// Numbers, as many as come.
+#[tactic(auto, unfolding(xdg_ast::specs::Grammar::nums), using(crate::proofs::Loop::reading, crate::proofs::Listed::num_item))]
 pub(crate) fn nums(alloc: Global, cursor: &mut Cursor<'_, '_>) -> Result<List<Num>, Why>
     ensures { Reads (grammar.nums.read cursor.old) result cursor.new }
 {

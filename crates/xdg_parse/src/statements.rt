@@ -38,6 +38,7 @@ fn class_param(alloc: Global, cursor: &mut Cursor<'_, '_>, within: u32) -> Resul
     Ok(ClassParam { name, preset })
 }
 
+#[tactic(auto, unfolding(xdg_ast::specs::Grammar::class_params), using(crate::proofs::Loop::reading, crate::proofs::Listed::class_param_item))]
 fn class_params(
     alloc: Global,
     cursor: &mut Cursor<'_, '_>,
@@ -149,6 +150,7 @@ fn begins_statement(cursor: &Cursor<'_, '_>) -> bool
 }
 
 /// Statements, as many as come.
+#[tactic(auto, unfolding(xdg_ast::specs::Grammar::statements), using(crate::proofs::Loop::reading, crate::proofs::Listed::statement_item))]
 pub(crate) fn statements(
     alloc: Global,
     cursor: &mut Cursor<'_, '_>,

@@ -131,6 +131,7 @@ fn begins_elem(cursor: &Cursor<'_, '_>) -> bool
 }
 
 #[cycle(term)]
+#[tactic(auto, unfolding(xdg_ast::specs::Grammar::elems), using(crate::proofs::Loop::reading, crate::proofs::Listed::elem_item))]
 fn elems(
     alloc: Global,
     params: &Params,
@@ -161,6 +162,7 @@ fn keyed_term(
     Ok(Pair { key, value })
 }
 
+#[tactic(auto, unfolding(xdg_ast::specs::Grammar::terms), using(crate::proofs::Loop::reading, crate::proofs::Listed::keyed_term_item))]
 fn terms(
     alloc: Global,
     params: &Params,

@@ -178,6 +178,7 @@ fn keyed_type(
 
 /// Fields, of which the first is there already.
 #[cycle(type_term)]
+#[tactic(auto, unfolding(xdg_ast::specs::Grammar::keyed_types), using(crate::proofs::Loop::reading, crate::proofs::Listed::keyed_type_item))]
 fn keyed_types(
     alloc: Global,
     cursor: &mut Cursor<'_, '_>,
@@ -195,6 +196,7 @@ fn keyed_types(
 }
 
 /// Constants, of which the first is there already.
+#[tactic(auto, unfolding(xdg_ast::specs::Grammar::names), using(crate::proofs::Loop::reading, crate::proofs::Listed::name_item))]
 fn more_names(alloc: Global, cursor: &mut Cursor<'_, '_>, first: Name) -> Result<List<Name>, Why>
     ensures { Reads (giving (λ others. first ∷ others) (grammar.names.read cursor.old)) result cursor.new }
 {
@@ -268,7 +270,7 @@ fn begins_type(cursor: &Cursor<'_, '_>) -> bool
 }
 
 #[cycle(type_term)]
-#[tactic(auto, unfolding(xdg_ast::specs::Grammar::more_types))]
+#[tactic(auto, unfolding(xdg_ast::specs::Grammar::more_types), using(crate::proofs::Loop::reading, crate::proofs::Listed::type_term_item))]
 fn more_types(
     alloc: Global,
     cursor: &mut Cursor<'_, '_>,

@@ -1,5 +1,5 @@
 use Rattle.std.proofs.Common.{◌≡◌, length}
-use Rattle.xdg_parse.proofs.Items.{with_front}
+use Rattle.xdg_parse.proofs.Loop.{with_front}
 use Rattle.xdg_formula.specs.Rules as grammar
 use Rattle.xdg_formula.proofs.rules.rules.Given as goal
 

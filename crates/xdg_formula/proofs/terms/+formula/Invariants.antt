@@ -1,6 +1,6 @@
 use Rattle.std.proofs.Common.{◌≡◌, ◌+◌, ◌*◌, length}
 use Rattle.xdg_ast.specs.Language.{many}
-use Rattle.xdg_parse.proofs.Items.{with_front}
+use Rattle.xdg_parse.proofs.Loop.{with_front}
 use Rattle.xdg_formula.specs.Rules as grammar
 use Rattle.xdg_formula.specs.Rules.{under}
 use Rattle.xdg_formula.proofs.terms.+formula.Given as goal

@@ -2,7 +2,7 @@ use Rattle.std.proofs.Common.{◌≡◌, ◌+◌, ◌*◌, length}
 use Rattle.xdg_ast.specs.Grammar as grammar
 use Rattle.xdg_ast.specs.Grammar.{under}
 use Rattle.xdg_ast.specs.Language.{many}
-use Rattle.xdg_parse.proofs.Items.{with_front}
+use Rattle.xdg_parse.proofs.Loop.{with_front}
 use Rattle.xdg_parse.proofs.expressions.+expr.Given as goal
 
 abbrev pub decreases-expr : goal.decreases-expr

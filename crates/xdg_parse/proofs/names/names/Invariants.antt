@@ -1,6 +1,6 @@
 use Rattle.std.proofs.Common.{◌≡◌, length}
 use Rattle.xdg_ast.specs.Grammar as grammar
-use Rattle.xdg_parse.proofs.Items.{with_front}
+use Rattle.xdg_parse.proofs.Loop.{with_front}
 use Rattle.xdg_parse.proofs.names.names.Given as goal
 
 abbrev pub invariant-names : goal.invariant-names

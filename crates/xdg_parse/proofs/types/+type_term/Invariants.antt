@@ -3,7 +3,7 @@ use Rattle.xdg_ast.specs.Grammar as grammar
 use Rattle.xdg_ast.specs.Grammar.{under}
 use Rattle.xdg_ast.specs.Language.{many}
 use Rattle.xdg_parse.specs.Parts.{giving}
-use Rattle.xdg_parse.proofs.Items.{with_front}
+use Rattle.xdg_parse.proofs.Loop.{with_front}
 use Rattle.xdg_parse.proofs.types.+type_term.Given as goal
 
 abbrev pub decreases-braced_tail : goal.decreases-braced_tail
