@@ -6,7 +6,7 @@ pub mod Nexts
 pub mod Once
 pub mod Ruled
 pub mod SeenTokens
-pub mod Shorter
+pub mod Listed
 pub mod Tokens
 pub mod Treed
 pub mod Unique

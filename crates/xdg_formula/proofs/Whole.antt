@@ -8,7 +8,6 @@ use Rattle.xdg_ast.specs.Language.{Language, kind_of, ended_by, State, Unexpecte
 use Rattle.xdg_ast.specs.Derives.{IsShallow, place_of}
 use Rattle.xdg_parse.specs.Steadiness.{at, Steady}
 use Rattle.xdg_parse.specs.Laws.{Says, Law}
-use Rattle.xdg_parse.proofs.Laws.{balanced}
 use Rattle.xdg_formula.specs.Derived.{Family, DerivesWithin, Derives, Ends, IsUnexpectedAt, IsTooDeepAt, IsRefused, unexpected, too_deep}
 use Rattle.xdg_parse.proofs.Whole.{raise, none-left, some-left}
 
@@ -42,14 +41,6 @@ module _ {A : Type 0} (l : ℕ → Language A) (is : Readable l) where
       let a = is.law (m + k) m in
       let r = a.complete ts x 0 [] h (raise ts m m k (a.fits ts x h)) refl in
       ap (λ us. (l (m + k)).read (at 0 us)) (sym (append-nil ts)) ∙ r
-
-  read-shallow : (ts : List Lexeme) (m : ℕ) (x : A) → (l m).means ts x → IsShallow ts → (l 64).read (at 0 ts) ≡ Ok (x, at (ended_by 0 ts) [])
-  unfolding kind_of
-  read-shallow ts m x h w =
-      let a = is.law 64 m in
-      let k : w.0 ≡ 64 = balanced ts m 64 w.0 (a.fits ts x h) w.1 in
-      let r = a.complete ts x 0 [] h (w.1 ∙ ap Some k) refl in
-      ap (λ us. (l 64).read (at 0 us)) (sym (append-nil ts)) ∙ r
 
   -- ---- what the outcome says of the text
 
@@ -152,15 +143,9 @@ module _ {A : Type 0} (l : ℕ → Language A) (is : Readable l) where
     pub deep-tells : (r : List Lexeme) → (l 64).read start ≡ Err (TooDeep, r) → IsRefused (means_of l) ts end (record { cause = causes.TooDeep; at = place_of end r; reached = 65 })
     deep-tells r h = too_deep _ (too-many ts end r (rw starts_at at h))
 
-  -- ---- the two ways to say that no bracket is one too many
-
   -- tokens that stand for something within 64 brackets open no bracket too many
   pub shallow : (ts : List Lexeme) (x : A) → DerivesWithin (means_of l) ts x → IsShallow ts
   shallow ts x h = (64, (is.law 64 64).fits ts x h)
-
-  -- and tokens that open none too many stand for it so, if they do at all
-  pub derives_within : (ts : List Lexeme) (x : A) → Derives (means_of l) ts x → IsShallow ts → DerivesWithin (means_of l) ts x
-  derives_within ts x d w = was-read ts x (at (ended_by 0 ts) []) (read-shallow ts d.0 x d.1 w) refl
 
   -- ---- one reading
 

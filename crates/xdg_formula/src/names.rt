@@ -85,6 +85,7 @@ pub(crate) fn constant(alloc: Global, cursor: &mut Cursor<'_, '_>) -> Result<Nam
 }
 
 /// Constants, as many as come.
+#[tactic(auto, unfolding(crate::specs::Rules::constants), using(xdg_parse::proofs::Loop::reading, crate::proofs::Listed::constant_item))]
 pub(crate) fn constants(alloc: Global, cursor: &mut Cursor<'_, '_>) -> Result<List<Name>, Why>
     ensures { Reads (grammar.constants.read cursor.old) result cursor.new }
 {

@@ -38,6 +38,7 @@ fn rule(alloc: Global, cursor: &mut Cursor<'_, '_>, within: u32) -> Result<Rule,
 }
 
 /// Rules, as many as come.
+#[tactic(auto, unfolding(crate::specs::Rules::rules), using(xdg_parse::proofs::Loop::reading, crate::proofs::Listed::rule_item))]
 pub(crate) fn rules(
     alloc: Global,
     cursor: &mut Cursor<'_, '_>,

@@ -71,6 +71,7 @@ fn sign(cursor: &mut Cursor<'_, '_>) -> Result<Span, Why>
 }
 
 /// The places of a run of signs `!`, as many as come.
+#[tactic(auto, unfolding(crate::specs::Rules::signs), using(xdg_parse::proofs::Loop::reading, crate::proofs::Listed::sign_item))]
 fn signs(alloc: Global, cursor: &mut Cursor<'_, '_>) -> Result<List<Span>, Why>
     ensures { Reads (grammar.signs.read cursor.old) result cursor.new }
 {
@@ -157,7 +158,7 @@ fn next_prim(alloc: Global, cursor: &mut Cursor<'_, '_>, within: u32) -> Result<
 }
 
 #[cycle(formula)]
-#[tactic(auto, unfolding(crate::specs::Rules::prims))]
+#[tactic(auto, unfolding(crate::specs::Rules::prims), using(xdg_parse::proofs::Loop::reading, crate::proofs::Listed::next_prim_item))]
 fn prims(alloc: Global, cursor: &mut Cursor<'_, '_>, within: u32) -> Result<List<RuleTerm>, Why>
     ensures { Reads ((grammar.prims (under within)).read cursor.old) result cursor.new }
 {
@@ -189,7 +190,7 @@ fn next_conj(alloc: Global, cursor: &mut Cursor<'_, '_>, within: u32) -> Result<
 }
 
 #[cycle(formula)]
-#[tactic(auto, unfolding(crate::specs::Rules::conjs))]
+#[tactic(auto, unfolding(crate::specs::Rules::conjs), using(xdg_parse::proofs::Loop::reading, crate::proofs::Listed::next_conj_item))]
 fn conjs(alloc: Global, cursor: &mut Cursor<'_, '_>, within: u32) -> Result<List<RuleTerm>, Why>
     ensures { Reads ((grammar.conjs (under within)).read cursor.old) result cursor.new }
 {

@@ -19,5 +19,6 @@ pub mod Rules
 pub mod RulesStatements
 pub mod Listed
 pub mod Whole
+pub mod Fronts
 pub mod Unique
 pub mod Once

@@ -164,9 +164,6 @@ module _ {A B : Type 0} (f : Span → A → B) (l m : Language A) (d n : ℕ) (a
   ends [] e x h = absurd (not-empty l m d n a some x h)
   ends (t ∷ u) e x h = refl
 
-  starts-same : (u r r' : List Lexeme) (x : A) → m.means u x → start_of (u ++ r') ≡ start_of (u ++ r)
-  starts-same u r r' x h = starts u r' x h ∙ sym (starts u r x h)
-
   spanned-says : (s : State) (o : Outcome A) → Says d m s o → Says d (spanned f m) s (o >>= λ y. Ok (f (record { start = start_of s.left; end = y.1.ended }) y.0, y.1))
   spanned-says s (Ok (x, s')) g = record {
     used = g.used;
