@@ -24,9 +24,8 @@ use Rattle.xdg_facts.specs.Membership.{In, Differ}
 
 classes_grow : (cs xs : List ClassDef) (ys : List Class) (x : ClassDef) (y : Class) → AreClassesOf cs xs ys → IsClassOf cs x y → AreClassesOf cs (xs ++ x ∷ []) (ys ++ y ∷ [])
 classes_grow cs [] [] x y h is = (is, tt)
-classes_grow cs [] (z ∷ ys) x y h is = absurd h
-classes_grow cs (w ∷ xs) [] x y h is = absurd h
 classes_grow cs (w ∷ xs) (z ∷ ys) x y h is = (h.0, classes_grow cs xs ys x y h.1 is)
+classes_grow cs _ _ x y h is = absurd h
 
 pub class_turn : (cs : List ClassDef) (ds : List LentClass) (i : ℕ) (x : LentClass) (old new : List Class) (m : Class) → i < length ds → x ≡ get_or ds i x → AreClassesOf cs (map class_def (take i ds)) old → IsClassOf cs (class_def x) m
     → new ≡ old ++ m ∷ [] → AreClassesOf cs (map class_def (take (i + 1) ds)) new
@@ -63,9 +62,8 @@ name_turn cs i c text added old new within is name told grown so_far apart =
 
 entries_grow : (cs : List ClassDef) (xs : List d.EntryDef) (ys : List EntryDef) (x : d.EntryDef) (y : EntryDef) → AreEntriesOf cs xs ys → IsEntryOf cs x y → AreEntriesOf cs (xs ++ x ∷ []) (ys ++ y ∷ [])
 entries_grow cs [] [] x y h is = (is, tt)
-entries_grow cs [] (z ∷ ys) x y h is = absurd h
-entries_grow cs (w ∷ xs) [] x y h is = absurd h
 entries_grow cs (w ∷ xs) (z ∷ ys) x y h is = (h.0, entries_grow cs xs ys x y h.1 is)
+entries_grow cs _ _ x y h is = absurd h
 
 pub entry_more : (cs : List ClassDef) (statement : Statement) (source : Expr) (y : EntryDef) (old new : List EntryDef) → statement.kind ≡ k.DefEntry source → y.at ≡ statement.span.start → body y.body.kind ≡ completed cs (body source.kind)
     → y.body.span ≡ source.span → new ≡ old ++ y ∷ [] → AddsEntries cs (entry statement) old new

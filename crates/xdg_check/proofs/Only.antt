@@ -39,9 +39,8 @@ one_class cs source made h =
 
 all_classes : (cs sources : List ClassDef) (made : List Class) → AreClassesOf cs sources made → named_bodies made ≡ map (class_of cs) sources
 all_classes cs [] [] h = refl
-all_classes cs [] (m ∷ made) h = absurd h
-all_classes cs (source ∷ sources) [] h = absurd h
 all_classes cs (source ∷ sources) (m ∷ made) h = ap₂ (λ z zs. z ∷ zs) (one_class cs source m h.0) (all_classes cs sources made h.1)
+all_classes cs _ _ h = absurd h
 
 entry_of : List ClassDef → d.EntryDef → ℕ × Body
 entry_of cs source = (source.at, completed cs (body source.body.kind))
@@ -52,9 +51,8 @@ one_entry cs source made h = ap₂ (λ n b. (n, b)) h.at h.body
 
 all_entries : (cs : List ClassDef) (sources : List d.EntryDef) (made : List EntryDef) → AreEntriesOf cs sources made → map placed_body made ≡ map (entry_of cs) sources
 all_entries cs [] [] h = refl
-all_entries cs [] (m ∷ made) h = absurd h
-all_entries cs (source ∷ sources) [] h = absurd h
 all_entries cs (source ∷ sources) (m ∷ made) h = ap₂ (λ z zs. z ∷ zs) (one_entry cs source m h.0) (all_entries cs sources made h.1)
+all_entries cs _ _ h = absurd h
 
 -- ---- passes, one after the other
 

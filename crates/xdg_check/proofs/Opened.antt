@@ -48,15 +48,7 @@ module _ (free : List (List ℕ)) where
       | inr p ↦ inr (p.0, (p.1.0, plain_seen p.0.1 (λ x. OffendsIn (with_open []) u x f) (less_in u p.0.1 f (seen_plain free p.0.1 (λ x. OffendsIn (with_open free) u x f) p.1.1))))
     ]
     less_in (fields fs) t f h = elim h [ inl a ↦ inl a | inr p ↦ inr (p.0, (p.1.0, less_under fs p.0 f p.1.1)) ]
-    less_in (domain cs) t f h = h
-    less_in (tuple ss) t f h = h
-    less_in truth t f h = h
-    less_in integer t f h = h
-    less_in text t f h = h
-    less_in (set s) t f h = h
-    less_in (iset s) t f h = h
-    less_in card t f h = h
-    less_in (valency k) t f h = h
+    less_in other t f h = h
 
     less_under : (fs : Fields) (pair : Name × Term) (f : Fault) → OffendsUnder (with_open free) fs pair f → OffendsUnder (with_open []) fs pair f
     less_under no_field pair f h = h

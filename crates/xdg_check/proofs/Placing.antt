@@ -31,23 +31,19 @@ use Rattle.xdg_ast.specs.Texts.{texts}
 
 source_at : (cs sources : List ClassDef) (made : List Class) → AreClassesOf cs sources made → (k : ℕ) (m : Class) → slice_get made k ≡ Some m → (c : ClassDef) × ((slice_get sources k ≡ Some c) × IsClassOf cs c m)
 source_at cs [] [] are k m h = absurd (cc)
-source_at cs [] (x ∷ made) are k m h = absurd are
-source_at cs (c ∷ sources) [] are k m h = absurd are
 source_at cs (c ∷ sources) (x ∷ made) are zero m h = let e : x ≡ m = cc in (c, (refl, subst (IsClassOf cs c) e are.0))
 source_at cs (c ∷ sources) (x ∷ made) are (suc k) m h = source_at cs sources made are.1 k m h
+source_at cs _ _ are k m h = absurd are
 
 pub as_long : (cs sources : List ClassDef) (made : List Class) → AreClassesOf cs sources made → length made ≡ length sources
 as_long cs [] [] are = refl
-as_long cs [] (x ∷ made) are = absurd are
-as_long cs (c ∷ sources) [] are = absurd are
 as_long cs (c ∷ sources) (x ∷ made) are = ap suc (as_long cs sources made are.1)
+as_long cs _ _ are = absurd are
 
 -- counts change nothing else
 pub bare_classes : (cs sources : List ClassDef) (old new : List Class) → map bare new ≡ map bare old → AreClassesOf cs sources old → AreClassesOf cs sources new
 bare_classes cs [] [] [] same are = are
 bare_classes cs [] [] (y ∷ new) same are = absurd (cc)
-bare_classes cs [] (x ∷ old) new same are = absurd are
-bare_classes cs (c ∷ sources) [] new same are = absurd are
 bare_classes cs (c ∷ sources) (x ∷ old) [] same are = absurd (cc)
 bare_classes cs (c ∷ sources) (x ∷ old) (y ∷ new) same are =
     let one : bare y ≡ bare x = cc in
@@ -60,6 +56,7 @@ bare_classes cs (c ∷ sources) (x ∷ old) (y ∷ new) same are =
       },
       bare_classes cs sources old new more are.1,
     )
+bare_classes cs _ _ new same are = absurd are
 
 -- ---- the order
 

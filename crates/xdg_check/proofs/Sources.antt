@@ -71,13 +71,12 @@ named_some (x ∷ cs) name h = by (bytes_eq x.name.text name) refl (named_some c
 
 module _ (cs : List ClassDef) where
   pub source_of : (sources : List ClassDef) (made : List Class) → AreClassesOf cs sources made → (m : Class) → In made m → (c : ClassDef) × (In sources c × IsClassOf cs c m)
-  source_of [] [] are m h = absurd h
   source_of [] (x ∷ made) are m h = absurd are
-  source_of (c ∷ sources) [] are m h = absurd h
   source_of (c ∷ sources) (x ∷ made) are m h = elim h [
     | inl e ↦ (c, (inl refl, subst (IsClassOf cs c) e are.0))
     | inr k ↦ (let r = source_of sources made are.1 m k in (r.0, (inr r.1.0, r.1.1)))
   ]
+  source_of _ _ are m h = absurd h
 
   pub made_of : (sources : List ClassDef) (made : List Class) → AreClassesOf cs sources made → (c : ClassDef) → In sources c → (m : Class) × (In made m × IsClassOf cs c m)
   made_of [] made are c h = absurd h
@@ -89,18 +88,16 @@ module _ (cs : List ClassDef) where
 
   pub same_names : (sources : List ClassDef) (made : List Class) → AreClassesOf cs sources made → class_texts made ≡ texts (class_names sources)
   same_names [] [] are = refl
-  same_names [] (m ∷ made) are = absurd are
-  same_names (c ∷ sources) [] are = absurd are
   same_names (c ∷ sources) (m ∷ made) are = ap₂ (λ (x : List ℕ) y. x ∷ y) are.0.name (same_names sources made are.1)
+  same_names _ _ are = absurd are
 
   pub entry_of : (sources : List d.EntryDef) (made : List EntryDef) → AreEntriesOf cs sources made → (m : EntryDef) → In made m → (e : d.EntryDef) × (In sources e × IsEntryOf cs e m)
-  entry_of [] [] are m h = absurd h
   entry_of [] (x ∷ made) are m h = absurd are
-  entry_of (e ∷ sources) [] are m h = absurd h
   entry_of (e ∷ sources) (x ∷ made) are m h = elim h [
     | inl same ↦ (e, (inl refl, subst (IsEntryOf cs e) same are.0))
     | inr k ↦ (let r = entry_of sources made are.1 m k in (r.0, (inr r.1.0, r.1.1)))
   ]
+  entry_of _ _ are m h = absurd h
 
 -- ---- the bodies of the text
 
