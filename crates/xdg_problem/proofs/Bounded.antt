@@ -1,14 +1,13 @@
 -- How many entries and edges an analysis has at most.
-use Rattle.std.proofs.Common.{◌≡◌, ℕ, ◌≤◌, ◌+◌, List, [], ◌∷◌, cond, length, map, sym, ap, ◌∙◌, subst, arith, Bool, true, false}
+use Rattle.std.proofs.Common.{ℕ, ◌≤◌, ◌+◌, List, [], ◌∷◌, cond, length, subst, arith, Bool, true, false}
 use Rattle.std.specs.Prelude.{◌==◌}
-use Rattle.std.proofs.lemmas.List.{length-drop}
 use Rattle.xdg_problem.specs.declared.analysis.Analysis.{Analysis}
 use Rattle.xdg_problem.specs.declared.analysis.Edge.{Edge}
 use Rattle.xdg_problem.specs.declared.parts.Parts.{Parts}
 use Rattle.xdg_problem.specs.Analyses.{IsAnalysis}
-use Rattle.xdg_problem.specs.Places.{nodes, places}
+use Rattle.xdg_problem.specs.Places.{places}
 use Rattle.xdg_problem.specs.Problems.{IsProblem}
-use Rattle.xdg_problem.specs.Vectors.{shape, first_place, chosen, vector, analysis_of}
+use Rattle.xdg_problem.specs.Vectors.{shape, chosen, vector, analysis_of}
 use Rattle.xdg_problem.proofs.EntryPlaces.{length_entries}
 use Rattle.xdg_problem.proofs.VectorFacts.{length_shape, analysis_vector}
 

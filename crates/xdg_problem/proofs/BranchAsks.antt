@@ -1,5 +1,5 @@
 -- What a principle use asks doesn't change where its features do, as long as each node finds the same rows.
-use Rattle.std.proofs.Common.{◌≡◌, ℕ, ◌<◌, List, [], ◌∷◌, length, get_or, map, zero, suc, refl, sym, subst}
+use Rattle.std.proofs.Common.{◌≡◌, ◌↔◌, ℕ, ◌<◌, List, [], ◌∷◌, length, map, zero, suc, refl, sym, subst}
 use Rattle.std.specs.Prelude.{All, Contains, slice_index}
 use Rattle.std.proofs.lemmas.List.Elements.{All-weaker}
 use Rattle.xdg_base.specs.declared.ids.EntryNo.{EntryNo}
@@ -19,10 +19,7 @@ use Rattle.xdg_problem.specs.Features.{row}
 use Rattle.xdg_problem.specs.Paths.{AboveByLast, edges_on, edges_into, edges_out_of}
 use Rattle.xdg_problem.specs.Principles.{linking_of}
 use Rattle.xdg_problem.specs.Relations.{IsKept}
-
--- the parts with other candidates and principle uses
-abbrev pub with_candidates : List (List EntryNo) → List Group → Parts → Parts
-with_candidates candidates groups parts = record parts { candidates = candidates; groups = groups }
+use Rattle.xdg_problem.proofs.OtherTruths.{with_candidates}
 
 -- a principle use of another principle, with other features
 abbrev pub with_use : Principle → List (List (List Feat)) → Group → Group
@@ -32,11 +29,16 @@ with_use principle feats group = record group { principle = principle; feats = f
 abbrev pub SameRows : Group → List (List (List Feat)) → List (List (List Feat)) → ℕ → ℕ → ℕ → Type 0
 SameRows group f g node c d = (argument label : ℕ) → row (with_use group.principle f group) node c argument label ≡ row (with_use group.principle g group) node d argument label
 
--- what the linking principles ask goes by the rows
-abbrev pub SameLinks : Principle → Principle → Group → List (List (List Feat)) → List (List (List Feat)) → Type 0
-SameLinks p q group f g = (node c d : ℕ) (edges : List Edge) (l v : ℕ) → SameRows group f g node c d → AsksLink p (with_use p f group) c edges node l v → AsksLink q (with_use q g group) d edges node l v
+-- two principles ask the same of links
+abbrev pub LinkAlike : Principle → Principle → Type 0
+LinkAlike p q = (group : Group) (candidate : ℕ) (edges : List Edge) (u l v : ℕ) → AsksLink p group candidate edges u l v ↔ AsksLink q group candidate edges u l v
 
-module _ (p q : Principle) (group : Group) (f g : List (List (List Feat))) (links : SameLinks p q group f g) where
+-- what the linking principles ask goes by the rows
+linked_alike : (principle p q : Principle) (group : Group) (f g : List (List (List Feat))) (node c d : ℕ) (edges : List Edge) (l v : ℕ) → SameRows group f g node c d → AsksLink principle (with_use p f group) c edges node l v → AsksLink principle (with_use q g group) d edges node l v
+linked_alike principles.LinkingNotDaughter p q group f g node c d edges l v same asks = λ has. asks (subst (λ r. Contains r l) (sym (same 0 0)) has)
+linked_alike principle p q group f g node c d edges l v same asks = subst (λ r. AsksBy (linking_of principle) edges node r v) (same 0 l) asks
+
+module _ (p q : Principle) (group : Group) (f g : List (List (List Feat))) (links : LinkAlike p q) where
   same_asks : (condition : Condition) (c d : ℕ) (values : List ℕ) (edges : List Edge) (tuple : List ℕ) → SameRows group f g (first tuple) c d → AsksOf condition (with_use p f group) c values edges tuple → AsksOf condition (with_use q g group) d values edges tuple
   same_asks conditions.InCount c d values edges tuple same asks = subst (λ r. Contains r (edges_into (edges_on (first_dim group) edges) (first tuple) (second tuple))) (same 0 (second tuple)) asks
   same_asks conditions.OutCount c d values edges tuple same asks = subst (λ r. Contains r (edges_out_of (edges_on (first_dim group) edges) (first tuple) (second tuple))) (same 1 (second tuple)) asks
@@ -44,7 +46,7 @@ module _ (p q : Principle) (group : Group) (f g : List (List (List Feat))) (link
   same_asks conditions.Agree c d values edges tuple same asks = λ daughter has. asks daughter (subst (λ r. Contains r (second tuple)) (sym (same 0 0)) has)
   same_asks conditions.Govern c d values edges tuple same asks = λ daughter. subst (λ r. 0 < length r → Contains r (slice_index values 0)) (same 0 (second tuple)) (asks daughter)
   same_asks conditions.Blocked c d values edges tuple same asks = λ above. asks (subst (λ r. AboveByLast (edges_on (second_dim group) edges) (first tuple) r (second tuple)) (sym (same 0 0)) above)
-  same_asks conditions.Link c d values edges tuple same asks = λ daughter. links (first tuple) c d (edges_on (second_dim group) edges) (second tuple) (third tuple) same (asks daughter)
+  same_asks conditions.Link c d values edges tuple same asks = λ daughter. (links (with_use q g group) d (edges_on (second_dim group) edges) (first tuple) (second tuple) (third tuple)).0 (linked_alike p p q group f g (first tuple) c d (edges_on (second_dim group) edges) (second tuple) (third tuple) same (asks daughter))
   same_asks condition c d values edges tuple same asks = asks
 
   module _ (parts : Parts) (cs ds : List (List EntryNo)) (gs hs : List Group) where
@@ -66,9 +68,18 @@ module _ (p q : Principle) (group : Group) (f g : List (List (List Feat))) (link
           subst (λ at. AsksOf condition (with_use q g group) (slice_index ys (first tuple)) (map (slice_index attrs) at) edges tuple) (same_places condition tuple)
           (same_asks condition (slice_index xs (first tuple)) (slice_index ys (first tuple)) (map (slice_index attrs) (attr_places condition (with_candidates cs gs parts) (with_use p f group) tuple)) edges tuple (same (first tuple)) asks)
 
-      pub same_relation : (asked : List Condition) → All (IsKept (with_candidates cs gs parts) (with_use p f group) xs attrs edges) asked → All (IsKept (with_candidates ds hs parts) (with_use q g group) ys attrs edges) asked
+      same_relation : (asked : List Condition) → All (IsKept (with_candidates cs gs parts) (with_use p f group) xs attrs edges) asked → All (IsKept (with_candidates ds hs parts) (with_use q g group) ys attrs edges) asked
       same_relation asked kept = All-weaker (IsKept (with_candidates cs gs parts) (with_use p f group) xs attrs edges) (IsKept (with_candidates ds hs parts) (with_use q g group) ys attrs edges)
           (λ condition holds tuple is. same_all condition tuple (holds tuple (same_tuple condition edges tuple is))) asked kept
+
+-- both ways
+pub relation_alike : (p q : Principle) (group : Group) (f g : List (List (List Feat))) → LinkAlike p q → (parts : Parts) (cs ds : List (List EntryNo)) (gs hs : List Group) (xs ys attrs : List ℕ) (edges : List Edge) → ((node : ℕ) → SameRows group f g node (slice_index xs node) (slice_index ys node))
+    → AsksWhole p (with_candidates cs gs parts) xs attrs edges ↔ AsksWhole q (with_candidates ds hs parts) ys attrs edges → (asked : List Condition)
+    → All (IsKept (with_candidates cs gs parts) (with_use p f group) xs attrs edges) asked ↔ All (IsKept (with_candidates ds hs parts) (with_use q g group) ys attrs edges) asked
+relation_alike p q group f g links parts cs ds gs hs xs ys attrs edges same whole asked = (
+  same_relation p q group f g links parts cs ds gs hs xs ys attrs edges same whole.0 asked,
+  same_relation q p group g f (λ h c es u l v. ((links h c es u l v).1, (links h c es u l v).0)) parts ds cs hs gs ys xs attrs edges (λ node argument label. sym (same node argument label)) whole.1 asked,
+)
 
 -- ---- a branch
 
@@ -78,10 +89,6 @@ alone_rows group [] place more node argument label = refl
 alone_rows group (fs ∷ feats) place more zero argument label = refl
 alone_rows group (fs ∷ feats) place more (suc node) argument label = refl
 
-pub links_down : (principle : Principle) (place : ℕ) (group : Group) (f g : List (List (List Feat))) → SameLinks (branch_principle place principle) principle group f g
-links_down principles.LinkingNotDaughter place group f g node c d edges l v same asks = λ has. asks (subst (λ r. Contains r l) (sym (same 0 0)) has)
-links_down principle place group f g node c d edges l v same asks = subst (λ r. AsksBy (linking_of principle) edges node r v) (same 0 l) asks
-
-pub links_up : (principle : Principle) (place : ℕ) (group : Group) (f g : List (List (List Feat))) → SameLinks principle (branch_principle place principle) group f g
-links_up principles.LinkingNotDaughter place group f g node c d edges l v same asks = λ has. asks (subst (λ r. Contains r l) (sym (same 0 0)) has)
-links_up principle place group f g node c d edges l v same asks = subst (λ r. AsksBy (linking_of principle) edges node r v) (same 0 l) asks
+pub branch_links : (principle : Principle) (place : ℕ) → LinkAlike (branch_principle place principle) principle
+branch_links (principles.Rule formula) place group candidate edges u l v = (λ t. t, λ t. t)
+branch_links principle place group candidate edges u l v = (λ t. t, λ t. t)

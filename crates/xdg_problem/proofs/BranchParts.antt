@@ -1,16 +1,16 @@
 -- A branch of a problem is a problem.
 use Rattle.std.proofs.Common.{◌≡◌, ℕ, ◌<◌, List, [], ◌∷◌, length, get_or, refl, sym, ◌∙◌, subst, arith}
-use Rattle.std.specs.Prelude.{All}
 use Rattle.std.proofs.lemmas.List.Elements.{All-nil, All-cons, All-map, All-weaker}
 use Rattle.xdg_base.specs.declared.ids.EntryNo.{EntryNo}
 use Rattle.xdg_base.specs.declared.ids.LabelId.{LabelId}
+use Rattle.xdg_problem.specs.declared.formula.Formula.{Formula}
 use Rattle.xdg_problem.specs.declared.parts.Feat.{Feat}
 use Rattle.xdg_problem.specs.declared.parts.Group.{Group}
 use Rattle.xdg_problem.specs.declared.parts.Parts.{Parts}
 use Rattle.xdg_problem.specs.declared.parts.Principle.{Principle}
 use Rattle.xdg_problem.specs.declared.parts.Principle.TheVariants as principles
 use Rattle.xdg_problem.specs.Arguments.{first_dim, label_count}
-use Rattle.xdg_problem.specs.Branches.{branch_group, branch_of, branch_principle, first_alone, first_candidates, no_entry}
+use Rattle.xdg_problem.specs.Branches.{branch_formula, branch_group, branch_of, branch_principle, first_alone, first_candidates, no_entry}
 use Rattle.xdg_problem.specs.Places.{nodes}
 use Rattle.xdg_problem.specs.Problems.{AreCandidates, IsGroup, IsProblem, IsSuited}
 use Rattle.xdg_problem.proofs.BranchLists.{each_alone, length_alone, members_alone, same_lengths}
@@ -26,17 +26,9 @@ one_candidate candidates place are within = record {
 }
 
 -- what a principle takes is the same in a branch
-same_dims : (principle : Principle) (place : ℕ) → dim_arguments (branch_principle place principle) ≡ dim_arguments principle
-same_dims (principles.Rule formula) place = refl
-same_dims principle place = refl
-
-same_attrs : (principle : Principle) (place : ℕ) → attr_arguments (branch_principle place principle) ≡ attr_arguments principle
-same_attrs (principles.Rule formula) place = refl
-same_attrs principle place = refl
-
-same_truths : (principle : Principle) (place : ℕ) → truth_arguments (branch_principle place principle) ≡ truth_arguments principle
-same_truths (principles.Rule formula) place = refl
-same_truths principle place = refl
+pub same_column : {X : Type 0} (column : Principle → X) → ((f g : Formula) → column (principles.Rule f) ≡ column (principles.Rule g)) → (principle : Principle) (place : ℕ) → column (branch_principle place principle) ≡ column principle
+same_column column rules (principles.Rule formula) place = rules (branch_formula place formula) formula
+same_column column rules principle place = refl
 
 same_order : (principle : Principle) (place labels : ℕ) (order : List LabelId) → IsOrderFor principle labels order → IsOrderFor (branch_principle place principle) labels order
 same_order (principles.Rule formula) place labels order is = is
@@ -55,12 +47,12 @@ module _ (parts : Parts) (place : ℕ) (is : IsProblem parts) (within : place < 
   branch_is_group group g =
       let inside : place < length (get_or group.feats 0 []) = subst (λ n. place < n) (sym (g.feats_each 0 is.some)) within in
       record {
-        dims_count = g.dims_count ∙ sym (same_dims group.principle place);
+        dims_count = g.dims_count ∙ sym (same_column dim_arguments (λ f g. refl) group.principle place);
         dims = g.dims;
-        attrs_count = g.attrs_count ∙ sym (same_attrs group.principle place);
+        attrs_count = g.attrs_count ∙ sym (same_column attr_arguments (λ f g. refl) group.principle place);
         attrs = g.attrs;
         order = same_order group.principle place (label_count parts (first_dim group)) group.order g.order;
-        truths_count = g.truths_count ∙ sym (same_truths group.principle place);
+        truths_count = g.truths_count ∙ sym (same_column truth_arguments (λ f g. refl) group.principle place);
         feats = length_alone [] place group.feats ∙ g.feats;
         feats_each = λ v l. same_lengths [] no_entry place group.feats parts.candidates v (g.feats ∙ sym is.candidates_each) (g.feats_each v l);
         features = λ v l. All-weaker (AreFeatures group.principle parts group) (AreFeatures (branch_principle place group.principle) (branch_of parts place) (branch_group place group)) (same_features group.principle parts group place) (get_or (first_alone [] place group.feats) v [])

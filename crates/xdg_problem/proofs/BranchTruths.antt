@@ -1,5 +1,5 @@
 -- What a formula claims of a branch: its tables say for the first node what they say for one candidate.
-use Rattle.std.proofs.Common.{◌≡◌, ◌↔◌, ℕ, ◌<◌, ◌⊎◌, inl, inr, Bool, true, false, List, [], ◌∷◌, length, get_or, map, zero, suc, refl, ap, ap₂, sym, ◌∙◌, subst}
+use Rattle.std.proofs.Common.{◌≡◌, ◌↔◌, ℕ, Bool, false, List, [], ◌∷◌, map, zero, suc, refl, ap, ap₂, sym, ◌∙◌, subst}
 use Rattle.std.specs.Prelude.{slice_index}
 use Rattle.xdg_base.specs.declared.ids.AttrId.{AttrId}
 use Rattle.xdg_base.specs.declared.ids.DimId.{DimId}
@@ -10,32 +10,16 @@ use Rattle.xdg_problem.specs.declared.formula.Formula.TheOpen.{Formula-F}
 use Rattle.xdg_problem.specs.declared.formula.Formula.TheFolds.{fold-roll-Formula, ind-Formula}
 use Rattle.xdg_problem.specs.declared.formula.Formula.TheVariants as y
 use Rattle.xdg_problem.specs.declared.parts.Parts.{Parts}
-use Rattle.xdg_problem.specs.Branches.{branch_formula, branch_layer, branch_of, first_alone, no_entry}
-use Rattle.xdg_problem.specs.Claims.{Claim, negation, conjunction, disjunction, every, some, joined, above, left, same, valued, fitting, Claims, none, claim_then, claim, claims_of, layer, IsOf, EachIsOf, IsBound, EachIsBound, IsTable, Suits}
+use Rattle.xdg_problem.specs.Branches.{branch_formula, branch_group, branch_layer, branch_of, first_alone, no_entry}
+use Rattle.xdg_problem.specs.Claims.{Claim, negation, conjunction, disjunction, every, some, claim_then, claim, claims_of, layer, IsOf, IsBound, IsTable, Suits}
 use Rattle.xdg_problem.specs.Problems.{IsProblem}
-use Rattle.xdg_problem.specs.Truths.{bound, says, IsTrueOf, EachTrueOf, SomeTrueOf}
+use Rattle.xdg_problem.specs.Truths.{bound, says, IsTrueOf}
+use Rattle.xdg_problem.proofs.OtherTruths.{retabled, all_retabled, is_of, is_bound, true_alike}
 use Rattle.xdg_problem.proofs.BranchLists.{length_alone, same_lengths}
 
--- ---- claims
-
 -- a claim whose tables say for the first node what they say for its candidate at a place
-abbrev mutual
-  pub branch_claim : ℕ → Claim → Claim
-  branch_claim place (negation c) = negation (branch_claim place c)
-  branch_claim place (conjunction cs) = conjunction (branch_claims place cs)
-  branch_claim place (disjunction cs) = disjunction (branch_claims place cs)
-  branch_claim place (every name c) = every name (branch_claim place c)
-  branch_claim place (some name c) = some name (branch_claim place c)
-  branch_claim place (joined dim mother label daughter) = joined dim mother label daughter
-  branch_claim place (above dim upper lower) = above dim upper lower
-  branch_claim place (left first second) = left first second
-  branch_claim place (same first second) = same first second
-  branch_claim place (valued name dim attr value) = valued name dim attr value
-  branch_claim place (fitting name table) = fitting name (first_alone false place table)
-
-  pub branch_claims : ℕ → Claims → Claims
-  branch_claims place none = none
-  branch_claims place (claim_then c cs) = claim_then (branch_claim place c) (branch_claims place cs)
+abbrev pub branch_claim : ℕ → Claim → Claim
+branch_claim place = retabled (first_alone false place)
 
 -- ---- what the formula of a branch claims
 
@@ -49,7 +33,7 @@ module _ (place : ℕ) where
   abbrev forget : Formula-F Told → Formula-F Formula
   forget z = map-Formula Told Formula (λ k. k.0) z
 
-  all_told : (ks : List Told) → claims_of (map claim (map (branch_formula place) (map (λ (k : Told). k.0) ks))) ≡ branch_claims place (claims_of (map claim (map (λ (k : Told). k.0) ks)))
+  all_told : (ks : List Told) → claims_of (map claim (map (branch_formula place) (map (λ (k : Told). k.0) ks))) ≡ all_retabled (first_alone false place) (claims_of (map claim (map (λ (k : Told). k.0) ks)))
   all_told [] = refl
   all_told (k ∷ ks) = ap₂ claim_then k.1 (all_told ks)
 
@@ -122,46 +106,10 @@ module _ (parts : Parts) (place : ℕ) (is : IsProblem parts) where
     each = λ v l. same_lengths false no_entry place table parts.candidates v (t.count ∙ sym is.candidates_each) (t.each v l);
   }
 
-  mutual
-    is_of : (c : Claim) → IsOf parts c → IsOf (branch_of parts place) (branch_claim place c)
-    is_of (negation c) h = is_of c h
-    is_of (conjunction cs) h = each_of cs h
-    is_of (disjunction cs) h = each_of cs h
-    is_of (every name c) h = is_of c h
-    is_of (some name c) h = is_of c h
-    is_of (joined dim mother label daughter) h = h
-    is_of (above dim upper lower) h = h
-    is_of (left first second) h = h
-    is_of (same first second) h = h
-    is_of (valued name dim attr value) h = h
-    is_of (fitting name table) h = table_cut table h
-
-    each_of : (cs : Claims) → EachIsOf parts cs → EachIsOf (branch_of parts place) (branch_claims place cs)
-    each_of none h = tt
-    each_of (claim_then c cs) h = (is_of c h.0, each_of cs h.1)
-
-  mutual
-    is_bound : (scope : List ℕ) (c : Claim) → IsBound scope c → IsBound scope (branch_claim place c)
-    is_bound scope (negation c) h = is_bound scope c h
-    is_bound scope (conjunction cs) h = each_bound scope cs h
-    is_bound scope (disjunction cs) h = each_bound scope cs h
-    is_bound scope (every name c) h = is_bound (name ∷ scope) c h
-    is_bound scope (some name c) h = is_bound (name ∷ scope) c h
-    is_bound scope (joined dim mother label daughter) h = h
-    is_bound scope (above dim upper lower) h = h
-    is_bound scope (left first second) h = h
-    is_bound scope (same first second) h = h
-    is_bound scope (valued name dim attr value) h = h
-    is_bound scope (fitting name table) h = h
-
-    each_bound : (scope : List ℕ) (cs : Claims) → EachIsBound scope cs → EachIsBound scope (branch_claims place cs)
-    each_bound scope none h = tt
-    each_bound scope (claim_then c cs) h = (is_bound scope c h.0, each_bound scope cs h.1)
-
   pub suits_cut : (formula : Formula) → Suits parts formula → Suits (branch_of parts place) (branch_formula place formula)
   suits_cut formula suits = record {
-    is_of = subst (IsOf (branch_of parts place)) (sym (claim_cut place formula)) (is_of (claim formula) suits.is_of);
-    bound = subst (IsBound []) (sym (claim_cut place formula)) (is_bound [] (claim formula) suits.bound);
+    is_of = subst (IsOf (branch_of parts place)) (sym (claim_cut place formula)) (is_of parts (first_alone no_entry place parts.candidates) (map (branch_group place) parts.groups) (first_alone false place) table_cut (claim formula) suits.is_of);
+    bound = subst (IsBound []) (sym (claim_cut place formula)) (is_bound (first_alone false place) [] (claim formula) suits.bound);
   }
 
 -- ---- truth
@@ -172,49 +120,8 @@ says_alone [] place more v = refl
 says_alone (row ∷ table) place more zero = refl
 says_alone (row ∷ table) place more (suc v) = refl
 
-module _ (parts : Parts) (place : ℕ) (more attrs : List ℕ) (edges : List Edge) where
-  abbrev Branch : Claim → (ℕ → ℕ) → Type 0
-  Branch c b = IsTrueOf (branch_of parts place) (0 ∷ more) attrs edges c b
-
-  abbrev Whole : Claim → (ℕ → ℕ) → Type 0
-  Whole c b = IsTrueOf parts (place ∷ more) attrs edges c b
-
-  mutual
-    pub true_cut : (c : Claim) (b : ℕ → ℕ) → Branch (branch_claim place c) b ↔ Whole c b
-    true_cut (negation c) b = (let one = true_cut c b in (λ n t. n (one.1 t), λ n t. n (one.0 t)))
-    true_cut (conjunction cs) b = each_cut cs b
-    true_cut (disjunction cs) b = some_cut cs b
-    true_cut (every name c) b = (
-      λ all node l. (true_cut c (bound b name node)).0 (all node l),
-      λ all node l. (true_cut c (bound b name node)).1 (all node l),
-    )
-    true_cut (some name c) b = (
-      λ found. (found.0, found.1, (true_cut c (bound b name found.0)).0 found.2),
-      λ found. (found.0, found.1, (true_cut c (bound b name found.0)).1 found.2),
-    )
-    true_cut (joined dim mother label daughter) b = (λ t. t, λ t. t)
-    true_cut (above dim upper lower) b = (λ t. t, λ t. t)
-    true_cut (left first second) b = (λ t. t, λ t. t)
-    true_cut (same first second) b = (λ t. t, λ t. t)
-    true_cut (valued name dim attr value) b = (λ t. t, λ t. t)
-    true_cut (fitting name table) b = (
-      λ t. sym (says_alone table place more (b name)) ∙ t,
-      λ t. says_alone table place more (b name) ∙ t,
-    )
-
-    each_cut : (cs : Claims) (b : ℕ → ℕ) → EachTrueOf (branch_of parts place) (0 ∷ more) attrs edges (branch_claims place cs) b ↔ EachTrueOf parts (place ∷ more) attrs edges cs b
-    each_cut none b = (λ t. t, λ t. t)
-    each_cut (claim_then c cs) b = (
-      λ both. ((true_cut c b).0 both.0, (each_cut cs b).0 both.1),
-      λ both. ((true_cut c b).1 both.0, (each_cut cs b).1 both.1),
-    )
-
-    some_cut : (cs : Claims) (b : ℕ → ℕ) → SomeTrueOf (branch_of parts place) (0 ∷ more) attrs edges (branch_claims place cs) b ↔ SomeTrueOf parts (place ∷ more) attrs edges cs b
-    some_cut none b = (λ t. t, λ t. t)
-    some_cut (claim_then c cs) b = (
-      λ either. elim either [ inl here ↦ inl ((true_cut c b).0 here) | inr later ↦ inr ((some_cut cs b).0 later) ],
-      λ either. elim either [ inl here ↦ inl ((true_cut c b).1 here) | inr later ↦ inr ((some_cut cs b).1 later) ],
-    )
+pub true_cut : (parts : Parts) (place : ℕ) (more attrs : List ℕ) (edges : List Edge) (c : Claim) (b : ℕ → ℕ) → IsTrueOf (branch_of parts place) (0 ∷ more) attrs edges (branch_claim place c) b ↔ IsTrueOf parts (place ∷ more) attrs edges c b
+true_cut parts place more attrs edges = true_alike parts (first_alone no_entry place parts.candidates) (map (branch_group place) parts.groups) (first_alone false place) (0 ∷ more) (place ∷ more) attrs edges (λ table v. says_alone table place more v)
 
 -- each form of a formula, cut at a place
 pub ruleset cut_steps = (cut_not, cut_and, cut_or, cut_every, cut_any, cut_edge, cut_above, cut_left, cut_same, cut_attr, cut_feat)

@@ -1,20 +1,20 @@
 -- The analyses of a branch are those of the problem that begin with its candidate, and their vectors differ in the first number alone.
-use Rattle.std.proofs.Common.{◌≡◌, ◌↔◌, ℕ, ◌<◌, ◌+◌, inl, inr, List, [], ◌∷◌, ◌++◌, length, get_or, map, zero, suc, refl, ap, sym, ◌∙◌, subst, arith}
-use Rattle.std.specs.Prelude.{All, AllPairs, Contains}
-use Rattle.std.proofs.lemmas.List.Elements.{All-weaker, Contains-get_or}
+use Rattle.std.proofs.Common.{◌≡◌, ◌↔◌, ℕ, ◌<◌, ◌+◌, inl, inr, List, [], ◌∷◌, ◌++◌, length, get_or, map, refl, ap, sym, ◌∙◌, subst, arith}
+use Rattle.std.specs.Prelude.{AllPairs, Contains}
+use Rattle.std.proofs.lemmas.List.Elements.{Contains-get_or}
 use Rattle.xdg_base.specs.declared.ids.EntryNo.{EntryNo}
 use Rattle.xdg_facts.specs.Order.{Less}
 use Rattle.xdg_problem.specs.declared.analysis.Analysis.{Analysis}
-use Rattle.xdg_problem.specs.declared.analysis.Edge.{Edge}
 use Rattle.xdg_problem.specs.declared.parts.Parts.{Parts}
-use Rattle.xdg_problem.specs.Analyses.{HasCandidates, IsAnalysis, IsPlace}
-use Rattle.xdg_problem.specs.Branches.{BeginsAt, branch_of, first_alone, first_candidates, no_entry}
+use Rattle.xdg_problem.specs.Analyses.{HasCandidates, IsAnalysis}
+use Rattle.xdg_problem.specs.Branches.{BeginsAt, branch_group, branch_of, first_alone, first_candidates, no_entry}
 use Rattle.xdg_problem.specs.BranchLaws.{DifferInFirst}
 use Rattle.xdg_problem.specs.Places.{places}
 use Rattle.xdg_problem.specs.Problems.{AreCandidates, IsProblem}
 use Rattle.xdg_problem.specs.Vectors.{entry_places, place_among, presence, vector}
 use Rattle.xdg_problem.proofs.EntryPlaces.{EntryBefore, place_back, place_within}
-use Rattle.xdg_problem.proofs.Ordered.{Ordered, contains_cases, contains_head, contains_none, ordered_from_pairs}
+use Rattle.xdg_problem.proofs.OtherTruths.{analysis_still}
+use Rattle.xdg_problem.proofs.Ordered.{contains_cases, contains_head, contains_none, ordered_from_pairs}
 
 -- ---- entries
 
@@ -58,27 +58,18 @@ entries_differ (c ∷ candidates) place (e ∷ entries) rising within has =
       branch = ap (λ n. n ∷ entry_places candidates entries) (alone_first (get_or c place no_entry) e has.0);
     }
 
+-- vectors whose first numbers are the same are ordered by what follows, whatever these are
+pub less_behind : (n m : ℕ) (x y : List ℕ) → Less (n ∷ x) (n ∷ y) → Less (m ∷ x) (m ∷ y)
+less_behind n m x y (inl less) = absurd (omega (arith, less))
+less_behind n m x y (inr (same, less)) = inr (refl, less)
+
 -- ---- analyses
 
 module _ (parts : Parts) (place : ℕ) (is : IsProblem parts) (within : place < length (first_candidates parts)) where
-  place_down : (e : Edge) → IsPlace (branch_of parts place) e → IsPlace parts e
-  place_down e p = record { plan = p.plan; plan_is = p.plan_is; graph = p.graph; label = p.label; mother = p.mother; daughter = p.daughter; differ = p.differ }
-
-  place_up : (e : Edge) → IsPlace parts e → IsPlace (branch_of parts place) e
-  place_up e p = record { plan = p.plan; plan_is = p.plan_is; graph = p.graph; label = p.label; mother = p.mother; daughter = p.daughter; differ = p.differ }
-
   pub branch_fits : (a : Analysis) → IsAnalysis (branch_of parts place) a ↔ (IsAnalysis parts a × BeginsAt parts place a)
   branch_fits a = (
-    λ h.
-        let down = entries_down parts.candidates place a.entries within h.entries in
-        (record { entries = down.0; attr_count = h.attr_count; attrs = h.attrs; places = All-weaker (IsPlace (branch_of parts place)) (IsPlace parts) place_down a.edges h.places; rise = h.rise }, down.1),
-    λ h. record {
-      entries = entries_up parts.candidates place a.entries h.0.entries h.1;
-      attr_count = h.0.attr_count;
-      attrs = h.0.attrs;
-      places = All-weaker (IsPlace parts) (IsPlace (branch_of parts place)) place_up a.edges h.0.places;
-      rise = h.0.rise;
-    },
+    λ h. (let down = entries_down parts.candidates place a.entries within h.entries in (analysis_still (branch_of parts place) parts.candidates parts.groups a down.0 h, down.1)),
+    λ h. analysis_still parts (first_alone no_entry place parts.candidates) (map (branch_group place) parts.groups) a (entries_up parts.candidates place a.entries h.0.entries h.1) h.0,
   )
 
   pub branch_entries : (a : Analysis) → IsAnalysis (branch_of parts place) a → EntriesDiffer parts.candidates place a.entries
@@ -97,10 +88,6 @@ module _ (parts : Parts) (place : ℕ) (is : IsProblem parts) (within : place < 
       }
 
   -- ---- order
-
-  less_behind : (n m : ℕ) (x y : List ℕ) → Less (n ∷ x) (n ∷ y) → Less (m ∷ x) (m ∷ y)
-  less_behind n m x y (inl less) = absurd (omega (arith, less))
-  less_behind n m x y (inr (same, less)) = inr (refl, less)
 
   pub branch_order : (a b : Analysis) → IsAnalysis (branch_of parts place) a → IsAnalysis (branch_of parts place) b → Less (vector (branch_of parts place) a) (vector (branch_of parts place) b) ↔ Less (vector parts a) (vector parts b)
   branch_order a b ha hb =

@@ -1,12 +1,13 @@
 -- Whether edges make a cycle can be decided.
-use Rattle.std.proofs.Common.{◌≡◌, ℕ, ◌<◌, ◌⊎◌, inl, inr, List, [], ◌∷◌, length, refl, sym, subst, arith}
+use Rattle.std.proofs.Common.{◌≡◌, ◌++◌, ℕ, ◌<◌, ◌⊎◌, inl, inr, List, [], ◌∷◌, length, refl, sym, subst, arith}
 use Rattle.std.specs.Prelude.{All, Contains}
 use Rattle.std.specs.List.{AllByRecursion}
 use Rattle.std.proofs.lemmas.Bool.{cases_eq}
 use Rattle.std.proofs.lemmas.List.Elements.{All-from_recursion, recursion_from_All, All-contains, All-weaker, All-contains_itself}
 use Rattle.xdg_problem.specs.declared.analysis.Edge.{Edge}
 use Rattle.xdg_problem.specs.Paths.{Leads, NoCycle}
-use Rattle.xdg_problem.proofs.Ordered.{contains_head, contains_cases, contains_none}
+use Rattle.xdg_problem.proofs.Ordered.{each_append, each_weaker, contains_head, contains_cases, contains_none}
+use Rattle.xdg_problem.proofs.Walks.{leads_append}
 use Rattle.xdg_problem.proofs.Deciding.{Decided, decided_like, decided_both, decided_all, decided_from}
 use Rattle.xdg_facts.proofs.Lists.{contains_more}
 
@@ -19,16 +20,11 @@ pub record Reaches (edges : List Edge) (u v : ℕ) : Type 0 where
 reaches_step : (edges : List Edge) (e : Edge) (u v : ℕ) → Contains edges e → e.mother.0 ≡ u → Reaches edges e.daughter.0 v → Reaches edges u v
 reaches_step edges e u v stands from rest = record { path = e ∷ rest.path; along = (stands, rest.along); leads = (from, rest.leads) }
 
-along_more : (e : Edge) (edges path : List Edge) → AllByRecursion (Contains edges) path → AllByRecursion (Contains (e ∷ edges)) path
-along_more e edges [] along = tt
-along_more e edges (f ∷ path) along = (contains_more e edges f along.0, along_more e edges path along.1)
-
 reaches_more : (e : Edge) (edges : List Edge) (u v : ℕ) → Reaches edges u v → Reaches (e ∷ edges) u v
-reaches_more e edges u v way = record { path = way.path; along = along_more e edges way.path way.along; leads = way.leads }
+reaches_more e edges u v way = record { path = way.path; along = each_weaker (Contains edges) (Contains (e ∷ edges)) way.path (contains_more e edges) way.along; leads = way.leads }
 
-path_joined : (edges path : List Edge) (u v w : ℕ) → AllByRecursion (Contains edges) path → Leads u path v → Reaches edges v w → Reaches edges u w
-path_joined edges [] u v w along leads rest = subst (λ x. Reaches edges x w) (sym leads) rest
-path_joined edges (f ∷ path) u v w along leads rest = reaches_step edges f u w along.0 leads.0 (path_joined edges path f.daughter.0 v w along.1 leads.1 rest)
+reaches_joined : (edges : List Edge) (u v w : ℕ) → Reaches edges u v → Reaches edges v w → Reaches edges u w
+reaches_joined edges u v w a b = record { path = a.path ++ b.path; along = each_append (Contains edges) a.path b.path a.along b.along; leads = leads_append a.path b.path u v w a.leads b.leads }
 
 -- a path goes without the first edge, or up to it and on from it
 path_split : (e : Edge) (edges path : List Edge) (u v : ℕ) → AllByRecursion (Contains (e ∷ edges)) path → Leads u path v → Reaches edges u v ⊎ (Reaches edges u e.mother.0 × Reaches edges e.daughter.0 v)
@@ -53,7 +49,7 @@ decided_reaches [] u v = decided_like (u ≡ v) (Reaches [] u v) (λ e. record {
 decided_reaches (e ∷ edges) u v = elim (decided_reaches edges u v) [
   | inl way ↦ inl (reaches_more e edges u v way)
   | inr none ↦ decided_like (Reaches edges u e.mother.0 × Reaches edges e.daughter.0 v) (Reaches (e ∷ edges) u v)
-      (λ ways. (let to = reaches_more e edges u e.mother.0 ways.0 in path_joined (e ∷ edges) to.path u e.mother.0 v to.along to.leads (reaches_step (e ∷ edges) e e.mother.0 v (contains_head e edges) refl (reaches_more e edges e.daughter.0 v ways.1))))
+      (λ ways. reaches_joined (e ∷ edges) u e.mother.0 v (reaches_more e edges u e.mother.0 ways.0) (reaches_step (e ∷ edges) e e.mother.0 v (contains_head e edges) refl (reaches_more e edges e.daughter.0 v ways.1)))
       (λ way. elim (path_split e edges way.path u v way.along way.leads) [ inl short ↦ absurd (none short) | inr ways ↦ ways ])
       (decided_both (Reaches edges u e.mother.0) (Reaches edges e.daughter.0 v) (decided_reaches edges u e.mother.0) (decided_reaches edges e.daughter.0 v))
 ]

@@ -1,7 +1,6 @@
 -- What a condition asks of a tuple can be decided.
 use Rattle.std.proofs.Common.{◌≡◌, ℕ, ◌<◌, ◌⊎◌, inl, true, List, length, map, refl, sym, subst, Option, None, Some}
 use Rattle.std.specs.Prelude.{slice_index}
-use Rattle.std.specs.List.{Any}
 use Rattle.xdg_problem.specs.declared.analysis.Edge.{Edge}
 use Rattle.xdg_problem.specs.declared.conditions.Condition.{Condition}
 use Rattle.xdg_problem.specs.declared.conditions.Condition.TheVariants as conditions
@@ -16,8 +15,8 @@ use Rattle.xdg_problem.specs.Features.{in_row, out_row, set_row, map_row}
 use Rattle.xdg_problem.specs.Principles.{linking_of}
 use Rattle.xdg_problem.specs.Arguments.{first_dim, second_dim, truth_of, order_of}
 use Rattle.xdg_problem.specs.Asking.{first, second, third, IsBetween, IsInItem, IsLinked, AsksBy, AsksLink, AsksOf, attr_places, Asks}
-use Rattle.xdg_problem.proofs.Deciding.{Decided, decided_like, decided_both, decided_from, decided_equal, decided_less, decided_most, decided_contains}
-use Rattle.xdg_problem.proofs.DecidingPaths.{decided_either, decided_true, decided_not, decided_any, contained, decided_pairs, triple_decided, decided_daughter, decided_daughter_by, decided_daughter_by_any, decided_entered, decided_sisters, decided_above, decided_above_by_first, decided_above_by_last}
+use Rattle.xdg_problem.proofs.Deciding.{Decided, decided_both, decided_from, decided_equal, decided_less, decided_most, decided_contains}
+use Rattle.xdg_problem.proofs.DecidingPaths.{decided_either, decided_true, decided_not, decided_by_edge, contained, decided_pairs, triple_decided, decided_daughter, decided_daughter_by, decided_daughter_by_any, decided_entered, decided_sisters, decided_above, decided_above_by_first, decided_above_by_last}
 use Rattle.xdg_problem.proofs.DecidingTruths.{decided_whole}
 use Rattle.xdg_problem.proofs.Looking.{any_of}
 
@@ -25,10 +24,10 @@ pub decided_between : (u v w : ℕ) → Decided (IsBetween u v w)
 decided_between u v w = decided_either ((u < w) × (w < v)) ((v < w) × (w < u)) (decided_both _ _ (decided_less u w) (decided_less w v)) (decided_both _ _ (decided_less v w) (decided_less w u))
 
 decided_yield : (edges : List Edge) (u label x : ℕ) → Decided ((v : ℕ) × IsDaughterBy edges u label v × Above edges v x)
-decided_yield edges u label x = decided_like (Any (λ e. (e.mother.0 ≡ u) × (e.label.0 ≡ label) × Above edges e.daughter.0 x) edges) ((v : ℕ) × IsDaughterBy edges u label v × Above edges v x)
-    (λ a. (let c = contained (λ e. (e.mother.0 ≡ u) × (e.label.0 ≡ label) × Above edges e.daughter.0 x) edges a in (c.0.daughter.0, any_of (λ e. (e.mother.0 ≡ u) × (e.label.0 ≡ label) × (e.daughter.0 ≡ c.0.daughter.0)) edges c.0 c.1 (c.2.0, c.2.1, refl), c.2.2)))
-    (λ (v, is, above). (let c = contained (λ e. (e.mother.0 ≡ u) × (e.label.0 ≡ label) × (e.daughter.0 ≡ v)) edges is in any_of (λ e. (e.mother.0 ≡ u) × (e.label.0 ≡ label) × Above edges e.daughter.0 x) edges c.0 c.1 (c.2.0, c.2.1, subst (λ w. Above edges w x) (sym c.2.2) above)))
-    (decided_any (λ e. (e.mother.0 ≡ u) × (e.label.0 ≡ label) × Above edges e.daughter.0 x) edges (λ e. triple_decided _ _ _ (decided_equal e.mother.0 u) (decided_equal e.label.0 label) (decided_above edges e.daughter.0 x)))
+decided_yield edges u label x = decided_by_edge (λ e. (e.mother.0 ≡ u) × (e.label.0 ≡ label) × Above edges e.daughter.0 x) ((v : ℕ) × IsDaughterBy edges u label v × Above edges v x) edges
+    (λ e stands p. (e.daughter.0, any_of (λ f. (f.mother.0 ≡ u) × (f.label.0 ≡ label) × (f.daughter.0 ≡ e.daughter.0)) edges e stands (p.0, p.1, refl), p.2))
+    (λ (v, is, above). (let c = contained (λ e. (e.mother.0 ≡ u) × (e.label.0 ≡ label) × (e.daughter.0 ≡ v)) edges is in (c.0, c.1, (c.2.0, c.2.1, subst (λ w. Above edges w x) (sym c.2.2) above))))
+    (λ e. triple_decided _ _ _ (decided_equal e.mother.0 u) (decided_equal e.label.0 label) (decided_above edges e.daughter.0 x))
 
 decided_item : (edges : List Edge) (yields : Type 0) (own u label x : ℕ) → Decided yields → Decided (IsInItem edges yields own u label x)
 decided_item edges yields own u label x takes = decided_either ((label ≡ own) × (x ≡ u)) (IsDaughterBy edges u label x ⊎ (yields × ((v : ℕ) × IsDaughterBy edges u label v × Above edges v x)))
@@ -79,17 +78,4 @@ decided_asks conditions.Link group candidate values edges tuple = decided_from _
 pub decided_asked : (condition : Condition) (parts : Parts) (group : Group) (candidates attrs : List ℕ) (edges : List Edge) (tuple : List ℕ) → Decided (Asks condition parts group candidates attrs edges tuple)
 decided_asked conditions.Rule parts group candidates attrs edges tuple = decided_whole parts candidates attrs edges group.principle
 decided_asked conditions.Bound parts group candidates attrs edges tuple = decided_whole parts candidates attrs edges group.principle
-decided_asked conditions.Cycle parts group candidates attrs edges tuple = decided_asks conditions.Cycle group (slice_index candidates (first tuple)) (map (slice_index attrs) (attr_places conditions.Cycle parts group tuple)) edges tuple
-decided_asked conditions.Roots parts group candidates attrs edges tuple = decided_asks conditions.Roots group (slice_index candidates (first tuple)) (map (slice_index attrs) (attr_places conditions.Roots parts group tuple)) edges tuple
-decided_asked conditions.Mothers parts group candidates attrs edges tuple = decided_asks conditions.Mothers group (slice_index candidates (first tuple)) (map (slice_index attrs) (attr_places conditions.Mothers parts group tuple)) edges tuple
-decided_asked conditions.Pair parts group candidates attrs edges tuple = decided_asks conditions.Pair group (slice_index candidates (first tuple)) (map (slice_index attrs) (attr_places conditions.Pair parts group tuple)) edges tuple
-decided_asked conditions.InCount parts group candidates attrs edges tuple = decided_asks conditions.InCount group (slice_index candidates (first tuple)) (map (slice_index attrs) (attr_places conditions.InCount parts group tuple)) edges tuple
-decided_asked conditions.OutCount parts group candidates attrs edges tuple = decided_asks conditions.OutCount group (slice_index candidates (first tuple)) (map (slice_index attrs) (attr_places conditions.OutCount parts group tuple)) edges tuple
-decided_asked conditions.Order parts group candidates attrs edges tuple = decided_asks conditions.Order group (slice_index candidates (first tuple)) (map (slice_index attrs) (attr_places conditions.Order parts group tuple)) edges tuple
-decided_asked conditions.Between parts group candidates attrs edges tuple = decided_asks conditions.Between group (slice_index candidates (first tuple)) (map (slice_index attrs) (attr_places conditions.Between parts group tuple)) edges tuple
-decided_asked conditions.Agr parts group candidates attrs edges tuple = decided_asks conditions.Agr group (slice_index candidates (first tuple)) (map (slice_index attrs) (attr_places conditions.Agr parts group tuple)) edges tuple
-decided_asked conditions.Agree parts group candidates attrs edges tuple = decided_asks conditions.Agree group (slice_index candidates (first tuple)) (map (slice_index attrs) (attr_places conditions.Agree parts group tuple)) edges tuple
-decided_asked conditions.Govern parts group candidates attrs edges tuple = decided_asks conditions.Govern group (slice_index candidates (first tuple)) (map (slice_index attrs) (attr_places conditions.Govern parts group tuple)) edges tuple
-decided_asked conditions.Below parts group candidates attrs edges tuple = decided_asks conditions.Below group (slice_index candidates (first tuple)) (map (slice_index attrs) (attr_places conditions.Below parts group tuple)) edges tuple
-decided_asked conditions.Blocked parts group candidates attrs edges tuple = decided_asks conditions.Blocked group (slice_index candidates (first tuple)) (map (slice_index attrs) (attr_places conditions.Blocked parts group tuple)) edges tuple
-decided_asked conditions.Link parts group candidates attrs edges tuple = decided_asks conditions.Link group (slice_index candidates (first tuple)) (map (slice_index attrs) (attr_places conditions.Link parts group tuple)) edges tuple
+decided_asked condition parts group candidates attrs edges tuple = decided_asks condition group (slice_index candidates (first tuple)) (map (slice_index attrs) (attr_places condition parts group tuple)) edges tuple

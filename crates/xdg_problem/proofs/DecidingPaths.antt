@@ -1,14 +1,15 @@
 -- Whether a path leads from one node to another can be decided, and what a condition asks.
-use Rattle.std.proofs.Common.{◌≡◌, ℕ, ◌<◌, ◌⊎◌, inl, inr, Bool, true, false, List, [], ◌∷◌, ◌++◌, length, refl, sym, subst, arith}
+use Rattle.std.proofs.Common.{◌≡◌, ℕ, ◌<◌, ◌⊎◌, inl, inr, Bool, true, false, List, [], ◌∷◌, length, refl, sym, subst, arith}
 use Rattle.std.specs.Prelude.{All, AllPairs, Contains}
 use Rattle.std.specs.List.{Any, AllByRecursion}
 use Rattle.std.proofs.lemmas.Bool.{false≢true}
-use Rattle.std.proofs.lemmas.List.Elements.{All-from_recursion, recursion_from_All}
+use Rattle.std.proofs.lemmas.List.Elements.{All-push, All-from_recursion, recursion_from_All}
 use Rattle.xdg_problem.specs.declared.analysis.Edge.{Edge}
 use Rattle.xdg_problem.specs.Paths.{IsDaughter, IsDaughterBy, IsDaughterByAny, IsEnteredByAny, AreSistersByAny, Leads, Above, AboveByFirst, AboveByLast}
 use Rattle.xdg_problem.proofs.Ordered.{Ordered, ordered_pairs, ordered_from_pairs, contains_head, contains_cases, contains_none}
 use Rattle.xdg_problem.proofs.Looking.{any_of}
 use Rattle.xdg_problem.proofs.Deciding.{Decided, decided_like, decided_both, decided_equal, decided_contains}
+use Rattle.xdg_problem.proofs.Walks.{leads_append, split_along, split_leads}
 use Rattle.xdg_problem.proofs.CycleTests.{Reaches, decided_reaches}
 use Rattle.xdg_facts.proofs.Lists.{contains_more}
 
@@ -54,6 +55,10 @@ module _ {X : Type 0} where
   pub decided_pairs : (R : X → X → Type 0) (xs : List X) → ((x y : X) → Decided (R x y)) → Decided (AllPairs R xs)
   decided_pairs R xs each = decided_like (Ordered R xs) (AllPairs R xs) (λ o i j d l m. ordered_pairs R xs o i j d l m) (ordered_from_pairs R xs) (decided_ordered R xs each)
 
+-- what holds where some edge is as P says
+pub decided_by_edge : (P : Edge → Type 0) (Q : Type 0) (edges : List Edge) → ((e : Edge) → Contains edges e → P e → Q) → (Q → (e : Edge) × Contains edges e × P e) → ((e : Edge) → Decided (P e)) → Decided Q
+decided_by_edge P Q edges to from each = decided_like (Any P edges) Q (λ a. to a.1 (a.0, a.2, a.3) a.4) (λ q. (let found = from q in any_of P edges found.0 found.1 found.2)) (decided_any P edges each)
+
 -- daughters
 
 pub decided_daughter : (edges : List Edge) (u v : ℕ) → Decided (IsDaughter edges u v)
@@ -77,62 +82,48 @@ decided_sisters edges u labels v = decided_any (λ e. (e.daughter.0 ≡ u) × Is
 -- paths
 
 -- a path falls into its first edge and the rest
-starts : (edges path : List Edge) (u v : ℕ) → 0 < length path → All (Contains edges) path → Leads u path v → Any (λ e. (e.mother.0 ≡ u) × Reaches edges e.daughter.0 v) edges
+pub starts : (edges path : List Edge) (u v : ℕ) → 0 < length path → All (Contains edges) path → Leads u path v → (e : Edge) × Contains edges e × ((e.mother.0 ≡ u) × Reaches edges e.daughter.0 v)
 starts edges [] u v some along leads = absurd (omega (arith, some))
 starts edges (e ∷ path) u v some along leads =
     let each = recursion_from_All (Contains edges) (e ∷ path) along in
-    any_of (λ e. (e.mother.0 ≡ u) × Reaches edges e.daughter.0 v) edges e each.0 (leads.0, record { path = path; along = each.1; leads = leads.1 })
+    (e, each.0, (leads.0, record { path = path; along = each.1; leads = leads.1 }))
 
 pub decided_above : (edges : List Edge) (u v : ℕ) → Decided (Above edges u v)
-decided_above edges u v = decided_like (Any (λ e. (e.mother.0 ≡ u) × Reaches edges e.daughter.0 v) edges) (Above edges u v)
-    (λ a. (let c = contained (λ e. (e.mother.0 ≡ u) × Reaches edges e.daughter.0 v) edges a in record {
-      path = c.0 ∷ c.2.1.path;
+decided_above edges u v = decided_by_edge (λ e. (e.mother.0 ≡ u) × Reaches edges e.daughter.0 v) (Above edges u v) edges
+    (λ e stands p. record {
+      path = e ∷ p.1.path;
       some = omega arith;
-      along = All-from_recursion (Contains edges) (c.0 ∷ c.2.1.path) (c.1, c.2.1.along);
-      leads = (c.2.0, c.2.1.leads);
-    }))
+      along = All-from_recursion (Contains edges) (e ∷ p.1.path) (stands, p.1.along);
+      leads = (p.0, p.1.leads);
+    })
     (λ above. starts edges above.path u v above.some above.along above.leads)
-    (decided_any (λ e. (e.mother.0 ≡ u) × Reaches edges e.daughter.0 v) edges (λ e. decided_both _ _ (decided_equal e.mother.0 u) (decided_reaches edges e.daughter.0 v)))
+    (λ e. decided_both _ _ (decided_equal e.mother.0 u) (decided_reaches edges e.daughter.0 v))
 
 pub decided_above_by_first : (edges : List Edge) (u : ℕ) (labels : List ℕ) (v : ℕ) → Decided (AboveByFirst edges u labels v)
-decided_above_by_first edges u labels v = decided_like (Any (λ e. (e.mother.0 ≡ u) × Contains labels e.label.0 × Reaches edges e.daughter.0 v) edges) (AboveByFirst edges u labels v)
-    (λ a. (let c = contained (λ e. (e.mother.0 ≡ u) × Contains labels e.label.0 × Reaches edges e.daughter.0 v) edges a in record {
-      first = c.0;
-      rest = c.2.2.path;
-      label = c.2.1;
-      along = All-from_recursion (Contains edges) (c.0 ∷ c.2.2.path) (c.1, c.2.2.along);
-      leads = (c.2.0, c.2.2.leads);
-    }))
+decided_above_by_first edges u labels v = decided_by_edge (λ e. (e.mother.0 ≡ u) × Contains labels e.label.0 × Reaches edges e.daughter.0 v) (AboveByFirst edges u labels v) edges
+    (λ e stands p. record {
+      first = e;
+      rest = p.2.path;
+      label = p.1;
+      along = All-from_recursion (Contains edges) (e ∷ p.2.path) (stands, p.2.along);
+      leads = (p.0, p.2.leads);
+    })
     (λ above.
     let each = recursion_from_All (Contains edges) (above.first ∷ above.rest) above.along in
-    any_of (λ e. (e.mother.0 ≡ u) × Contains labels e.label.0 × Reaches edges e.daughter.0 v) edges above.first each.0 (above.leads.0, above.label, record { path = above.rest; along = each.1; leads = above.leads.1 }))
-    (decided_any (λ e. (e.mother.0 ≡ u) × Contains labels e.label.0 × Reaches edges e.daughter.0 v) edges (λ e. triple_decided _ _ _ (decided_equal e.mother.0 u) (decided_contains labels e.label.0) (decided_reaches edges e.daughter.0 v)))
-
--- a path falls into its front and its last edge
-ends : (edges front : List Edge) (last : Edge) (u v : ℕ) → AllByRecursion (Contains edges) (front ++ last ∷ []) → Leads u (front ++ last ∷ []) v → Contains edges last × Reaches edges u last.mother.0 × (last.daughter.0 ≡ v)
-ends edges [] last u v along leads = (along.0, record { path = []; along = tt; leads = sym leads.0 }, leads.1)
-ends edges (e ∷ front) last u v along leads =
-    let rest = ends edges front last e.daughter.0 v along.1 leads.1 in
-    (rest.0, record { path = e ∷ rest.1.path; along = (along.0, rest.1.along); leads = (leads.0, rest.1.leads) }, rest.2)
-
-joined_along : (edges front : List Edge) (last : Edge) → AllByRecursion (Contains edges) front → Contains edges last → AllByRecursion (Contains edges) (front ++ last ∷ [])
-joined_along edges [] last along stands = (stands, tt)
-joined_along edges (e ∷ front) last along stands = (along.0, joined_along edges front last along.1 stands)
-
-joined_leads : (front : List Edge) (last : Edge) (u v : ℕ) → Leads u front last.mother.0 → last.daughter.0 ≡ v → Leads u (front ++ last ∷ []) v
-joined_leads [] last u v leads to = (sym leads, to)
-joined_leads (e ∷ front) last u v leads to = (leads.0, joined_leads front last e.daughter.0 v leads.1 to)
+    (above.first, each.0, (above.leads.0, above.label, record { path = above.rest; along = each.1; leads = above.leads.1 })))
+    (λ e. triple_decided _ _ _ (decided_equal e.mother.0 u) (decided_contains labels e.label.0) (decided_reaches edges e.daughter.0 v))
 
 pub decided_above_by_last : (edges : List Edge) (u : ℕ) (labels : List ℕ) (v : ℕ) → Decided (AboveByLast edges u labels v)
-decided_above_by_last edges u labels v = decided_like (Any (λ e. Reaches edges u e.mother.0 × Contains labels e.label.0 × (e.daughter.0 ≡ v)) edges) (AboveByLast edges u labels v)
-    (λ a. (let c = contained (λ e. Reaches edges u e.mother.0 × Contains labels e.label.0 × (e.daughter.0 ≡ v)) edges a in record {
-      front = c.2.0.path;
-      last = c.0;
-      label = c.2.1;
-      along = All-from_recursion (Contains edges) (c.2.0.path ++ c.0 ∷ []) (joined_along edges c.2.0.path c.0 c.2.0.along c.1);
-      leads = joined_leads c.2.0.path c.0 u v c.2.0.leads c.2.2;
-    }))
+decided_above_by_last edges u labels v = decided_by_edge (λ e. Reaches edges u e.mother.0 × Contains labels e.label.0 × (e.daughter.0 ≡ v)) (AboveByLast edges u labels v) edges
+    (λ e stands p. record {
+      front = p.0.path;
+      last = e;
+      label = p.1;
+      along = All-push (Contains edges) p.0.path e (All-from_recursion (Contains edges) p.0.path p.0.along) stands;
+      leads = leads_append p.0.path (e ∷ []) u e.mother.0 v p.0.leads (refl, p.2);
+    })
     (λ above.
-    let parts = ends edges above.front above.last u v (recursion_from_All (Contains edges) (above.front ++ above.last ∷ []) above.along) above.leads in
-    any_of (λ e. Reaches edges u e.mother.0 × Contains labels e.label.0 × (e.daughter.0 ≡ v)) edges above.last parts.0 (parts.1, above.label, parts.2))
-    (decided_any (λ e. Reaches edges u e.mother.0 × Contains labels e.label.0 × (e.daughter.0 ≡ v)) edges (λ e. triple_decided _ _ _ (decided_reaches edges u e.mother.0) (decided_contains labels e.label.0) (decided_equal e.daughter.0 v)))
+    let along = split_along (Contains edges) above.front above.last above.along in
+    let leads = split_leads above.front above.last u v above.leads in
+    (above.last, along.1, (record { path = above.front; along = recursion_from_All (Contains edges) above.front along.0; leads = leads.0 }, above.label, leads.1)))
+    (λ e. triple_decided _ _ _ (decided_reaches edges u e.mother.0) (decided_contains labels e.label.0) (decided_equal e.daughter.0 v))

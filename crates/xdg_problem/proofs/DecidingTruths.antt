@@ -1,5 +1,5 @@
 -- What a rule or a bound asks of all decisions together can be decided.
-use Rattle.std.proofs.Common.{◌≡◌, ℕ, ◌<◌, ◌⊎◌, inl, inr, true, List, zero, suc, subst, sym, arith}
+use Rattle.std.proofs.Common.{ℕ, ◌<◌, ◌⊎◌, inl, inr, List, zero, suc, subst, arith}
 use Rattle.std.specs.Prelude.{slice_index}
 use Rattle.std.proofs.lemmas.Bool.{cases_eq}
 use Rattle.xdg_problem.specs.declared.analysis.Edge.{Edge}

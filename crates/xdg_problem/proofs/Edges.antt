@@ -1,7 +1,9 @@
 -- Edges: when two are the same, and the order in which they are decided.
-use Rattle.std.proofs.Common.{◌≡◌, ◌⊎◌, inl, inr, refl, ap, sym, ◌∙◌, arith, subst, true, false}
-use Rattle.std.specs.Prelude.{◌&&◌, ◌==◌}
-use Rattle.std.proofs.lemmas.Bool.{cases_order, cases_Bool, and_parts, and_from, eq-eqb, eqb-true}
+use Rattle.std.proofs.Common.{◌≡◌, ℕ, List, [], ◌∷◌, ◌⊎◌, inl, inr, refl, ap, sym, ◌∙◌, subst, true, false}
+use Rattle.std.specs.Prelude.{◌&&◌, ◌==◌, slice_index}
+use Rattle.std.proofs.lemmas.Bool.{cases_Bool, and_parts, and_from, eq-eqb, eqb-true}
+use Rattle.xdg_facts.specs.Order.{Less}
+use Rattle.xdg_facts.proofs.Ordered.{less_irreflexive, less_transitive, less_total}
 use Rattle.xdg_problem.specs.declared.analysis.Edge.{Edge}
 use Rattle.xdg_problem.specs.Places.{edge, same_edge}
 use Rattle.xdg_problem.specs.Analyses.{Before}
@@ -33,49 +35,36 @@ same_edge_apart a b n = elim (cases_Bool (same_edge a b)) [
   | inr e ↦ e
 ]
 
+-- edges are decided in the order of their numbers
+abbrev numbers : Edge → List ℕ
+numbers e = e.dim.0 ∷ e.mother.0 ∷ e.label.0 ∷ e.daughter.0 ∷ []
+
+less_of : (a b : Edge) → Before a b → Less (numbers a) (numbers b)
+less_of a b (inl d) = inl d
+less_of a b (inr (d, inl m)) = inr (d, inl m)
+less_of a b (inr (d, inr (m, inl l))) = inr (d, inr (m, inl l))
+less_of a b (inr (d, inr (m, inr (l, g)))) = inr (d, inr (m, inr (l, inl g)))
+
+before_of : (a b : Edge) → Less (numbers a) (numbers b) → Before a b
+before_of a b (inl d) = inl d
+before_of a b (inr (d, inl m)) = inr (d, inl m)
+before_of a b (inr (d, inr (m, inl l))) = inr (d, inr (m, inl l))
+before_of a b (inr (d, inr (m, inr (l, inl g)))) = inr (d, inr (m, inr (l, g)))
+before_of a b (inr (d, inr (m, inr (l, inr (g, none))))) = absurd none
+
 -- no edge is decided before itself
 pub before_irreflexive : (a : Edge) → Before a a → ⊥
-before_irreflexive a (inl x) = omega arith
-before_irreflexive a (inr (d, inl x)) = omega arith
-before_irreflexive a (inr (d, inr (m, inl x))) = omega arith
-before_irreflexive a (inr (d, inr (m, inr (l, x)))) = omega arith
+before_irreflexive a before = less_irreflexive (numbers a) (less_of a a before)
 
 pub before_transitive : (a b c : Edge) → Before a b → Before b c → Before a c
-before_transitive a b c (inl x) (inl x') = inl (omega arith)
-before_transitive a b c (inl x) (inr (d', inl x')) = inl (omega arith)
-before_transitive a b c (inl x) (inr (d', inr (m', inl x'))) = inl (omega arith)
-before_transitive a b c (inl x) (inr (d', inr (m', inr (l', x')))) = inl (omega arith)
-before_transitive a b c (inr (d, inl x)) (inl x') = inl (omega arith)
-before_transitive a b c (inr (d, inl x)) (inr (d', inl x')) = inr ((omega arith), inl (omega arith))
-before_transitive a b c (inr (d, inl x)) (inr (d', inr (m', inl x'))) = inr ((omega arith), inl (omega arith))
-before_transitive a b c (inr (d, inl x)) (inr (d', inr (m', inr (l', x')))) = inr ((omega arith), inl (omega arith))
-before_transitive a b c (inr (d, inr (m, inl x))) (inl x') = inl (omega arith)
-before_transitive a b c (inr (d, inr (m, inl x))) (inr (d', inl x')) = inr ((omega arith), inl (omega arith))
-before_transitive a b c (inr (d, inr (m, inl x))) (inr (d', inr (m', inl x'))) = inr ((omega arith), inr ((omega arith), inl (omega arith)))
-before_transitive a b c (inr (d, inr (m, inl x))) (inr (d', inr (m', inr (l', x')))) = inr ((omega arith), inr ((omega arith), inl (omega arith)))
-before_transitive a b c (inr (d, inr (m, inr (l, x)))) (inl x') = inl (omega arith)
-before_transitive a b c (inr (d, inr (m, inr (l, x)))) (inr (d', inl x')) = inr ((omega arith), inl (omega arith))
-before_transitive a b c (inr (d, inr (m, inr (l, x)))) (inr (d', inr (m', inl x'))) = inr ((omega arith), inr ((omega arith), inl (omega arith)))
-before_transitive a b c (inr (d, inr (m, inr (l, x)))) (inr (d', inr (m', inr (l', x')))) = inr ((omega arith), inr ((omega arith), inr ((omega arith), (omega arith))))
+before_transitive a b c one two = before_of a c (less_transitive (numbers a) (numbers b) (numbers c) (less_of a b one) (less_of b c two))
 
 -- of two edges one is decided before the other, or they are equal
 pub before_total : (a b : Edge) → Before a b ⊎ ((a ≡ b) ⊎ Before b a)
-before_total a b = elim (cases_order a.dim.0 b.dim.0) [
-  | inl d ↦ elim (cases_order a.mother.0 b.mother.0) [
-    | inl m ↦ elim (cases_order a.label.0 b.label.0) [
-      | inl l ↦ elim (cases_order a.daughter.0 b.daughter.0) [
-        | inl g ↦ inr (inl (edge_equal a b d m l g))
-        | inr (inl g) ↦ inl (inr (d, inr (m, inr (l, g))))
-        | inr (inr g) ↦ inr (inr (inr (sym d, inr (sym m, inr (sym l, g)))))
-      ]
-      | inr (inl l) ↦ inl (inr (d, inr (m, inl l)))
-      | inr (inr l) ↦ inr (inr (inr (sym d, inr (sym m, inl l))))
-    ]
-    | inr (inl m) ↦ inl (inr (d, inl m))
-    | inr (inr m) ↦ inr (inr (inr (sym d, inl m)))
-  ]
-  | inr (inl d) ↦ inl (inl d)
-  | inr (inr d) ↦ inr (inr (inl d))
+before_total a b = elim (less_total (numbers a) (numbers b)) [
+  | inl less ↦ inl (before_of a b less)
+  | inr (inl same) ↦ inr (inl (ap (λ xs. edge (slice_index xs 0) (slice_index xs 1) (slice_index xs 2) (slice_index xs 3)) same))
+  | inr (inr more) ↦ inr (inr (before_of b a more))
 ]
 
 pub before_differ : (a b : Edge) → Before a b → a ≡ b → ⊥

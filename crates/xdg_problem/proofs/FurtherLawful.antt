@@ -2,7 +2,7 @@
 use Rattle.std.proofs.Common.{◌≡◌, ◌↔◌, ℕ, ◌<◌, ◌+◌, List, [], ◌∷◌, ◌++◌, refl, sym, ap, ◌∙◌, subst}
 use Rattle.std.specs.Prelude.{All}
 use Rattle.std.proofs.lemmas.List.{append-nil}
-use Rattle.std.proofs.lemmas.List.Elements.{All-nil, All-cons, All-head, All-tail, All-append, All-map, All-weaker}
+use Rattle.std.proofs.lemmas.List.Elements.{All-nil, All-cons, All-tail, All-append, All-map, All-weaker}
 use Rattle.xdg_problem.specs.declared.analysis.Analysis.{Analysis}
 use Rattle.xdg_problem.specs.declared.conditions.Condition.TheVariants as conditions
 use Rattle.xdg_problem.specs.declared.formula.Formula.{Formula}
@@ -20,6 +20,7 @@ use Rattle.xdg_problem.specs.Truths.{FormulaHolds}
 use Rattle.xdg_problem.specs.Vectors.{entry_places, entries_at}
 use Rattle.xdg_problem.proofs.EntryPlaces.{entry_places_back}
 use Rattle.xdg_problem.proofs.FurtherUses.{rule_is, bound_is, problem_still, fits_still, relation_still}
+use Rattle.xdg_problem.proofs.Ordered.{all_mapped}
 use Rattle.xdg_problem.proofs.Tuples.{one_kept}
 use Rattle.xdg_facts.proofs.Lists.{all_before}
 
@@ -80,15 +81,7 @@ rules_are : (parts : Parts) (formulas : List Formula) → IsProblem parts → Al
 rules_are parts formulas problem suit = All-map (IsGroup parts) (λ formula. use_of parts (principles.Rule formula)) formulas (All-weaker (Suits parts) (λ formula. IsGroup parts (use_of parts (principles.Rule formula))) (rule_is parts problem) formulas suit)
 
 rules_relations : (parts : Parts) (formulas : List Formula) (analysis : Analysis) → All (λ group. Relation parts group analysis) (rules_of parts formulas) ↔ All (FormulaHolds parts analysis) formulas
-rules_relations parts [] analysis = (λ all. All-nil (FormulaHolds parts analysis), λ all. All-nil (λ group. Relation parts group analysis))
-rules_relations parts (formula ∷ formulas) analysis =
-    let R : Group → Type 0 = λ group. Relation parts group analysis in
-    let first = use_of parts (principles.Rule formula) in
-    let here = rule_relation parts formula analysis in
-    let rest = rules_relations parts formulas analysis in (
-      λ all. All-cons (FormulaHolds parts analysis) formula formulas (here.0 (All-head R first (rules_of parts formulas) all)) (rest.0 (All-tail R first (rules_of parts formulas) all)),
-      λ all. All-cons R first (rules_of parts formulas) (here.1 (All-head (FormulaHolds parts analysis) formula formulas all)) (rest.1 (All-tail (FormulaHolds parts analysis) formula formulas all)),
-    )
+rules_relations parts formulas analysis = all_mapped (λ group. Relation parts group analysis) (FormulaHolds parts analysis) (λ formula. use_of parts (principles.Rule formula)) formulas (λ formula. rule_relation parts formula analysis)
 
 pub rules_lawful : (parts : Parts) (formulas : List Formula) → IsProblem parts → All (Suits parts) formulas → FurtherLaws parts (rules_of parts formulas) (λ analysis. All (FormulaHolds parts analysis) formulas)
 rules_lawful parts formulas problem suit = lawful parts (rules_of parts formulas) (λ analysis. All (FormulaHolds parts analysis) formulas) problem (rules_are parts formulas problem suit) (λ analysis fits. rules_relations parts formulas analysis)

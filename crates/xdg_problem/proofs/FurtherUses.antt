@@ -5,25 +5,25 @@ use Rattle.std.proofs.lemmas.List.{length-map}
 use Rattle.std.proofs.lemmas.List.Elements.{All-nil, All-cons, All-append, All-weaker}
 use Rattle.xdg_base.specs.declared.ids.EntryNo.{EntryNo}
 use Rattle.xdg_problem.specs.declared.analysis.Analysis.{Analysis}
-use Rattle.xdg_problem.specs.declared.analysis.Edge.{Edge}
-use Rattle.xdg_problem.specs.declared.conditions.Condition.{Condition}
-use Rattle.xdg_problem.specs.declared.conditions.Condition.TheVariants as conditions
 use Rattle.xdg_problem.specs.declared.formula.Formula.{Formula}
 use Rattle.xdg_problem.specs.declared.parts.Feat.{Feat}
 use Rattle.xdg_problem.specs.declared.parts.Group.{Group}
 use Rattle.xdg_problem.specs.declared.parts.Parts.{Parts}
 use Rattle.xdg_problem.specs.declared.parts.Principle.{Principle}
 use Rattle.xdg_problem.specs.declared.parts.Principle.TheVariants as principles
-use Rattle.xdg_problem.specs.Analyses.{IsPlace, IsAnalysis}
+use Rattle.xdg_problem.specs.Analyses.{IsAnalysis}
 use Rattle.xdg_problem.specs.Claims.{Suits}
 use Rattle.xdg_problem.specs.Conditions.{conditions_of}
 use Rattle.xdg_problem.specs.Costs.{CostLists}
 use Rattle.xdg_problem.specs.Further.{no_features, use_of, with_uses}
-use Rattle.xdg_problem.specs.Problems.{IsGroup, IsProblem}
-use Rattle.xdg_problem.specs.Relations.{IsKept, Relation}
+use Rattle.xdg_problem.specs.Problems.{IsGroup, IsProblem, IsSuited}
+use Rattle.xdg_problem.specs.Relations.{Relation}
 use Rattle.xdg_problem.specs.Vectors.{entry_places}
+use Rattle.xdg_problem.proofs.BranchAsks.{relation_alike}
+use Rattle.xdg_problem.proofs.OtherTruths.{analysis_still}
 use Rattle.xdg_problem.proofs.FurtherTruths.{suited_still, whole_still}
-use Rattle.xdg_problem.specs.Principles.{AreFeatures}
+use Rattle.xdg_problem.specs.Principles.{dim_arguments, attr_arguments, truth_arguments, IsOrderFor, AreFeatures}
+use Rattle.xdg_problem.specs.Arguments.{first_dim, label_count}
 
 -- no features
 
@@ -49,33 +49,27 @@ none_at (entries ∷ candidates) (suc v) = none_at candidates v
 
 -- the uses of rules and bounds are uses
 
-pub rule_is : (parts : Parts) → IsProblem parts → (formula : Formula) → Suits parts formula → IsGroup parts (use_of parts (principles.Rule formula))
-rule_is parts is formula suits = record {
-  dims_count = refl;
+-- a use of a principle that takes nothing
+bare_is : (parts : Parts) → IsProblem parts → (principle : Principle) → 0 ≡ dim_arguments principle → 0 ≡ attr_arguments principle → IsOrderFor principle (label_count parts (first_dim (use_of parts principle))) [] → 0 ≡ truth_arguments principle
+    → ((features : List Feat) → length features ≡ 0 → AreFeatures principle parts (use_of parts principle) features) → IsSuited principle parts → IsGroup parts (use_of parts principle)
+bare_is parts is principle dims attrs order truths none suits = record {
+  dims_count = dims;
   dims = All-nil (λ dim. dim.0 < length parts.dims);
-  attrs_count = refl;
+  attrs_count = attrs;
   attrs = All-nil _;
-  order = refl;
-  truths_count = refl;
+  order = order;
+  truths_count = truths;
   feats = length-map parts.candidates (map nothing) ∙ is.candidates_each;
   feats_each = λ v l. none_each parts.candidates v;
-  features = λ v l. none_at parts.candidates v;
+  features = λ v l. All-weaker (λ features. length features ≡ 0) (AreFeatures principle parts (use_of parts principle)) none (slice_index_or (no_features parts.candidates) v []) (none_at parts.candidates v);
   suits = suits;
 }
 
+pub rule_is : (parts : Parts) → IsProblem parts → (formula : Formula) → Suits parts formula → IsGroup parts (use_of parts (principles.Rule formula))
+rule_is parts is formula suits = bare_is parts is (principles.Rule formula) refl refl refl refl (λ features none. none) suits
+
 pub bound_is : (parts : Parts) → IsProblem parts → (costs : CostLists) (bound : ℕ) → IsGroup parts (use_of parts (principles.Bound costs bound))
-bound_is parts is costs bound = record {
-  dims_count = refl;
-  dims = All-nil (λ dim. dim.0 < length parts.dims);
-  attrs_count = refl;
-  attrs = All-nil _;
-  order = refl;
-  truths_count = refl;
-  feats = length-map parts.candidates (map nothing) ∙ is.candidates_each;
-  feats_each = λ v l. none_each parts.candidates v;
-  features = λ v l. none_at parts.candidates v;
-  suits = tt;
-}
+bound_is parts is costs bound = bare_is parts is (principles.Bound costs bound) refl refl refl refl (λ features none. none) tt
 
 module _ (parts : Parts) (uses : List Group) where
   -- the features that a principle takes are the same
@@ -111,36 +105,15 @@ module _ (parts : Parts) (uses : List Group) where
 
   -- the same analyses fit
 
-  place_still : (e : Edge) → IsPlace parts e → IsPlace (with_uses parts uses) e
-  place_still e is = record { plan = is.plan; plan_is = is.plan_is; graph = is.graph; label = is.label; mother = is.mother; daughter = is.daughter; differ = is.differ }
-
-  place_before : (e : Edge) → IsPlace (with_uses parts uses) e → IsPlace parts e
-  place_before e is = record { plan = is.plan; plan_is = is.plan_is; graph = is.graph; label = is.label; mother = is.mother; daughter = is.daughter; differ = is.differ }
-
   pub fits_still : (analysis : Analysis) → IsAnalysis (with_uses parts uses) analysis ↔ IsAnalysis parts analysis
   fits_still analysis = (
-    λ is. record { entries = is.entries; attr_count = is.attr_count; attrs = is.attrs; places = All-weaker (IsPlace (with_uses parts uses)) (IsPlace parts) place_before analysis.edges is.places; rise = is.rise },
-    λ is. record { entries = is.entries; attr_count = is.attr_count; attrs = is.attrs; places = All-weaker (IsPlace parts) (IsPlace (with_uses parts uses)) place_still analysis.edges is.places; rise = is.rise },
+    λ is. analysis_still (with_uses parts uses) parts.candidates parts.groups analysis is.entries is,
+    λ is. analysis_still parts parts.candidates (parts.groups ++ uses) analysis is.entries is,
   )
 
   -- and a principle use asks the same
-
-  module _ (group : Group) (entries attrs : List ℕ) (edges : List Edge) where
-    kept_still : (condition : Condition) → IsKept parts group entries attrs edges condition → IsKept (with_uses parts uses) group entries attrs edges condition
-    kept_still conditions.Rule kept = λ tuple is. (whole_still parts uses entries attrs edges group.principle).0 (kept tuple is)
-    kept_still conditions.Bound kept = λ tuple is. (whole_still parts uses entries attrs edges group.principle).0 (kept tuple is)
-    kept_still condition kept = kept
-
-    kept_before : (condition : Condition) → IsKept (with_uses parts uses) group entries attrs edges condition → IsKept parts group entries attrs edges condition
-    kept_before conditions.Rule kept = λ tuple is. (whole_still parts uses entries attrs edges group.principle).1 (kept tuple is)
-    kept_before conditions.Bound kept = λ tuple is. (whole_still parts uses entries attrs edges group.principle).1 (kept tuple is)
-    kept_before condition kept = kept
-
   pub relation_still : (group : Group) (analysis : Analysis) → Relation (with_uses parts uses) group analysis ↔ Relation parts group analysis
   relation_still group analysis =
       let entries = entry_places parts.candidates analysis.entries in
-      let Before : Condition → Type 0 = IsKept parts group entries analysis.attrs analysis.edges in
-      let Still : Condition → Type 0 = IsKept (with_uses parts uses) group entries analysis.attrs analysis.edges in (
-        λ all. All-weaker Still Before (kept_before group entries analysis.attrs analysis.edges) (conditions_of group) all,
-        λ all. All-weaker Before Still (kept_still group entries analysis.attrs analysis.edges) (conditions_of group) all,
-      )
+      relation_alike group.principle group.principle group group.feats group.feats (λ h c es u l v. (λ t. t, λ t. t)) parts parts.candidates parts.candidates (parts.groups ++ uses) parts.groups entries entries analysis.attrs analysis.edges (λ node argument label. refl)
+      (whole_still parts uses entries analysis.attrs analysis.edges group.principle) (conditions_of group)

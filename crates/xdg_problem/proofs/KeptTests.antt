@@ -19,8 +19,7 @@ use Rattle.xdg_problem.proofs.EachTest.{Each}
 use Rattle.xdg_problem.proofs.TreeTests.{cycle_tests, root_tests, mother_tests, pair_tests}
 use Rattle.xdg_problem.proofs.ValencyTests.{in_tests, out_tests}
 use Rattle.xdg_problem.proofs.OrderTests.{order_tests, between_tests}
-use Rattle.xdg_problem.proofs.AgreeTests.{agr_tests, agree_tests, govern_tests}
-use Rattle.xdg_problem.proofs.PathTests.{below_tests, blocked_tests}
+use Rattle.xdg_problem.proofs.AgreeTests.{agr_tests, agree_tests, govern_tests, below_tests, blocked_tests}
 use Rattle.xdg_problem.proofs.LinkTests.{linked_tests, unlinked_tests}
 use Rattle.xdg_facts.proofs.Facts.{then_iff}
 use Rattle.xdg_problem.specs.Principles.{conditions_for, linking_of, way_in}

@@ -64,16 +64,13 @@ module _ (parts : Parts) (problem : IsProblem parts) where
       let some = some_solution_list parts start problem in
       record { list = some.0; is = some.1; only = λ other is. solutions_unique parts problem start other some.0 is some.1 }
 
-  solutions_lawful : (start : List ℕ) → SolutionLaws parts start
+  pub solutions_lawful : (start : List ℕ) → SolutionLaws parts start
   solutions_lawful start = record {
     one = one_list start;
     live = λ prefixes listing. solutions_of parts problem start (filter (is_whole (shape parts)) prefixes) (whole_listing (shape parts) (Live parts) start prefixes listing);
     analyses = solutions_of parts problem start;
     vectors = solution_listing parts problem start;
   }
-
-pub solutions_keep : (parts : Parts) (start : List ℕ) → IsProblem parts → SolutionLaws parts start
-solutions_keep parts start problem = solutions_lawful parts problem start
 
 pub verdict_is_one : (parts : Parts) (group : Group) (analysis : Analysis) → HasOneVerdict parts group analysis
 verdict_is_one parts group analysis = record {

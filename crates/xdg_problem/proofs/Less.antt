@@ -6,21 +6,23 @@ use Rattle.std.proofs.lemmas.Bool.{ne_eqb, eq-eqb}
 use Rattle.std.proofs.lemmas.List.Elements.{recursion_from_All}
 use Rattle.xdg_base.specs.declared.ids.EntryNo.{EntryNo}
 use Rattle.xdg_facts.specs.Order.{Less}
-use Rattle.xdg_facts.proofs.Ordered.{less_irreflexive, less_transitive}
+use Rattle.xdg_facts.proofs.Ordered.{less_irreflexive, not_less}
 use Rattle.xdg_problem.specs.declared.analysis.Edge.{Edge}
 use Rattle.xdg_problem.specs.declared.analysis.Analysis.{Analysis}
 use Rattle.xdg_problem.specs.declared.parts.Parts.{Parts}
 use Rattle.xdg_problem.specs.Places.{places}
 use Rattle.xdg_problem.specs.EntryNumbers.{entry_numbers}
 use Rattle.xdg_problem.specs.Vectors.{place_among, entry_places, presence, vector}
-use Rattle.xdg_problem.specs.Analyses.{HasCandidates, Before, IsPlace, IsAnalysis}
+use Rattle.xdg_problem.specs.Analyses.{HasCandidates, Before, IsAnalysis}
 use Rattle.xdg_problem.specs.EdgeOrder.{EdgesLess}
 use Rattle.xdg_problem.specs.Problems.{IsProblem, AreCandidates}
-use Rattle.xdg_problem.proofs.Ordered.{Ordered, each_weaker, each_contained, contains_cases, contains_none, ordered_from_pairs}
+use Rattle.xdg_problem.proofs.Ordered.{Ordered, each_contained, contains_cases, contains_none, ordered_from_pairs}
 use Rattle.xdg_problem.proofs.Edges.{before_irreflexive, before_transitive, before_total}
 use Rattle.xdg_problem.proofs.EntryPlaces.{EntryBefore, entry_equal, length_entry_places}
-use Rattle.xdg_problem.proofs.Presence.{rise_ordered, present_head, absent_before, presence_skip}
-use Rattle.xdg_problem.proofs.PlaceOrder.{places_ordered, place_is}
+pub use Rattle.xdg_problem.proofs.Presence.{narrow}
+use Rattle.xdg_problem.proofs.Presence.{rise_ordered, head_cases, present_head, absent_before, presence_skip}
+use Rattle.xdg_problem.proofs.PlaceOrder.{places_ordered}
+use Rattle.xdg_problem.proofs.VectorFacts.{edges_placed}
 
 -- lists with a common front, and lists of which the fronts decide
 
@@ -34,9 +36,6 @@ less_front [] (b ∷ y) v w e l = absurd (omega arith)
 less_front (a ∷ x) [] v w e l = absurd l
 less_front (a ∷ x) (b ∷ y) v w e (inl l) = inl l
 less_front (a ∷ x) (b ∷ y) v w e (inr (s, l)) = inr (s, less_front x y v w (omega arith) l)
-
-less_not : (x y : List ℕ) → Less y x → Less x y → ⊥
-less_not x y m l = less_irreflexive x (less_transitive x y x l m)
 
 -- entries
 
@@ -82,37 +81,6 @@ edges_less_total (e ∷ a) (f ∷ b) = elim (before_total e f) [
   ]
 ]
 
--- where edges stand: at the places that follow p, or first at p and then at those
-record HasHead (p : Edge) (places edges : List Edge) : Type 0 where
-  pub rest : List Edge
-  pub is : edges ≡ p ∷ rest
-  pub ordered : Ordered Before rest
-  pub within : AllByRecursion (Contains places) rest
-
-record IsBehind (p : Edge) (places edges : List Edge) : Type 0 where
-  pub behind : AllByRecursion (Before p) edges
-  pub within : AllByRecursion (Contains places) edges
-
-pub narrow : (p : Edge) (places edges : List Edge) → AllByRecursion (Before p) edges → AllByRecursion (Contains (p ∷ places)) edges → AllByRecursion (Contains places) edges
-narrow p places [] b a = tt
-narrow p places (e ∷ edges) b a = (
-  elim (contains_cases p places e a.0) [
-    | inl s ↦ absurd (before_irreflexive e (subst (λ z. Before z e) s b.0))
-    | inr c ↦ c
-  ],
-  narrow p places edges b.1 a.1,
-)
-
-head_cases : (p : Edge) (places edges : List Edge) → Ordered Before (p ∷ places) → Ordered Before edges → AllByRecursion (Contains (p ∷ places)) edges → HasHead p places edges ⊎ IsBehind p places edges
-head_cases p places [] o r a = inr (record { behind = tt; within = tt })
-head_cases p places (e ∷ edges) o r a = elim (contains_cases p places e a.0) [
-  | inl s ↦ (let b : AllByRecursion (Before p) edges = subst (λ z. AllByRecursion (Before z) edges) (sym s) r.0 in
-      inl (record { rest = edges; is = ap (λ z. z ∷ edges) (sym s); ordered = r.1; within = narrow p places edges b a.1 }))
-  | inr c ↦ (let b : Before p e = each_contained (Before p) places e o.0 c in
-      let bs : AllByRecursion (Before p) (e ∷ edges) = (b, each_weaker (Before e) (Before p) edges (λ f l. before_transitive p e f b l) r.0) in
-      inr (record { behind = bs; within = narrow p places (e ∷ edges) bs a }))
-]
-
 -- an edge behind p is no first edge of a list that comes before one that begins with p
 not_first : (p : Edge) (a b : List Edge) → AllByRecursion (Before p) a → EdgesLess Before a (p ∷ b) → ⊥
 not_first p [] b h l = l
@@ -151,9 +119,6 @@ edges_order (p ∷ places) a b o r s h k l = elim (head_cases p places a o r h) 
 
 -- whole analyses
 
-contained : (parts : Parts) (a : Analysis) → IsAnalysis parts a → AllByRecursion (Contains (places parts)) a.edges
-contained parts a h = each_weaker (IsPlace parts) (λ e. Contains (places parts) e) a.edges (place_is parts) (recursion_from_All (IsPlace parts) a.edges h.places)
-
 -- the entries decide
 pub entries_first : (parts : Parts) (a b : Analysis) → IsProblem parts → IsAnalysis parts a → IsAnalysis parts b → Less (entry_numbers a.entries) (entry_numbers b.entries) → Less (vector parts a) (vector parts b)
 entries_first parts a b p h k l =
@@ -175,7 +140,7 @@ edges_first parts a b h k e t l =
     (less_behind (entry_places parts.candidates a.entries) (a.attrs ++ map (presence a.edges) (places parts)) (b.attrs ++ map (presence b.edges) (places parts))
     (subst (λ z. Less (a.attrs ++ map (presence a.edges) (places parts)) (z ++ map (presence b.edges) (places parts))) t
     (less_behind a.attrs (map (presence a.edges) (places parts)) (map (presence b.edges) (places parts))
-    (edges_order (places parts) a.edges b.edges (places_ordered parts) (rise_ordered a.edges h.rise) (rise_ordered b.edges k.rise) (contained parts a h) (contained parts b k) l))))
+    (edges_order (places parts) a.edges b.edges (places_ordered parts) (rise_ordered a.edges h.rise) (rise_ordered b.edges k.rise) (edges_placed parts a h) (edges_placed parts b k) l))))
 
 same_vector : (parts : Parts) (a b : Analysis) → a.entries ≡ b.entries → a.attrs ≡ b.attrs → a.edges ≡ b.edges → vector parts a ≡ vector parts b
 same_vector parts a b e t g =
@@ -189,15 +154,15 @@ edges_exact parts a b h k e t = (
   λ l. elim (edges_less_total a.edges b.edges) [
     | inl m ↦ m
     | inr (inl s) ↦ absurd (less_irreflexive (vector parts b) (subst (λ z. Less z (vector parts b)) (same_vector parts a b e t s) l))
-    | inr (inr m) ↦ absurd (less_not (vector parts a) (vector parts b) (edges_first parts b a k h (sym e) (sym t) m) l)
+    | inr (inr m) ↦ absurd (not_less (vector parts a) (vector parts b) (inr l) (edges_first parts b a k h (sym e) (sym t) m))
   ],
 )
 
 pub not_entries : (parts : Parts) (a b : Analysis) → IsProblem parts → IsAnalysis parts a → IsAnalysis parts b → Less (entry_numbers b.entries) (entry_numbers a.entries) → Less (vector parts a) (vector parts b) → ⊥
-not_entries parts a b p h k l m = less_not (vector parts a) (vector parts b) (entries_first parts b a p k h l) m
+not_entries parts a b p h k l m = not_less (vector parts a) (vector parts b) (inr m) (entries_first parts b a p k h l)
 
 pub not_attrs : (parts : Parts) (a b : Analysis) → IsAnalysis parts a → IsAnalysis parts b → a.entries ≡ b.entries → Less b.attrs a.attrs → Less (vector parts a) (vector parts b) → ⊥
-not_attrs parts a b h k e l m = less_not (vector parts a) (vector parts b) (attrs_first parts b a k h (sym e) l) m
+not_attrs parts a b h k e l m = not_less (vector parts a) (vector parts b) (inr m) (attrs_first parts b a k h (sym e) l)
 
 -- by which part one analysis is less than another
 pub ruleset less_steps = (entries_first, attrs_first, edges_exact, not_entries, not_attrs)

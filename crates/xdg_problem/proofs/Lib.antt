@@ -15,7 +15,6 @@ pub mod EachTest
 pub mod TreeTests
 pub mod OrderTests
 pub mod AgreeTests
-pub mod PathTests
 pub mod LinkTests
 pub mod ValencyTests
 pub mod KeptTests
@@ -41,6 +40,7 @@ pub mod OneToOne
 pub mod PlaceSteps
 pub mod ValueCounts
 pub mod BranchLists
+pub mod OtherTruths
 pub mod BranchTruths
 pub mod BranchParts
 pub mod BranchAsks

@@ -1,5 +1,5 @@
 -- On a whole vector the tests of each linking principle are its condition.
-use Rattle.std.proofs.Common.{◌≡◌, ℕ, ◌<◌, ◌↔◌, true, List, length, refl, sym, subst, Some}
+use Rattle.std.proofs.Common.{◌≡◌, ℕ, ◌↔◌, true, List, refl, sym, subst, Some}
 use Rattle.std.specs.Prelude.{filter, slice_index, Contains, ◌==◌}
 use Rattle.std.specs.List.{Any}
 use Rattle.std.proofs.lemmas.Bool.{eq-eqb}
@@ -18,20 +18,15 @@ use Rattle.xdg_problem.specs.Arguments.{first_dim, second_dim, label_count}
 use Rattle.xdg_problem.specs.Asking.{AsksBy, AsksLink, Asks, IsLinked}
 use Rattle.xdg_problem.specs.Relations.{IsKept}
 use Rattle.xdg_problem.specs.Tests.{Test, linked, unlinked, can_link, looks_first, looks_second, looks_at}
-use Rattle.xdg_problem.proofs.Looking.{and_3, any_weaker, on_same, any_same, sees_place}
+use Rattle.xdg_problem.proofs.Looking.{and_3, any_weaker, asked_alike, on_same, any_same, placed}
 use Rattle.xdg_problem.proofs.Tuples.{triples}
 use Rattle.xdg_problem.proofs.Passing.{PassesAt}
 use Rattle.xdg_problem.proofs.EachTest.{EachTriple}
 use Rattle.xdg_facts.proofs.Truths.{or_here, either_true, and_2}
 
 -- what is linked by one list of edges is linked by another
-labels_like : (A B : Type 0) (labels : List ℕ) → A ↔ B → (0 < length labels → A) ↔ (0 < length labels → B)
-labels_like A B labels same = (λ p some. same.0 (p some), λ p some. same.1 (p some))
-
-link_like : (principle : Principle) (group : Group) (candidate u l v : ℕ) (few many few2 many2 : List Edge) → group.principle ≡ principle → IsDaughterBy few u l v ↔ IsDaughterBy many u l v → AsksLink principle group candidate few2 u l v ↔ AsksLink principle group candidate many2 u l v → (IsDaughterBy few u l v → AsksLink group.principle group candidate few2 u l v) ↔ (IsDaughterBy many u l v → AsksLink group.principle group candidate many2 u l v)
-link_like principle group candidate u l v few many few2 many2 is daughter asks =
-    let same = subst (λ p. AsksLink p group candidate few2 u l v ↔ AsksLink p group candidate many2 u l v) (sym is) asks in
-    (λ p d. same.0 (p (daughter.1 d)), λ p d. same.1 (p (daughter.0 d)))
+link_alike : (principle : Principle) (group : Group) (candidate u l v : ℕ) (few many few2 many2 : List Edge) → group.principle ≡ principle → IsDaughterBy few u l v ↔ IsDaughterBy many u l v → AsksLink principle group candidate few2 u l v ↔ AsksLink principle group candidate many2 u l v → (IsDaughterBy few u l v → AsksLink group.principle group candidate few2 u l v) ↔ (IsDaughterBy many u l v → AsksLink group.principle group candidate many2 u l v)
+link_alike principle group candidate u l v few many few2 many2 is daughter asks = asked_alike _ _ _ _ daughter (subst (λ p. AsksLink p group candidate few2 u l v ↔ AsksLink p group candidate many2 u l v) (sym is) asks)
 
 -- u is entered by an edge whose mother has v as a daughter along other edges
 abbrev AreSistersOf : List Edge → List Edge → ℕ → List ℕ → ℕ → Type 0
@@ -60,11 +55,7 @@ module _ (parts : Parts) (group : Group) (candidates attrs : List ℕ) (edges : 
   abbrev Linked : (ℕ → ℕ → ℕ → Test) → Type 0
   Linked test = EachTriple group.truths n labels (PassesAt parts group candidates attrs edges) test ↔ IsKept parts group candidates attrs edges conditions.Link
 
-  -- a test that looks at the edge of a place sees it
-  placed : (test : Test) (u l v : ℕ) → ((e : Edge) → (e.mother.0 ≡ u) × (e.label.0 ≡ l) × (e.daughter.0 ≡ v) → (e.dim.0 == one) ≡ true → looks_first one test e ≡ true) → IsDaughterBy (edges_on one (seen test)) u l v ↔ IsDaughterBy (edges_on one edges) u l v
-  placed test u l v looks = any_same (looks_at group test) one edges (λ e. (e.mother.0 ≡ u) × (e.label.0 ≡ l) × (e.daughter.0 ≡ v)) (λ e here on. either_true (looks_second two test e) (looks_first one test e) (looks e here on))
-
-  -- it sees what can link
+  -- a test sees what can link
   sees : (way : Linking) (u l v : ℕ) (e : Edge) → can_link way u v e ≡ true → (e.dim.0 == two) ≡ true → looks_at group (linked way u l v) e ≡ true
   sees way u l v e can on = or_here (looks_second two (linked way u l v) e) (looks_first one (linked way u l v) e) (and_2 (e.dim.0 == two) (can_link way u v e) on can)
 
@@ -103,9 +94,9 @@ module _ (parts : Parts) (group : Group) (candidates attrs : List ℕ) (edges : 
   linked_tests principle way is asks = triples (Asks conditions.Link parts group candidates attrs edges) (λ u l v. PassesAt parts group candidates attrs edges (linked way u l v)) n labels n (λ u l v.
       let c : ℕ = slice_index candidates u in
       let few : List Edge = edges_on two (seen (linked way u l v)) in
-      let same = labels_like _ _ (link_row u l) (linked_same way u l v (link_row u l)) in
-      link_like principle group c u l v (edges_on one (seen (linked way u l v))) (edges_on one edges) few (edges_on two edges) is
-      (placed (linked way u l v) u l v (sees_place one u l v))
+      let same = asked_alike _ _ _ _ (λ some. some, λ some. some) (linked_same way u l v (link_row u l)) in
+      link_alike principle group c u l v (edges_on one (seen (linked way u l v))) (edges_on one edges) few (edges_on two edges) is
+      (placed group edges (linked way u l v) u l v (λ e. refl))
       (λ h. (asks c u l v (edges_on two edges)).1 (same.0 ((asks c u l v few).0 h)), λ h. (asks c u l v few).1 (same.1 ((asks c u l v (edges_on two edges)).0 h))))
 
   no_daughter : (u l v : ℕ) → IsDaughter (edges_on two (seen (unlinked u l v))) u v ↔ IsDaughter (edges_on two edges) u v
@@ -113,6 +104,6 @@ module _ (parts : Parts) (group : Group) (candidates attrs : List ℕ) (edges : 
 
   pub unlinked_tests : group.principle ≡ principles.LinkingNotDaughter → Linked unlinked
   unlinked_tests is = triples (Asks conditions.Link parts group candidates attrs edges) (λ u l v. PassesAt parts group candidates attrs edges (unlinked u l v)) n labels n (λ u l v.
-      link_like principles.LinkingNotDaughter group (slice_index candidates u) u l v (edges_on one (seen (unlinked u l v))) (edges_on one edges) (edges_on two (seen (unlinked u l v))) (edges_on two edges) is
-      (placed (unlinked u l v) u l v (sees_place one u l v))
+      link_alike principles.LinkingNotDaughter group (slice_index candidates u) u l v (edges_on one (seen (unlinked u l v))) (edges_on one edges) (edges_on two (seen (unlinked u l v))) (edges_on two edges) is
+      (placed group edges (unlinked u l v) u l v (λ e. refl))
       (λ p named d. p named ((no_daughter u l v).1 d), λ p named d. p named ((no_daughter u l v).0 d)))

@@ -1,11 +1,16 @@
 -- What is left of the edges of a dimension, if only the edges that a test looks at are kept.
-use Rattle.std.proofs.Common.{◌≡◌, ℕ, ◌↔◌, Bool, true, false, ◌&&◌, List, length, refl, sym, ap, ◌∙◌}
-use Rattle.std.specs.Prelude.{filter, Contains, count_by, ◌==◌}
+use Rattle.std.proofs.Common.{◌≡◌, ℕ, ◌<◌, ◌≤◌, ◌+◌, ◌↔◌, arith, subst, Bool, true, false, ◌&&◌, List, length, refl, sym, ap, ◌∙◌}
+use Rattle.std.specs.Prelude.{filter, All, nat_le, Contains, count_by, ◌==◌}
 use Rattle.std.specs.List.{Any}
-use Rattle.std.proofs.lemmas.Bool.{eq-eqb}
+use Rattle.std.proofs.lemmas.Bool.{and_parts, eq-eqb, le-leb}
+use Rattle.std.proofs.lemmas.List.Elements.{All-weaker, filter_agree}
 use Rattle.xdg_problem.specs.declared.analysis.Edge.{Edge}
-use Rattle.xdg_problem.specs.Paths.{edges_on}
-use Rattle.xdg_problem.proofs.FilterFacts.{filter_both, count_of_filter, filter_alike, filter_contained}
+use Rattle.xdg_problem.specs.declared.parts.Group.{Group}
+use Rattle.xdg_problem.specs.Arguments.{first_dim, second_dim}
+use Rattle.xdg_problem.specs.Paths.{edges_on, IsDaughterBy}
+use Rattle.xdg_problem.specs.Tests.{Test, looks_first, looks_second, looks_at}
+use Rattle.xdg_facts.proofs.Truths.{either_true}
+use Rattle.xdg_problem.proofs.FilterFacts.{filter_both, count_of_filter, filter_alike, filter_fewer, filter_contained}
 use Rattle.xdg_problem.proofs.Ordered.{contains_filter}
 
 -- truth values
@@ -14,6 +19,10 @@ pub and_given : (a b : Bool) → (b ≡ true → a ≡ true) → (a && b) ≡ b
 and_given true b h = refl
 and_given false true h = h refl
 and_given false false h = refl
+
+and_true : (a b : Bool) → b ≡ true → (a && b) ≡ a
+and_true true b h = h
+and_true false b h = refl
 
 pub and_3 : (a b c : Bool) → a ≡ true → b ≡ true → c ≡ true → (a && b && c) ≡ true
 and_3 a b c x y z = rw (x, y, z) refl
@@ -54,7 +63,37 @@ module _ (looks : Edge → Bool) (dim : ℕ) (edges : List Edge) where
       ∙ ap length (filter_both (λ e. (e.dim.0 == dim) && p e) looks edges ∙ filter_alike (λ e. looks e && ((e.dim.0 == dim) && p e)) (λ e. (e.dim.0 == dim) && p e) edges (λ k d l. and_given (looks _) ((_ == dim) && p _) (h _)))
       ∙ count_of_filter p (λ e. e.dim.0 == dim) edges
 
+-- the edges of which another node is at most k, among those that pass a test
+module _ (n k : ℕ) (far : Edge → ℕ) (all : Edge → Bool) (edges : List Edge) where
+  -- where k is the last node, they are all
+  pub upto_last : k + 1 ≡ n → All (λ e. far e < n) edges → filter (λ e. all e && nat_le (far e) k) edges ≡ filter all edges
+  upto_last last within = filter_alike (λ e. all e && nat_le (far e) k) all edges (All-weaker (λ e. far e < n) (λ e. (all e && nat_le (far e) k) ≡ all e) (λ e below. and_true (all e) (nat_le (far e) k) (le-leb (far e) k (omega arith))) edges within)
+
+  pub upto_part : (e : Edge) → (all e && nat_le (far e) k) ≡ true → all e ≡ true
+  upto_part e looks = (and_parts (all e) (nat_le (far e) k) looks).0
+
+-- their number, where the test is one of the edges of a dimension
+module _ (n k dim : ℕ) (far : Edge → ℕ) (all test : Edge → Bool) (same : (e : Edge) → all e ≡ ((e.dim.0 == dim) && test e)) (edges : List Edge) where
+  all_counted : length (filter all edges) ≡ count_by test (edges_on dim edges)
+  all_counted = ap length (filter_agree all (λ e. (e.dim.0 == dim) && test e) same edges) ∙ count_of_filter test (λ e. e.dim.0 == dim) edges
+
+  pub count_last : k + 1 ≡ n → All (λ e. far e < n) edges → length (filter (λ e. all e && nat_le (far e) k) edges) ≡ count_by test (edges_on dim edges)
+  count_last last within = ap length (upto_last n k far all edges last within) ∙ all_counted
+
+  pub count_part : length (filter (λ e. all e && nat_le (far e) k) edges) ≤ count_by test (edges_on dim edges)
+  count_part = subst (λ m. length (filter (λ e. all e && nat_le (far e) k) edges) ≤ m) all_counted (filter_fewer (λ e. all e && nat_le (far e) k) all edges (upto_part n k far all edges))
+
 -- an edge that is as a place says, is looked at by the test of that place
 
 pub sees_place : (dim u l v : ℕ) (e : Edge) → (e.mother.0 ≡ u) × (e.label.0 ≡ l) × (e.daughter.0 ≡ v) → (e.dim.0 == dim) ≡ true → ((e.dim.0 == dim) && (e.mother.0 == u) && (e.label.0 == l) && (e.daughter.0 == v)) ≡ true
 sees_place dim u l v e (m, b, d) on = and_4 (e.dim.0 == dim) (e.mother.0 == u) (e.label.0 == l) (e.daughter.0 == v) on (eq-eqb e.mother.0 u m) (eq-eqb e.label.0 l b) (eq-eqb e.daughter.0 v d)
+
+-- a test that looks at the edge of a place sees it
+pub placed : (group : Group) (edges : List Edge) (test : Test) (u l v : ℕ) → ((e : Edge) → looks_first (first_dim group) test e ≡ ((e.dim.0 == first_dim group) && (e.mother.0 == u) && (e.label.0 == l) && (e.daughter.0 == v)))
+    → IsDaughterBy (edges_on (first_dim group) (filter (looks_at group test) edges)) u l v ↔ IsDaughterBy (edges_on (first_dim group) edges) u l v
+placed group edges test u l v looks = any_same (looks_at group test) (first_dim group) edges (λ e. (e.mother.0 ≡ u) × (e.label.0 ≡ l) × (e.daughter.0 ≡ v))
+    (λ e here on. either_true (looks_second (second_dim group) test e) (looks_first (first_dim group) test e) (looks e ∙ sees_place (first_dim group) u l v e here on))
+
+-- what is asked where something holds goes by what holds alike
+pub asked_alike : (A B C D : Type 0) → A ↔ B → C ↔ D → (A → C) ↔ (B → D)
+asked_alike A B C D where_same same = (λ f b. same.0 (f (where_same.1 b)), λ f a. same.1 (f (where_same.0 a)))

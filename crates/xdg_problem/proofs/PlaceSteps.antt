@@ -1,5 +1,5 @@
 -- Steps of the loops that list the places.
-use Rattle.std.proofs.Common.{◌≡◌, ℕ, ◌<◌, ◌≤◌, ◌+◌, List, [], ◌∷◌, ◌++◌, length, get_or, drop, ap, sym, ◌∙◌, arith, subst, zero, suc, true, false, map, cond, not}
+use Rattle.std.proofs.Common.{◌≡◌, ℕ, ◌<◌, ◌≤◌, ◌+◌, List, [], ◌∷◌, ◌++◌, length, get_or, drop, ap, sym, ◌∙◌, arith, subst, suc, true, false, map, cond, not}
 use Rattle.std.specs.Prelude.{filter, All, ◌==◌}
 use Rattle.std.specs.List.{flat_map}
 use Rattle.std.proofs.lemmas.Bool.{ne_eqb, eq-eqb}
@@ -9,20 +9,17 @@ use Rattle.std.proofs.lemmas.List.Elements.{filter-append, All-get_or}
 use Rattle.xdg_problem.specs.declared.analysis.Edge.{Edge}
 use Rattle.xdg_problem.specs.declared.parts.DimPlan.{DimPlan}
 use Rattle.xdg_problem.specs.declared.parts.Parts.{Parts}
-use Rattle.xdg_problem.specs.Places.{numbers_from, below, edge, others, places_out, places_of, places_from}
+use Rattle.xdg_problem.specs.Places.{below, edge, others, places_out, places_of, places_from}
 use Rattle.xdg_problem.specs.HasPlaces.{HasPlaces}
 use Rattle.xdg_problem.specs.Problems.{IsDim}
+use Rattle.xdg_problem.proofs.Numbered.{numbers_more}
 use Rattle.xdg_problem.proofs.PlaceOrder.{places_before, is_place, place_is}
-
-numbers_push : (first count : ℕ) → numbers_from first (suc count) ≡ numbers_from first count ++ (first + count) ∷ []
-numbers_push first zero = ap (λ i. i ∷ []) (let e : first ≡ first + 0 = omega arith in e)
-numbers_push first (suc count) = ap (λ z. first ∷ z) (numbers_push (suc first) count ∙ ap (λ i. numbers_from (suc first) count ++ i ∷ []) (let e : suc first + count ≡ first + suc count = omega arith in e))
 
 below_push : (k : ℕ) → below (k + 1) ≡ below k ++ k ∷ []
 below_push k =
     let e : k + 1 ≡ suc k = omega arith in
     let z : 0 + k ≡ k = omega arith in
-    ap below e ∙ numbers_push 0 k ∙ ap (λ i. below k ++ i ∷ []) z
+    ap below e ∙ numbers_more 0 k ∙ ap (λ i. below k ++ i ∷ []) z
 
 others_push : (k mother : ℕ) → others (k + 1) mother ≡ others k mother ++ filter (λ other. not (other == mother)) (k ∷ [])
 others_push k mother = ap (filter (λ other. not (other == mother))) (below_push k) ∙ filter-append (λ other. not (other == mother)) (below k) (k ∷ [])

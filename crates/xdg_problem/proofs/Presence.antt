@@ -1,5 +1,5 @@
 -- Edges, and the numbers that say which places have one.
-use Rattle.std.proofs.Common.{◌≡◌, ℕ, ◌<◌, inl, inr, List, [], ◌∷◌, length, refl, ap, ap₂, sym, ◌∙◌, arith, subst, Bool, true, false, map, cond}
+use Rattle.std.proofs.Common.{◌≡◌, ℕ, ◌<◌, ◌⊎◌, inl, inr, List, [], ◌∷◌, length, refl, ap, ap₂, sym, ◌∙◌, arith, subst, Bool, true, false, map, cond}
 use Rattle.std.specs.Prelude.{Contains, ◌==◌, ◌||◌}
 use Rattle.std.specs.List.{AllByRecursion}
 use Rattle.std.proofs.lemmas.Bool.{cases_eq, ne_eqb, eq-eqb}
@@ -7,7 +7,7 @@ use Rattle.xdg_facts.specs.Fits.{Fits}
 use Rattle.xdg_problem.specs.declared.analysis.Edge.{Edge}
 use Rattle.xdg_problem.specs.Vectors.{has_edge, presence, chosen}
 use Rattle.xdg_problem.specs.Analyses.{Before, EdgesRise}
-use Rattle.xdg_problem.proofs.Ordered.{Ordered, each_weaker, each_contained, contains_cases, contains_none}
+use Rattle.xdg_problem.proofs.Ordered.{Ordered, each_cond, ordered_cond, each_weaker, each_contained, contains_cases, contains_none}
 use Rattle.xdg_problem.proofs.Edges.{same_edge_itself, before_irreflexive, before_transitive, before_apart, after_apart}
 
 -- edges that rise from one to the next are ordered
@@ -25,23 +25,15 @@ ordered_rise (e ∷ f ∷ edges) o = (o.0.0, ordered_rise (f ∷ edges) o.1)
 
 -- what is chosen
 
-chosen_cond : (P : Edge → Type 0) (b : Bool) (p : Edge) (edges : List Edge) → P p → AllByRecursion P edges → AllByRecursion P (cond b (p ∷ edges) edges)
-chosen_cond P true p edges h a = (h, a)
-chosen_cond P false p edges h a = a
-
 pub chosen_each : (P : Edge → Type 0) (places : List Edge) (numbers : List ℕ) → AllByRecursion P places → AllByRecursion P (chosen places numbers)
 chosen_each P [] numbers a = tt
 chosen_each P (p ∷ places) [] a = tt
-chosen_each P (p ∷ places) (n ∷ numbers) a = chosen_cond P (n == 0) p (chosen places numbers) a.0 (chosen_each P places numbers a.1)
-
-ordered_cond : (b : Bool) (p : Edge) (edges : List Edge) → AllByRecursion (Before p) edges → Ordered Before edges → Ordered Before (cond b (p ∷ edges) edges)
-ordered_cond true p edges a o = (a, o)
-ordered_cond false p edges a o = o
+chosen_each P (p ∷ places) (n ∷ numbers) a = each_cond P (n == 0) p (chosen places numbers) a.0 (chosen_each P places numbers a.1)
 
 pub chosen_ordered : (places : List Edge) (numbers : List ℕ) → Ordered Before places → Ordered Before (chosen places numbers)
 chosen_ordered [] numbers o = tt
 chosen_ordered (p ∷ places) [] o = tt
-chosen_ordered (p ∷ places) (n ∷ numbers) o = ordered_cond (n == 0) p (chosen places numbers) (chosen_each (Before p) places numbers o.0) (chosen_ordered places numbers o.1)
+chosen_ordered (p ∷ places) (n ∷ numbers) o = ordered_cond Before (n == 0) p (chosen places numbers) (chosen_each (Before p) places numbers o.0) (chosen_ordered places numbers o.1)
 
 -- presence
 
@@ -78,7 +70,8 @@ presence_back (p ∷ places) (n ∷ numbers) o f l =
           (ap₂ (λ z zs. z ∷ zs) (ap (λ b. cond b 0 1) (absent_before p c (chosen_each (Before p) places numbers o.0)) ∙ (let t : n < 2 = f.0 in omega (arith, ne))) h)
     ]
 
-narrow : (p : Edge) (places edges : List Edge) → AllByRecursion (Before p) edges → AllByRecursion (Contains (p ∷ places)) edges → AllByRecursion (Contains places) edges
+-- edges behind a place stand at the places behind it
+pub narrow : (p : Edge) (places edges : List Edge) → AllByRecursion (Before p) edges → AllByRecursion (Contains (p ∷ places)) edges → AllByRecursion (Contains places) edges
 narrow p places [] b a = tt
 narrow p places (e ∷ edges) b a = (
   elim (contains_cases p places e a.0) [
@@ -88,19 +81,34 @@ narrow p places (e ∷ edges) b a = (
   narrow p places edges b.1 a.1,
 )
 
+-- where edges stand: at the places that follow p, or first at p and then at those
+pub record HasHead (p : Edge) (places edges : List Edge) : Type 0 where
+  pub rest : List Edge
+  pub is : edges ≡ p ∷ rest
+  pub ordered : Ordered Before rest
+  pub within : AllByRecursion (Contains places) rest
+
+pub record IsBehind (p : Edge) (places edges : List Edge) : Type 0 where
+  pub behind : AllByRecursion (Before p) edges
+  pub within : AllByRecursion (Contains places) edges
+
+pub head_cases : (p : Edge) (places edges : List Edge) → Ordered Before (p ∷ places) → Ordered Before edges → AllByRecursion (Contains (p ∷ places)) edges → HasHead p places edges ⊎ IsBehind p places edges
+head_cases p places [] o r a = inr (record { behind = tt; within = tt })
+head_cases p places (e ∷ edges) o r a = elim (contains_cases p places e a.0) [
+  | inl s ↦ (let b : AllByRecursion (Before p) edges = subst (λ z. AllByRecursion (Before z) edges) (sym s) r.0 in
+      inl (record { rest = edges; is = ap (λ z. z ∷ edges) (sym s); ordered = r.1; within = narrow p places edges b a.1 }))
+  | inr c ↦ (let b : Before p e = each_contained (Before p) places e o.0 c in
+      let bs : AllByRecursion (Before p) (e ∷ edges) = (b, each_weaker (Before e) (Before p) edges (λ f l. before_transitive p e f b l) r.0) in
+      inr (record { behind = bs; within = narrow p places (e ∷ edges) bs a }))
+]
+
 -- edges at the places are those that their numbers choose
 pub chosen_back : (places edges : List Edge) → Ordered Before places → Ordered Before edges → AllByRecursion (Contains places) edges → chosen places (map (presence edges) places) ≡ edges
 chosen_back [] [] o r a = refl
 chosen_back [] (e ∷ edges) o r a = absurd (contains_none e a.0)
-chosen_back (p ∷ places) [] o r a = chosen_back places [] o.1 tt tt
-chosen_back (p ∷ places) (e ∷ edges) o r a = elim (contains_cases p places e a.0) [
-  | inl s ↦ subst (λ z. chosen (p ∷ places) (map (presence (z ∷ edges)) (p ∷ places)) ≡ z ∷ edges) s
-      (let b : AllByRecursion (Before p) edges = subst (λ z. AllByRecursion (Before z) edges) (sym s) r.0 in
-      ap₂ (λ n ns. cond (n == 0) (p ∷ chosen places ns) (chosen places ns)) (present_head p edges) (presence_skip p edges places o.0)
-      ∙ ap (λ z. p ∷ z) (chosen_back places edges o.1 r.1 (narrow p places edges b a.1)))
-  | inr c ↦
-      let b : Before p e = each_contained (Before p) places e o.0 c in
-      let bs : AllByRecursion (Before p) (e ∷ edges) = (b, each_weaker (Before e) (Before p) edges (λ f l. before_transitive p e f b l) r.0) in
-      ap (λ q. cond ((cond q 0 1) == 0) (p ∷ chosen places (map (presence (e ∷ edges)) places)) (chosen places (map (presence (e ∷ edges)) places))) (absent_before p (e ∷ edges) bs)
-      ∙ chosen_back places (e ∷ edges) o.1 r (narrow p places (e ∷ edges) bs a)
+chosen_back (p ∷ places) edges o r a = elim (head_cases p places edges o r a) [
+  | inl u ↦ subst (λ z. chosen (p ∷ places) (map (presence z) (p ∷ places)) ≡ z) (sym u.is)
+      (ap₂ (λ n ns. cond (n == 0) (p ∷ chosen places ns) (chosen places ns)) (present_head p u.rest) (presence_skip p u.rest places o.0)
+      ∙ ap (λ z. p ∷ z) (chosen_back places u.rest o.1 u.ordered u.within))
+  | inr w ↦ ap (λ q. cond ((cond q 0 1) == 0) (p ∷ chosen places (map (presence edges) places)) (chosen places (map (presence edges) places))) (absent_before p edges w.behind) ∙ chosen_back places edges o.1 r w.within
 ]

@@ -1,5 +1,5 @@
 -- A test whose decisions all stand in a prefix reads the same in whatever continues it.
-use Rattle.std.proofs.Common.{◌≡◌, ℕ, ◌+◌, ◌-◌, ◌↔◌, Bool, true, false, cond, List, [], ◌∷◌, ◌++◌, length, drop, map, refl, sym, ap, ap₂, ◌∙◌, subst, arith, zero, suc, Option, Some, None, length-append, length-drop}
+use Rattle.std.proofs.Common.{◌≡◌, ℕ, ◌+◌, ◌-◌, ◌↔◌, Bool, true, false, cond, List, [], ◌∷◌, ◌++◌, length, drop, map, refl, sym, ap, ◌∙◌, subst, arith, Option, Some, None, length-append, length-drop}
 use Rattle.std.specs.Prelude.{filter, All, ◌==◌}
 use Rattle.std.proofs.lemmas.List.{drop-drop, get_or_append_left}
 use Rattle.std.proofs.lemmas.List.Elements.{All-head, All-tail, All-drop, All-weaker}
@@ -12,6 +12,7 @@ use Rattle.xdg_problem.specs.Vectors.{first_place, edges_in, chosen}
 use Rattle.xdg_problem.specs.Tests.{Test, looks_at, entry_node, test_attrs, Passes}
 use Rattle.xdg_problem.specs.Live.{open_places, EntryStands, entry_in, AttrStands, attr_in, Stands, Holds, IsLiveFor, Live}
 use Rattle.xdg_problem.specs.Relations.{IsKeptWhole}
+use Rattle.xdg_problem.proofs.Ordered.{map_alike}
 use Rattle.xdg_problem.proofs.Continued.{drop_joined, analysis_same}
 
 filter_put : (test : Edge → Bool) (chooses : Bool) (e : Edge) (xs ys : List Edge) → filter test xs ≡ filter test ys → filter test (cond chooses (e ∷ xs) xs) ≡ filter test (cond chooses (e ∷ ys) ys)
@@ -61,8 +62,7 @@ attrs_stand parts p t places stand = All-weaker (AttrStands parts p) (AttrStands
 
 -- the values at places that stand in a prefix are the same in whatever continues it
 pub attrs_same : (parts : Parts) (p t places : List ℕ) → All (AttrStands parts p) places → map (attr_in parts (p ++ t)) places ≡ map (attr_in parts p) places
-attrs_same parts p t [] stand = refl
-attrs_same parts p t (place ∷ places) stand = ap₂ (λ z zs. z ∷ zs) (get_or_append_left p t 0 (length parts.candidates + place) (All-head (AttrStands parts p) place places stand)) (attrs_same parts p t places (All-tail (AttrStands parts p) place places stand))
+attrs_same parts p t places stand = map_alike (attr_in parts (p ++ t)) (attr_in parts p) places (All-weaker (AttrStands parts p) (λ place. attr_in parts (p ++ t) place ≡ attr_in parts p place) (λ place stands. get_or_append_left p t 0 (length parts.candidates + place) stands) places stand)
 
 pub stands_longer : (parts : Parts) (group : Group) (test : Test) (p t : List ℕ) → Stands parts group test p → Stands parts group test (p ++ t)
 stands_longer parts group test p t stands = record {

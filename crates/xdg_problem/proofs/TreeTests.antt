@@ -1,8 +1,8 @@
 -- On a whole vector the tests of mothers, cycles, roots and labels are the conditions of tree and dag.
-use Rattle.std.proofs.Common.{◌≡◌, ℕ, ◌<◌, ◌≤◌, ◌-◌, ◌↔◌, Bool, true, false, ◌&&◌, List, [], ◌∷◌, length, refl, sym, ap, ◌∙◌, subst, arith}
-use Rattle.std.specs.Prelude.{filter, All, Contains, ◌==◌, nat_le}
-use Rattle.std.proofs.lemmas.Bool.{and_parts, le-leb}
-use Rattle.std.proofs.lemmas.List.Elements.{All-weaker, All-contains, All-filter}
+use Rattle.std.proofs.Common.{◌≡◌, ℕ, ◌<◌, ◌+◌, ◌≤◌, ◌-◌, ◌↔◌, Bool, ◌&&◌, List, [], ◌∷◌, length, refl, sym, ap, ◌∙◌, subst, arith}
+use Rattle.std.specs.Prelude.{filter, All, Contains, ◌==◌}
+use Rattle.std.proofs.lemmas.Bool.{and_parts}
+use Rattle.std.proofs.lemmas.List.Elements.{All-contains, All-filter}
 use Rattle.xdg_problem.specs.declared.analysis.Edge.{Edge}
 use Rattle.xdg_problem.specs.declared.conditions.Condition.TheVariants as conditions
 use Rattle.xdg_problem.specs.declared.parts.Group.{Group}
@@ -13,24 +13,12 @@ use Rattle.xdg_problem.specs.Arguments.{first_dim, label_count}
 use Rattle.xdg_problem.specs.Asking.{first, Asks}
 use Rattle.xdg_problem.specs.Relations.{IsKept}
 use Rattle.xdg_problem.specs.Tests.{one_mother, no_cycle, one_root, one_label, looks_first, looks_at}
-use Rattle.xdg_problem.proofs.FilterFacts.{count_of_filter, filter_alike, filter_fewer, filter_among}
-use Rattle.xdg_problem.proofs.Looking.{and_3, count_same}
+use Rattle.xdg_problem.proofs.FilterFacts.{filter_among}
+use Rattle.xdg_problem.proofs.Looking.{and_3, count_last, count_part, count_same, upto_last, upto_part}
+use Rattle.xdg_problem.proofs.Walks.{above_more}
 use Rattle.xdg_problem.proofs.Tuples.{tuples_1, pairs}
 use Rattle.xdg_problem.proofs.Passing.{PassesAt}
 use Rattle.xdg_problem.proofs.EachTest.{EachNode, EachPair}
-
--- among fewer edges there is no cycle either
-pub no_cycle_fewer : (few many : List Edge) → ((e : Edge) → Contains few e → Contains many e) → NoCycle many → NoCycle few
-no_cycle_fewer few many among none v above = none v (record {
-  path = above.path;
-  some = above.some;
-  along = All-weaker (Contains few) (Contains many) among above.path above.along;
-  leads = above.leads;
-})
-
-pub and_true : (a t : Bool) → t ≡ true → (a && t) ≡ a
-and_true true t e = e
-and_true false t e = refl
 
 starts_within : (n : ℕ) (edges path : List Edge) (u v : ℕ) → All (λ e. e.mother.0 < n) edges → 0 < length path → All (Contains edges) path → Leads u path v → u < n
 starts_within n edges [] u v within some along leads = absurd (omega (arith, some))
@@ -40,30 +28,21 @@ starts_within n edges (e ∷ path) u v within some along leads = subst (λ w. w 
 pub above_within : (n : ℕ) (edges : List Edge) (u v : ℕ) → All (λ e. e.mother.0 < n) edges → Above edges u v → u < n
 above_within n edges u v within above = starts_within n edges above.path u v within above.some above.along above.leads
 
-module _ (n : ℕ) (dim : ℕ) (edges : List Edge) where
-  -- the last test of mothers looks at all edges into the node
-  mothers_last : 0 < n → All (λ e. e.mother.0 < n) edges → (v : ℕ) → length (filter (looks_first dim (one_mother v (n - 1))) edges) ≡ mothers (edges_on dim edges) v
-  mothers_last some within v =
-      ap length (filter_alike (looks_first dim (one_mother v (n - 1))) (λ e. (e.dim.0 == dim) && (e.daughter.0 == v)) edges (All-weaker (λ e. e.mother.0 < n) (λ e. looks_first dim (one_mother v (n - 1)) e ≡ ((e.dim.0 == dim) && (e.daughter.0 == v))) (λ e below. and_true ((e.dim.0 == dim) && (e.daughter.0 == v)) (nat_le e.mother.0 (n - 1)) (le-leb e.mother.0 (n - 1) (omega arith))) edges within)) ∙ count_of_filter (λ e. e.daughter.0 == v) (λ e. e.dim.0 == dim) edges
-
-  mothers_part : (v k : ℕ) → length (filter (looks_first dim (one_mother v k)) edges) ≤ mothers (edges_on dim edges) v
-  mothers_part v k =
-      let fewer = filter_fewer (looks_first dim (one_mother v k)) (λ e. (e.dim.0 == dim) && (e.daughter.0 == v)) edges (λ e looks. (and_parts ((e.dim.0 == dim) && (e.daughter.0 == v)) (nat_le e.mother.0 k) looks).0) in
-      subst (λ m. length (filter (looks_first dim (one_mother v k)) edges) ≤ m) (count_of_filter (λ e. e.daughter.0 == v) (λ e. e.dim.0 == dim) edges) fewer
-
-  -- the last test of cycles looks at all edges of the dimension
-  cycle_last : 0 < n → All (λ e. e.mother.0 < n) edges → filter (looks_first dim (no_cycle (n - 1))) edges ≡ edges_on dim edges
-  cycle_last some within = filter_alike (looks_first dim (no_cycle (n - 1))) (λ e. e.dim.0 == dim) edges (All-weaker (λ e. e.mother.0 < n) (λ e. looks_first dim (no_cycle (n - 1)) e ≡ (e.dim.0 == dim)) (λ e below. and_true (e.dim.0 == dim) (nat_le e.mother.0 (n - 1)) (le-leb e.mother.0 (n - 1) (omega arith))) edges within)
-
-  cycle_part : (k : ℕ) (e : Edge) → Contains (filter (looks_first dim (no_cycle k)) edges) e → Contains (edges_on dim edges) e
-  cycle_part k e c = filter_among (looks_first dim (no_cycle k)) (λ x. x.dim.0 == dim) edges (λ x looks. (and_parts (x.dim.0 == dim) (nat_le x.mother.0 k) looks).0) e c
-
 module _ (parts : Parts) (group : Group) (candidates attrs : List ℕ) (edges : List Edge) (some : 0 < nodes parts) (within : All (λ e. e.mother.0 < nodes parts) edges) where
   abbrev n : ℕ
   n = nodes parts
 
+  abbrev dim : ℕ
+  dim = first_dim group
+
   abbrev on : List Edge
-  on = edges_on (first_dim group) edges
+  on = edges_on dim edges
+
+  abbrev into : ℕ → Edge → Bool
+  into v e = (e.dim.0 == dim) && (e.daughter.0 == v)
+
+  last : (n - 1) + 1 ≡ n
+  last = omega (arith, some)
 
   on_within : All (λ e. e.mother.0 < n) on
   on_within = All-filter (λ e. e.dim.0 == first_dim group) (λ e. e.mother.0 < n) edges within
@@ -77,8 +56,8 @@ module _ (parts : Parts) (group : Group) (candidates attrs : List ℕ) (edges : 
 
   pub cycle_tests : EachNode group.truths n (label_count parts (first_dim group)) (PassesAt parts group candidates attrs edges) no_cycle ↔ IsKept parts group candidates attrs edges conditions.Cycle
   cycle_tests = (
-    λ passes. no_cycle_kept.0 (subst NoCycle (cycle_last n (first_dim group) edges some within) (passes (n - 1) (omega (arith, some)))),
-    λ kept k below. no_cycle_fewer (filter (looks_first (first_dim group) (no_cycle k)) edges) on (cycle_part n (first_dim group) edges k) (no_cycle_kept.1 kept),
+    λ passes. no_cycle_kept.0 (subst NoCycle (upto_last n (n - 1) (λ e. e.mother.0) (λ e. e.dim.0 == dim) edges last within) (passes (n - 1) (omega (arith, some)))),
+    λ kept k below v above. no_cycle_kept.1 kept v (above_more (filter (looks_first dim (no_cycle k)) edges) on (filter_among (looks_first dim (no_cycle k)) (λ e. e.dim.0 == dim) edges (upto_part n k (λ e. e.mother.0) (λ e. e.dim.0 == dim) edges)) v v above),
   )
 
   pub root_tests : PassesAt parts group candidates attrs edges one_root ↔ IsKept parts group candidates attrs edges conditions.Roots
@@ -89,8 +68,8 @@ module _ (parts : Parts) (group : Group) (candidates attrs : List ℕ) (edges : 
 
   pub mother_tests : EachPair group.truths n (label_count parts (first_dim group)) (PassesAt parts group candidates attrs edges) one_mother ↔ IsKept parts group candidates attrs edges conditions.Mothers
   mother_tests = (
-    λ passes. tuples_1 (Asks conditions.Mothers parts group candidates attrs edges) n (λ v below. subst (λ m. m ≤ 1) (mothers_last n (first_dim group) edges some within v) (passes v below (n - 1) (omega (arith, some)))),
-    λ kept v below k last. (let most : mothers on v ≤ 1 = kept (v ∷ []) (below, tt) in let part = mothers_part n (first_dim group) edges v k in omega (arith, most, part)),
+    λ passes. tuples_1 (Asks conditions.Mothers parts group candidates attrs edges) n (λ v below. subst (λ m. m ≤ 1) (count_last n (n - 1) dim (λ e. e.mother.0) (into v) (λ e. e.daughter.0 == v) (λ e. refl) edges last within) (passes v below (n - 1) (omega (arith, some)))),
+    λ kept v below k behind. (let most : mothers on v ≤ 1 = kept (v ∷ []) (below, tt) in let part = count_part n k dim (λ e. e.mother.0) (into v) (λ e. e.daughter.0 == v) (λ e. refl) edges in omega (arith, most, part)),
   )
 
   pub pair_tests : EachPair group.truths n (label_count parts (first_dim group)) (PassesAt parts group candidates attrs edges) one_label ↔ IsKept parts group candidates attrs edges conditions.Pair

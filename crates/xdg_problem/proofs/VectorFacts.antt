@@ -101,18 +101,9 @@ length_vector parts a p h =
     (length-append a.attrs (map (presence a.edges) (places parts)) ∙ ap₂ (λ i j. i + j) h.attr_count (length-map (places parts) (presence a.edges)))
     ∙ sym (length_shape parts)
 
--- the edges of an analysis come back from its vector
-edges_back : (parts : Parts) (a : Analysis) → IsAnalysis parts a → edges_in parts (vector parts a) ≡ a.edges
-edges_back parts a h =
-    let es = entry_places parts.candidates a.entries in
-    let ps = map (presence a.edges) (places parts) in
-    let n = length parts.candidates in
-    let m = length (sizes parts) in
-    let d : drop n (es ++ (a.attrs ++ ps)) ≡ a.attrs ++ ps = drop_at es (a.attrs ++ ps) n (length_entry_places parts.candidates a.entries h.entries) in
-    let q : drop (n + m) (es ++ (a.attrs ++ ps)) ≡ ps = sym (drop-drop m n (es ++ (a.attrs ++ ps))) ∙ ap (drop m) d ∙ drop_at a.attrs ps m h.attr_count in
-    let ordered = rise_ordered a.edges h.rise in
-    let each = each_weaker (IsPlace parts) (λ e. Contains (places parts) e) a.edges (place_is parts) (recursion_from_All (IsPlace parts) a.edges h.places) in
-    ap (chosen (places parts)) q ∙ chosen_back (places parts) a.edges (places_ordered parts) ordered each
+-- the edges of an analysis stand at the places
+pub edges_placed : (parts : Parts) (a : Analysis) → IsAnalysis parts a → AllByRecursion (Contains (places parts)) a.edges
+edges_placed parts a h = each_weaker (IsPlace parts) (λ e. Contains (places parts) e) a.edges (place_is parts) (recursion_from_All (IsPlace parts) a.edges h.places)
 
 -- an analysis is the one that its vector stands for
 pub analysis_vector : (parts : Parts) (a : Analysis) → IsProblem parts → IsAnalysis parts a → analysis_of parts (vector parts a) ≡ a
@@ -122,10 +113,12 @@ analysis_vector parts a p h =
     let n = length parts.candidates in
     let m = length (sizes parts) in
     let d : drop n (es ++ (a.attrs ++ ps)) ≡ a.attrs ++ ps = drop_at es (a.attrs ++ ps) n (length_entry_places parts.candidates a.entries h.entries) in
+    let q : drop (n + m) (es ++ (a.attrs ++ ps)) ≡ ps = sym (drop-drop m n (es ++ (a.attrs ++ ps))) ∙ ap (drop m) d ∙ drop_at a.attrs ps m h.attr_count in
+    let g : edges_in parts (vector parts a) ≡ a.edges = ap (chosen (places parts)) q ∙ chosen_back (places parts) a.edges (places_ordered parts) (rise_ordered a.edges h.rise) (edges_placed parts a h) in
     let t : take m (drop n (vector parts a)) ≡ a.attrs = ap (take m) d ∙ take_at a.attrs ps m h.attr_count in
     let e : entries_at parts.candidates (vector parts a) ≡ a.entries = entry_places_back parts.candidates a.entries (a.attrs ++ ps) h.entries in
     ap (λ (z : List EntryNo). made z (take m (drop n (vector parts a))) (edges_in parts (vector parts a))) e
     ∙ ap (λ (z : List ℕ). made a.entries z (edges_in parts (vector parts a))) t
-    ∙ ap (λ (z : List Edge). made a.entries a.attrs z) (edges_back parts a h) where
+    ∙ ap (λ (z : List Edge). made a.entries a.attrs z) g where
       made : List EntryNo → List ℕ → List Edge → Analysis
       made entries attrs edges = record { entries = entries; attrs = attrs; edges = edges }

@@ -1,5 +1,5 @@
 -- A principle use has one verdict: its relation holds, or one condition and one tuple are the first that break it.
-use Rattle.std.proofs.Common.{◌≡◌, ℕ, ◌<◌, ◌⊎◌, inl, inr, List, [], ◌∷◌, length, refl, sym, ap, ◌∙◌, subst, arith, zero, suc}
+use Rattle.std.proofs.Common.{◌≡◌, ℕ, ◌<◌, ◌⊎◌, inl, inr, List, [], ◌∷◌, length, refl, sym, ap, ◌∙◌, subst, arith, zero, suc, map}
 use Rattle.std.specs.Prelude.{slice_index_or}
 use Rattle.std.proofs.lemmas.Bool.{cases_eq, cases_order}
 use Rattle.std.proofs.lemmas.List.{get_or_default}
@@ -11,10 +11,8 @@ use Rattle.xdg_problem.specs.declared.conditions.Condition.{Condition}
 use Rattle.xdg_problem.specs.declared.conditions.Condition.TheVariants as conditions
 use Rattle.xdg_problem.specs.declared.parts.Group.{Group}
 use Rattle.xdg_problem.specs.declared.parts.Parts.{Parts}
-use Rattle.xdg_problem.specs.Places.{nodes}
 use Rattle.xdg_problem.specs.Vectors.{entry_places}
-use Rattle.xdg_problem.specs.Arguments.{first_dim, label_count}
-use Rattle.xdg_problem.specs.Conditions.{conditions_of, AreBelow, root_count, IsTuple}
+use Rattle.xdg_problem.specs.Conditions.{conditions_of, AreBelow, root_count, items_of, item_count, IsTuple}
 use Rattle.xdg_problem.specs.Asking.{Asks}
 use Rattle.xdg_problem.specs.Relations.{IsKept, Relation, Breaks, IsFirstBroken}
 use Rattle.xdg_problem.proofs.Deciding.{Decided}
@@ -83,35 +81,18 @@ module _ (parts : Parts) (group : Group) (candidates attrs : List ℕ) (edges : 
   kept_of : (condition : Condition) → ((tuple : List ℕ) → IsTuple condition parts group edges tuple → (Here condition tuple → ⊥) → ⊥) → IsKept parts group candidates attrs edges condition
   kept_of condition none tuple is = elim (decided_here condition tuple) [ inl asks ↦ asks | inr fails ↦ absurd (none tuple is fails) ]
 
-  search_in : (sizes : List ℕ) (condition : Condition) → ((tuple : List ℕ) → AreBelow sizes tuple → (Here condition tuple → ⊥) → ⊥) ⊎ Least sizes (λ tuple. Here condition tuple → ⊥)
-  search_in sizes condition = least_tuple sizes (λ tuple. Here condition tuple → ⊥) (λ tuple. decided_not (Here condition tuple) (decided_here condition tuple))
+  -- a condition of one tuple
+  only_one : (condition : Condition) (only : List ℕ) → ((tuple : List ℕ) → tuple ≡ only → (Here condition tuple → ⊥) → ⊥) ⊎ ((tuple : List ℕ) × (tuple ≡ only) × (Here condition tuple → ⊥) × ((other : List ℕ) → other ≡ only → (Here condition other → ⊥) → AtMost tuple other))
+  only_one condition only = elim (decided_here condition only) [
+    | inl asks ↦ inl (λ tuple is fails. fails (subst (Here condition) (sym is) asks))
+    | inr fails ↦ inr (only, refl, fails, λ other is q. inl (sym is))
+  ]
 
   none_or_least : (condition : Condition) → ((tuple : List ℕ) → IsTuple condition parts group edges tuple → (Here condition tuple → ⊥) → ⊥) ⊎ LeastBroken condition
-  none_or_least conditions.Cycle = search_in (nodes parts ∷ []) conditions.Cycle
-  none_or_least conditions.Roots = elim (decided_here conditions.Roots (root_count parts group edges ∷ [])) [
-    | inl asks ↦ inl (λ tuple is fails. fails (subst (Here conditions.Roots) (sym is) asks))
-    | inr fails ↦ inr (root_count parts group edges ∷ [], refl, fails, λ other is q. inl (sym is))
-  ]
-  none_or_least conditions.Rule = elim (decided_here conditions.Rule []) [
-    | inl asks ↦ inl (λ tuple is fails. fails asks)
-    | inr fails ↦ inr ([], refl, fails, λ other is q. inl (sym is))
-  ]
-  none_or_least conditions.Bound = elim (decided_here conditions.Bound []) [
-    | inl asks ↦ inl (λ tuple is fails. fails asks)
-    | inr fails ↦ inr ([], refl, fails, λ other is q. inl (sym is))
-  ]
-  none_or_least conditions.Mothers = search_in (nodes parts ∷ []) conditions.Mothers
-  none_or_least conditions.Pair = search_in (nodes parts ∷ nodes parts ∷ []) conditions.Pair
-  none_or_least conditions.InCount = search_in (nodes parts ∷ label_count parts (first_dim group) ∷ []) conditions.InCount
-  none_or_least conditions.OutCount = search_in (nodes parts ∷ label_count parts (first_dim group) ∷ []) conditions.OutCount
-  none_or_least conditions.Order = search_in (nodes parts ∷ nodes parts ∷ nodes parts ∷ []) conditions.Order
-  none_or_least conditions.Between = search_in (nodes parts ∷ nodes parts ∷ nodes parts ∷ []) conditions.Between
-  none_or_least conditions.Agr = search_in (nodes parts ∷ []) conditions.Agr
-  none_or_least conditions.Agree = search_in (nodes parts ∷ label_count parts (first_dim group) ∷ nodes parts ∷ []) conditions.Agree
-  none_or_least conditions.Govern = search_in (nodes parts ∷ label_count parts (first_dim group) ∷ nodes parts ∷ []) conditions.Govern
-  none_or_least conditions.Below = search_in (nodes parts ∷ nodes parts ∷ []) conditions.Below
-  none_or_least conditions.Blocked = search_in (nodes parts ∷ nodes parts ∷ []) conditions.Blocked
-  none_or_least conditions.Link = search_in (nodes parts ∷ label_count parts (first_dim group) ∷ nodes parts ∷ []) conditions.Link
+  none_or_least conditions.Roots = only_one conditions.Roots (root_count parts group edges ∷ [])
+  none_or_least conditions.Rule = only_one conditions.Rule []
+  none_or_least conditions.Bound = only_one conditions.Bound []
+  none_or_least condition = least_tuple (map (item_count parts group) (items_of condition)) (λ tuple. Here condition tuple → ⊥) (λ tuple. decided_not (Here condition tuple) (decided_here condition tuple))
 
   decided_broken : (condition : Condition) → Decided (LeastBroken condition)
   decided_broken condition = elim (none_or_least condition) [ inl none ↦ inr (λ least. none least.0 least.1 least.2) | inr least ↦ inl least ]

@@ -2,7 +2,7 @@
 use Rattle.std.proofs.Common.{◌≡◌, ℕ, ◌<◌, ◌⊎◌, inl, inr, refl, arith, List, [], ◌∷◌, ◌++◌, length, length-append, sym, subst}
 use Rattle.std.specs.List.{Any}
 use Rattle.std.specs.Prelude.{All, Contains}
-use Rattle.std.proofs.lemmas.List.Elements.{All-nil, All-cons, All-head, All-tail, All-append}
+use Rattle.std.proofs.lemmas.List.Elements.{All-weaker, All-nil, All-cons, All-head, All-tail, All-append}
 use Rattle.xdg_problem.specs.declared.analysis.Edge.{Edge}
 use Rattle.xdg_problem.specs.Paths.{Leads, Above, AboveByLast}
 
@@ -16,6 +16,15 @@ above_trans edges u v w a b = record {
   some = (let h = a.some in omega (arith, h, length-append a.path b.path));
   along = All-append (Contains edges) a.path b.path a.along b.along;
   leads = leads_append a.path b.path u v w a.leads b.leads;
+}
+
+-- a path along some of the edges is one along all of them
+pub above_more : (few many : List Edge) → ((e : Edge) → Contains few e → Contains many e) → (u v : ℕ) → Above few u v → Above many u v
+above_more few many among u v above = record {
+  path = above.path;
+  some = above.some;
+  along = All-weaker (Contains few) (Contains many) among above.path above.along;
+  leads = above.leads;
 }
 
 pub above_edge : (edges : List Edge) (e : Edge) → Contains edges e → Above edges e.mother.0 e.daughter.0

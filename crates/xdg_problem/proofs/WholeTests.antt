@@ -1,8 +1,8 @@
 -- A whole vector is live exactly where its analysis satisfies each principle use.
-use Rattle.std.proofs.Common.{◌≡◌, ℕ, ◌<◌, ◌≤◌, ◌-◌, ◌↔◌, false, List, [], ◌∷◌, length, drop, map, refl, sym, ap, ap₂, ◌∙◌, subst, arith, Option, Some, None}
+use Rattle.std.proofs.Common.{◌≡◌, ℕ, ◌<◌, ◌≤◌, ◌-◌, ◌↔◌, false, List, [], length, drop, map, refl, sym, ap, ◌∙◌, subst, arith, Option, Some, None}
 use Rattle.std.specs.Prelude.{All, slice_index}
 use Rattle.std.proofs.lemmas.List.{drop_all, get_or-take, get_or-drop}
-use Rattle.std.proofs.lemmas.List.Elements.{All-nil, All-head, All-tail, All-weaker}
+use Rattle.std.proofs.lemmas.List.Elements.{All-nil, All-weaker}
 use Rattle.xdg_facts.specs.Fits.{Fits}
 use Rattle.xdg_problem.specs.declared.analysis.Edge.{Edge}
 use Rattle.xdg_problem.specs.declared.parts.Group.{Group}
@@ -15,6 +15,7 @@ use Rattle.xdg_problem.specs.Relations.{Relation}
 use Rattle.xdg_problem.specs.Problems.{IsProblem, IsGroup}
 use Rattle.xdg_problem.specs.Tests.{Test, IsTest, looks_at, entry_node, test_attrs}
 use Rattle.xdg_problem.specs.Live.{open_places, EntryStands, entry_in, AttrStands, attr_in, Stands, Holds, IsLiveFor, Live}
+use Rattle.xdg_problem.proofs.Ordered.{map_alike}
 use Rattle.xdg_problem.proofs.VectorFacts.{length_shape, entries_back, analysis_fits}
 use Rattle.xdg_problem.proofs.Shortening.{passes_like}
 use Rattle.xdg_problem.proofs.Passing.{PassesAt}
@@ -31,13 +32,10 @@ entry_like n None x candidates same is = refl
 entry_like n (Some node) x candidates same is = same node is
 
 attrs_like : (parts : Parts) (x places : List ℕ) → All (λ place. place < length (attr_sizes (nodes parts) parts.dims)) places → map (attr_in parts x) places ≡ map (slice_index (analysis_of parts x).attrs) places
-attrs_like parts x [] within = refl
-attrs_like parts x (place ∷ places) within =
+attrs_like parts x places within =
     let m : ℕ = length (attr_sizes (nodes parts) parts.dims) in
-    let here : place < m = All-head (λ place. place < m) place places within in
-    ap₂ (λ z zs. z ∷ zs)
-    (sym (get_or-take m (drop (length parts.candidates) x) place 0 here ∙ get_or-drop (length parts.candidates) x place 0))
-    (attrs_like parts x places (All-tail (λ place. place < m) place places within))
+    map_alike (attr_in parts x) (slice_index (analysis_of parts x).attrs) places (All-weaker (λ place. place < m) (λ place. attr_in parts x place ≡ slice_index (analysis_of parts x).attrs place)
+    (λ place here. sym (get_or-take m (drop (length parts.candidates) x) place 0 here ∙ get_or-drop (length parts.candidates) x place 0)) places within)
 
 module _ (parts : Parts) (x : List ℕ) (is : IsProblem parts) (fits : Fits (shape parts) x) (whole : length x ≡ length (shape parts)) where
   edges_placed : All (IsPlace parts) (edges_in parts x)

@@ -7,6 +7,7 @@ use crate::parts::Group;
 use xdg_base::{AttrId, DimId};
 
 /// The dimension that a dimension argument names. It is 0 where the principle use has no such argument.
+#[tactic(auto, using(xdg_facts::proofs::Lookups::read_none))]
 pub fn dim_of(group: &Group, argument: usize) -> DimId
     ensures { result.0 ≡ dim_of group.now argument }
 {
@@ -17,6 +18,7 @@ pub fn dim_of(group: &Group, argument: usize) -> DimId
 }
 
 /// The attribute that an attribute argument names. It is 0 where the principle use has no such argument.
+#[tactic(auto, using(xdg_facts::proofs::Lookups::read_none))]
 pub fn attr_of(group: &Group, argument: usize) -> AttrId
     ensures { result.0 ≡ attr_of group.now argument }
 {
@@ -27,6 +29,7 @@ pub fn attr_of(group: &Group, argument: usize) -> AttrId
 }
 
 /// A truth value. It is false where the principle use has no such argument.
+#[tactic(auto, using(xdg_facts::proofs::Lookups::read_none))]
 pub fn truth_of(group: &Group, argument: usize) -> bool
     ensures { result ≡ truth_of group.now.truths argument }
 {

@@ -36,6 +36,7 @@ pub fn verdict_laws()
 
 /// A law, and nothing to run: the branches of a problem are problems, whose analyses, solutions and order are those of the problem for
 /// the candidate that the first node has alone; and the lists of their solutions, one branch after another, are the problem's list.
+#[tactic(auto, using(crate::proofs::BranchesJoined::branches_join))]
 pub fn branch_laws()
     ensures each { (parts : Parts) (place : ℕ) → IsProblem parts → place < length (first_candidates parts) → BranchLaws parts place }
     ensures join { (parts : Parts) → IsProblem parts → BranchesJoin parts }

@@ -1,9 +1,5 @@
 use Rattle.xdg_problem.proofs.BranchSolutions.{branch_laws}
-use Rattle.xdg_problem.proofs.BranchesJoined.{branches_join}
 use Rattle.xdg_problem.proofs.laws.branch_laws.Goals as goal
 
 pub returns-clause-each : goal.returns-clause-each
 returns-clause-each c = branch_laws
-
-pub returns-clause-join : goal.returns-clause-join
-returns-clause-join c = branches_join
