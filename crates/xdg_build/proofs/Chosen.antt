@@ -4,7 +4,7 @@ use Rattle.std.proofs.lemmas.Option.{get_or_from_slice_get, slice_get_within}
 use Rattle.std.specs.Prelude.{slice_get}
 use Rattle.xdg_ast.specs.declared.names.Name.{Name}
 use Rattle.xdg_ast.specs.Grammar.{Term}
-use Rattle.xdg_domain.specs.Shapes.{Shape, domain, tuple, set, iset, truth, integer, text, card, valency, mapping, fields, shape, IsSmall, IsType}
+use Rattle.xdg_domain.specs.Shapes.{Shape, domain, tuple, set, iset, text, fields, shape, IsSmall, IsType}
 use Rattle.xdg_domain.specs.declared.types.Ty.{Ty}
 use Rattle.xdg_packed.specs.Lexicon.{Lexicon}
 use Rattle.xdg_problem.specs.declared.parts.Parts.{Parts}
@@ -34,13 +34,7 @@ member_small (domain cs) of h type = subst IsSmall (some_same (domain cs) of h) 
 member_small (tuple ss) of h type = subst IsSmall (some_same (tuple ss) of h) type
 member_small (set s) of h type = subst IsSmall (some_same s of h) type
 member_small (iset s) of h type = subst IsSmall (some_same s of h) type
-member_small truth of h type = absurd (cc)
-member_small integer of h type = absurd (cc)
-member_small text of h type = absurd (cc)
-member_small card of h type = absurd (cc)
-member_small (valency k) of h type = absurd (cc)
-member_small (mapping k u) of h type = absurd (cc)
-member_small (fields fs) of h type = absurd (cc)
+member_small other of h type = absurd (cc)
 
 -- the type of members, as it was found
 pub members_found : (s of found : Shape) → member_shape s ≡ Some of → (member_shape s ≢ None → member_shape s ≡ Some found) → of ≡ found

@@ -6,12 +6,11 @@ use Rattle.std.proofs.lemmas.List.{length-map, take_all, take_more}
 use Rattle.std.proofs.lemmas.Result.{IfOk-weaker}
 use Rattle.xdg_base.specs.declared.places.Span.{Span}
 use Rattle.xdg_ast.specs.declared.names.Name.{Name}
-use Rattle.xdg_ast.specs.Grammar.{Term}
 use Rattle.xdg_packed.specs.Lexicon.{Lexicon}
 use Rattle.xdg_problem.specs.declared.formula.Formula.{Formula}
 use Rattle.xdg_problem.specs.declared.formula.Formula.TheVariants as y
 use Rattle.xdg_problem.specs.declared.parts.Parts.{Parts}
-use Rattle.xdg_problem.specs.Claims.{claim, claims_of}
+use Rattle.xdg_problem.specs.Claims.{claim, claims_of, Claim}
 use Rattle.xdg_problem.specs.Truths.{unbound}
 use Rattle.xdg_problem.proofs.Claimed.{claim_not, claim_and, claim_or, claim_every, claim_any, claim_left, claim_same}
 use Rattle.xdg_terms.specs.Built.{or_zero}
@@ -23,68 +22,35 @@ use Rattle.xdg_formula.specs.declared.tree.Rule.{Rule}
 use Rattle.xdg_formula.specs.declared.tree.RuleKind.{RuleKind}
 use Rattle.xdg_formula.specs.declared.tree.RuleKind.TheVariants as r
 use Rattle.xdg_formula.specs.Rules.{RuleTerm}
-use Rattle.xdg_formula.specs.Written as w
 use Rattle.xdg_formula.specs.Written.{Tree, tree, trees_of}
-use Rattle.xdg_formula.proofs.Treed.{treed, tree_or, tree_and, tree_not, tree_every, tree_any, tree_edge, tree_above, tree_left, tree_same, tree_attr, tree_feat}
-use Rattle.xdg_build.specs.Formulas.{formula_in, formulas_in, formulas_of, place_of, signed}
+use Rattle.xdg_formula.proofs.Treed.{treed, tree_or, tree_and, tree_not, tree_every, tree_any, tree_left, tree_same}
+use Rattle.xdg_build.specs.Formulas.{formula_in, formulas_in, formulas_of, signed}
 use Rattle.xdg_build.specs.Places.{IsPlaceOf}
 use Rattle.xdg_build.specs.Right.{IsRight}
 use Rattle.xdg_build.specs.Says.{Compiles, IsMade, KeepsEach, Says}
 use Rattle.xdg_build.specs.Signs.{denies}
 use Rattle.xdg_build.proofs.AtomLaws.{says_left, says_same}
 use Rattle.xdg_build.proofs.FormulaLaws.{SaysEach, says_none, says_then, says_conjunction, says_disjunction, says_even, says_odd, says_every, says_any}
-use Rattle.xdg_build.proofs.Rightly.{AreNodes, IsBindingRight, not_right, every_right, any_right, left_right, same_right, part_right}
+use Rattle.xdg_build.proofs.Rightly.{IsBindingRight, part_right}
 use Rattle.xdg_facts.proofs.Lists.{zip_more as zip_behind}
 use Rattle.xdg_names.specs.Texts.{has_text}
 
 -- ---- nothing is wrong with what stands inside
 
-module _ (dims : List DimType) (scope : List (List ℕ)) (kind : RuleKind) (right : IsRight dims scope (tree kind)) where
-  right_by : (form : RuleKind) (t : Tree) → kind ≡ form → tree form ≡ t → IsRight dims scope t
-  right_by form t is trees = subst (IsRight dims scope) trees (subst (λ k. IsRight dims scope (tree k)) is right)
+module _ (dims : List DimType) (scope : List (List ℕ)) where
+  -- of the form that it has
+  pub right_by : (kind form : RuleKind) (t : Tree) → IsRight dims scope (tree kind) → kind ≡ form → tree form ≡ t → IsRight dims scope t
+  right_by kind form t right is trees = subst (IsRight dims scope) trees (subst (λ k. IsRight dims scope (tree k)) is right)
 
-  pub inside_or : (members items : List RuleTerm) (i : ℕ) (term : RuleTerm) → kind ≡ r.Or members → items ≡ members → i < length items → term ≡ get_or items i term → IsRight dims scope (tree term.kind)
-  inside_or members items i term is same l stands =
-      part_right dims scope items i term (subst (λ ms. faults_each dims scope (trees_of (map treed ms)) ≡ []) (sym same) (right_by (r.Or members) (w.disjunction (trees_of (map treed members))) is (tree_or members)).1) l stands
+  pub inside_each : (members items : List RuleTerm) (i : ℕ) (term : RuleTerm) → faults_each dims scope (trees_of (map treed members)) ≡ [] → items ≡ members → i < length items → term ≡ get_or items i term
+      → IsRight dims scope (tree term.kind)
+  inside_each members items i term none same = part_right dims scope items i term (subst (λ ms. faults_each dims scope (trees_of (map treed ms)) ≡ []) (sym same) none)
 
-  pub inside_and : (members items : List RuleTerm) (i : ℕ) (term : RuleTerm) → kind ≡ r.And members → items ≡ members → i < length items → term ≡ get_or items i term → IsRight dims scope (tree term.kind)
-  inside_and members items i term is same l stands =
-      part_right dims scope items i term (subst (λ ms. faults_each dims scope (trees_of (map treed ms)) ≡ []) (sym same) (right_by (r.And members) (w.conjunction (trees_of (map treed members))) is (tree_and members)).1) l stands
+-- what stands inside, as far as it is looked at
+pub inside_at : (dims : List DimType) (scope inner : List (List ℕ)) (body item : RuleTerm) → IsRight dims scope (tree body.kind) → item ≡ body → inner ≡ scope → IsRight dims inner (tree item.kind)
+inside_at dims scope inner body item right same scoped =
+    subst (λ (names : List (List ℕ)). IsRight dims names (tree item.kind)) (sym scoped) (subst (λ (term : RuleTerm). IsRight dims scope (tree term.kind)) (sym same) right)
 
-  pub inside_not : (signs : List Span) (body item : RuleTerm) → kind ≡ r.Not signs body → item ≡ body → IsRight dims scope (tree item.kind)
-  inside_not signs body item is same =
-      subst (λ (term : RuleTerm). IsRight dims scope (tree term.kind)) (sym same) (not_right dims scope (length signs) body.span.start (tree body.kind) (right_by (r.Not signs body) (w.negation (length signs) body.span.start (tree body.kind)) is (tree_not signs body)))
-
-  pub inside_every : (name : Name) (body : RuleTerm) → kind ≡ r.Every name body → IsBindingRight dims scope name (tree body.kind)
-  inside_every name body is = every_right dims scope name body.span.start (tree body.kind) (right_by (r.Every name body) (w.every name body.span.start (tree body.kind)) is (tree_every name body))
-
-  pub inside_any : (name : Name) (body : RuleTerm) → kind ≡ r.Any name body → IsBindingRight dims scope name (tree body.kind)
-  inside_any name body is = any_right dims scope name body.span.start (tree body.kind) (right_by (r.Any name body) (w.any name body.span.start (tree body.kind)) is (tree_any name body))
-
-  pub nodes_left : (one other : Name) → kind ≡ r.Left one other → AreNodes scope one other
-  nodes_left one other is = left_right dims scope one other (right_by (r.Left one other) (w.left one other) is (tree_left one other))
-
-  pub nodes_same : (one other : Name) → kind ≡ r.Same one other → AreNodes scope one other
-  nodes_same one other is = same_right dims scope one other (right_by (r.Same one other) (w.same one other) is (tree_same one other))
-
-  pub right_edge : (dim mother label daughter : Name) → kind ≡ r.Edge dim mother label daughter → IsRight dims scope (w.edge dim mother label daughter)
-  right_edge dim mother label daughter is = right_by (r.Edge dim mother label daughter) (w.edge dim mother label daughter) is (tree_edge dim mother label daughter)
-
-  pub right_above : (dim upper lower : Name) → kind ≡ r.Above dim upper lower → IsRight dims scope (w.above dim upper lower)
-  right_above dim upper lower is = right_by (r.Above dim upper lower) (w.above dim upper lower) is (tree_above dim upper lower)
-
-  pub right_attr : (node dim attribute : Name) (value : Term) → kind ≡ r.Attr node dim attribute value → IsRight dims scope (w.attr node dim attribute value)
-  right_attr node dim attribute value is = right_by (r.Attr node dim attribute value) (w.attr node dim attribute value) is (tree_attr node dim attribute value)
-
-  pub right_feat : (node dim feature : Name) (value : Term) → kind ≡ r.Feat node dim feature value → IsRight dims scope (w.feat node dim feature value)
-  right_feat node dim feature value is = right_by (r.Feat node dim feature value) (w.feat node dim feature value) is (tree_feat node dim feature value)
-
--- what is bound inside a quantifier, as far as it is looked at
-pub inside_bound : (dims : List DimType) (scope inner : List (List ℕ)) (name : Name) (body item : RuleTerm) → IsBindingRight dims scope name (tree body.kind) → item ≡ body → inner ≡ scope ++ name.text ∷ [] → IsRight dims inner (tree item.kind)
-inside_bound dims scope inner name body item right same scoped =
-    subst (λ (names : List (List ℕ)). IsRight dims names (tree item.kind)) (sym scoped) (subst (λ (term : RuleTerm). IsRight dims (scope ++ name.text ∷ []) (tree term.kind)) (sym same) right.inside)
-
--- so many names are bound inside
 pub deeper : {A : Type 0} (text : A → List ℕ) (dims : List DimType) (bound inner : List A) (name : Name) (t : Tree) → IsBindingRight dims (map text bound) name t → length bound ≤ 3 → map text inner ≡ map text bound ++ name.text ∷ [] → length inner ≤ 3
 deeper text dims bound inner name t right few scoped =
     let long : length (map text inner) ≡ length (map text bound ++ name.text ∷ []) = ap length scoped in
@@ -111,35 +77,34 @@ module _ (table : Table) (lexicon : Lexicon) (parts : Parts) where
 
   says_each : (scope : List (List ℕ)) (terms : List RuleTerm) (made : List Formula) → AreMade scope terms made → SaysEach table lexicon parts scope (trees_of (map treed terms)) (claims_of (map claim made))
   says_each scope [] [] are = says_none table lexicon parts scope
-  says_each scope [] (f ∷ made) are = absurd are
-  says_each scope (term ∷ terms) [] are = absurd are
   says_each scope (term ∷ terms) (f ∷ made) are = says_then table lexicon parts scope term.span.start (tree term.kind) (trees_of (map treed terms)) (claim f) (claims_of (map claim made)) are.0.says (says_each scope terms made are.1)
+  says_each scope _ _ are = absurd are
 
   each_is : (scope : List (List ℕ)) (terms : List RuleTerm) (made : List Formula) → AreMade scope terms made → made ≡ formulas_in table lexicon parts scope (trees_of (map treed terms))
   each_is scope [] [] are = refl
-  each_is scope [] (f ∷ made) are = absurd are
-  each_is scope (term ∷ terms) [] are = absurd are
   each_is scope (term ∷ terms) (f ∷ made) are = ap₂ (λ (one : Formula) (more : List Formula). one ∷ more) are.0.is (each_is scope terms made are.1)
+  each_is scope _ _ are = absurd are
 
   module _ (scope : List (List ℕ)) (kind : RuleKind) where
     pub made_by : (form : RuleKind) (t : Tree) (f : Formula) → kind ≡ form → tree form ≡ t → IsMade table lexicon parts scope t f → IsMade table lexicon parts scope (tree kind) f
     made_by form t f is trees made = subst (λ k. IsMade table lexicon parts scope (tree k) f) (sym is) (subst (λ u. IsMade table lexicon parts scope u f) (sym trees) made)
 
+    made_as : (form : RuleKind) (t : Tree) (f : Formula) (c : Claim) → kind ≡ form → tree form ≡ t → claim f ≡ c → Says table lexicon parts scope t c → f ≡ formula_in table lexicon parts scope t
+        → IsMade table lexicon parts scope (tree kind) f
+    made_as form t f c is trees claimed says same = made_by form t f is trees (record { says = subst (Says table lexicon parts scope t) (sym claimed) says; is = same })
+
+    made_all : (members items : List RuleTerm) (i : ℕ) (made : List Formula) → items ≡ members → length items ≤ i → AreMade scope (take i items) made → AreMade scope members made
+    made_all members items i made same over = subst (λ ts. AreMade scope ts made) (take_all i items over ∙ same)
+
     pub made_or : (members items : List RuleTerm) (i : ℕ) (made : List Formula) → kind ≡ r.Or members → items ≡ members → length items ≤ i → AreMade scope (take i items) made → IsMade table lexicon parts scope (tree kind) (y.Or made)
     made_or members items i made is same over are =
-        let all : AreMade scope members made = subst (λ ts. AreMade scope ts made) (take_all i items over ∙ same) are in
-        made_by (r.Or members) (w.disjunction (trees_of (map treed members))) (y.Or made) is (tree_or members) (record {
-          says = subst (Says table lexicon parts scope (w.disjunction (trees_of (map treed members)))) (sym (claim_or made)) (says_disjunction table lexicon parts scope _ _ (says_each scope members made all));
-          is = ap y.Or (each_is scope members made all);
-        })
+        let all = made_all members items i made same over are in
+        made_as _ _ (y.Or made) _ is (tree_or members) (claim_or made) (says_disjunction table lexicon parts scope _ _ (says_each scope members made all)) (ap y.Or (each_is scope members made all))
 
     pub made_and : (members items : List RuleTerm) (i : ℕ) (made : List Formula) → kind ≡ r.And members → items ≡ members → length items ≤ i → AreMade scope (take i items) made → IsMade table lexicon parts scope (tree kind) (y.And made)
     made_and members items i made is same over are =
-        let all : AreMade scope members made = subst (λ ts. AreMade scope ts made) (take_all i items over ∙ same) are in
-        made_by (r.And members) (w.conjunction (trees_of (map treed members))) (y.And made) is (tree_and members) (record {
-          says = subst (Says table lexicon parts scope (w.conjunction (trees_of (map treed members)))) (sym (claim_and made)) (says_conjunction table lexicon parts scope _ _ (says_each scope members made all));
-          is = ap y.And (each_is scope members made all);
-        })
+        let all = made_all members items i made same over are in
+        made_as _ _ (y.And made) _ is (tree_and members) (claim_and made) (says_conjunction table lexicon parts scope _ _ (says_each scope members made all)) (ap y.And (each_is scope members made all))
 
     -- a formula inside, as it was read
     inside : (body item : RuleTerm) (names inner : List (List ℕ)) (made boxed : Formula) → item ≡ body → inner ≡ names → boxed ≡ made → IsMade table lexicon parts inner (tree item.kind) made → IsMade table lexicon parts names (tree body.kind) boxed
@@ -150,63 +115,38 @@ module _ (table : Table) (lexicon : Lexicon) (parts : Parts) where
     pub made_even : (signs : List Span) (body item : RuleTerm) (made : Formula) → kind ≡ r.Not signs body → item ≡ body → denies (length signs) ≡ false → IsMade table lexicon parts scope (tree item.kind) made → IsMade table lexicon parts scope (tree kind) made
     made_even signs body item made is same even made_inside =
         let own = inside body item scope scope made made same refl refl made_inside in
-        made_by (r.Not signs body) (w.negation (length signs) body.span.start (tree body.kind)) made is (tree_not signs body) (record {
-          says = says_even table lexicon parts scope (length signs) body.span.start (tree body.kind) (claim made) even own.says;
-          is = own.is ∙ ap (λ b. signed b (formula_in table lexicon parts scope (tree body.kind))) (sym even);
-        })
+        made_as _ _ made _ is (tree_not signs body) refl (says_even table lexicon parts scope (length signs) body.span.start (tree body.kind) (claim made) even own.says)
+        (own.is ∙ ap (λ b. signed b (formula_in table lexicon parts scope (tree body.kind))) (sym even))
 
     pub made_odd : (signs : List Span) (body item : RuleTerm) (made boxed : Formula) → kind ≡ r.Not signs body → item ≡ body → denies (length signs) ≡ true → boxed ≡ made → IsMade table lexicon parts scope (tree item.kind) made → IsMade table lexicon parts scope (tree kind) (y.Not boxed)
     made_odd signs body item made boxed is same odd put made_inside =
         let own = inside body item scope scope made boxed same refl put made_inside in
-        made_by (r.Not signs body) (w.negation (length signs) body.span.start (tree body.kind)) (y.Not boxed) is (tree_not signs body) (record {
-          says = subst (Says table lexicon parts scope (w.negation (length signs) body.span.start (tree body.kind))) (sym (claim_not boxed)) (says_odd table lexicon parts scope (length signs) body.span.start (tree body.kind) (claim boxed) odd own.says);
-          is = ap y.Not own.is ∙ ap (λ b. signed b (formula_in table lexicon parts scope (tree body.kind))) (sym odd);
-        })
+        made_as _ _ (y.Not boxed) _ is (tree_not signs body) (claim_not boxed) (says_odd table lexicon parts scope (length signs) body.span.start (tree body.kind) (claim boxed) odd own.says)
+        (ap y.Not own.is ∙ ap (λ b. signed b (formula_in table lexicon parts scope (tree body.kind))) (sym odd))
 
     pub made_every : (inner : List (List ℕ)) (name : Name) (body item : RuleTerm) (made boxed : Formula) (n : ℕ) → kind ≡ r.Every name body → item ≡ body → inner ≡ scope ++ name.text ∷ [] → has_text scope name.text ≡ false → n ≡ length scope → boxed ≡ made
         → IsMade table lexicon parts inner (tree item.kind) made → IsMade table lexicon parts scope (tree kind) (y.Every n boxed)
     made_every inner name body item made boxed n is same scoped fresh number put made_inside =
         let own = inside body item (scope ++ name.text ∷ []) inner made boxed same scoped put made_inside in
-        made_by (r.Every name body) (w.every name body.span.start (tree body.kind)) (y.Every n boxed) is (tree_every name body) (record {
-          says = subst (Says table lexicon parts scope (w.every name body.span.start (tree body.kind))) (sym (claim_every n boxed)) (says_every table lexicon parts scope name fresh body.span.start (tree body.kind) (claim boxed) n number own.says);
-          is = ap (λ k. y.Every k boxed) number ∙ ap (y.Every (length scope)) own.is;
-        })
+        made_as _ _ (y.Every n boxed) _ is (tree_every name body) (claim_every n boxed) (says_every table lexicon parts scope name fresh body.span.start (tree body.kind) (claim boxed) n number own.says)
+        (ap (λ k. y.Every k boxed) number ∙ ap (y.Every (length scope)) own.is)
 
     pub made_any : (inner : List (List ℕ)) (name : Name) (body item : RuleTerm) (made boxed : Formula) (n : ℕ) → kind ≡ r.Any name body → item ≡ body → inner ≡ scope ++ name.text ∷ [] → has_text scope name.text ≡ false → n ≡ length scope → boxed ≡ made
         → IsMade table lexicon parts inner (tree item.kind) made → IsMade table lexicon parts scope (tree kind) (y.Any n boxed)
     made_any inner name body item made boxed n is same scoped fresh number put made_inside =
         let own = inside body item (scope ++ name.text ∷ []) inner made boxed same scoped put made_inside in
-        made_by (r.Any name body) (w.any name body.span.start (tree body.kind)) (y.Any n boxed) is (tree_any name body) (record {
-          says = subst (Says table lexicon parts scope (w.any name body.span.start (tree body.kind))) (sym (claim_any n boxed)) (says_any table lexicon parts scope name fresh body.span.start (tree body.kind) (claim boxed) n number own.says);
-          is = ap (λ k. y.Any k boxed) number ∙ ap (y.Any (length scope)) own.is;
-        })
+        made_as _ _ (y.Any n boxed) _ is (tree_any name body) (claim_any n boxed) (says_any table lexicon parts scope name fresh body.span.start (tree body.kind) (claim boxed) n number own.says)
+        (ap (λ k. y.Any k boxed) number ∙ ap (y.Any (length scope)) own.is)
 
     pub made_left : (one other : Name) (m n : ℕ) → kind ≡ r.Left one other → IsPlaceOf scope one.text m → IsPlaceOf scope other.text n → IsMade table lexicon parts scope (tree kind) (y.Left m n)
     made_left one other m n is first second =
-        made_by (r.Left one other) (w.left one other) (y.Left m n) is (tree_left one other) (record {
-          says = subst (Says table lexicon parts scope (w.left one other)) (sym (claim_left m n)) (says_left table lexicon parts scope one other m n (at_place scope one.text m first) (at_place scope other.text n second));
-          is = ap (λ k. y.Left k n) (sym (ap or_zero first)) ∙ ap (y.Left (place_of scope one.text)) (sym (ap or_zero second));
-        })
+        made_as _ _ (y.Left m n) _ is (tree_left one other) (claim_left m n) (says_left table lexicon parts scope one other m n (at_place scope one.text m first) (at_place scope other.text n second))
+        (ap₂ y.Left (sym (ap or_zero first)) (sym (ap or_zero second)))
 
     pub made_same : (one other : Name) (m n : ℕ) → kind ≡ r.Same one other → IsPlaceOf scope one.text m → IsPlaceOf scope other.text n → IsMade table lexicon parts scope (tree kind) (y.Same m n)
     made_same one other m n is first second =
-        made_by (r.Same one other) (w.same one other) (y.Same m n) is (tree_same one other) (record {
-          says = subst (Says table lexicon parts scope (w.same one other)) (sym (claim_same m n)) (says_same table lexicon parts scope one other m n (at_place scope one.text m first) (at_place scope other.text n second));
-          is = ap (λ k. y.Same k n) (sym (ap or_zero first)) ∙ ap (y.Same (place_of scope one.text)) (sym (ap or_zero second));
-        })
-
-    -- atoms in which something is named are made on their own
-    pub made_edge : (dim mother label daughter : Name) (f : Formula) → kind ≡ r.Edge dim mother label daughter → IsMade table lexicon parts scope (w.edge dim mother label daughter) f → IsMade table lexicon parts scope (tree kind) f
-    made_edge dim mother label daughter f is made = made_by (r.Edge dim mother label daughter) (w.edge dim mother label daughter) f is (tree_edge dim mother label daughter) made
-
-    pub made_above : (dim upper lower : Name) (f : Formula) → kind ≡ r.Above dim upper lower → IsMade table lexicon parts scope (w.above dim upper lower) f → IsMade table lexicon parts scope (tree kind) f
-    made_above dim upper lower f is made = made_by (r.Above dim upper lower) (w.above dim upper lower) f is (tree_above dim upper lower) made
-
-    pub made_attr : {E : Type 0} (node dim attribute : Name) (value : Term) (result : Result Formula E) → kind ≡ r.Attr node dim attribute value → IfOk result (λ f. IsMade table lexicon parts scope (w.attr node dim attribute value) f) → IfOk result (λ f. IsMade table lexicon parts scope (tree kind) f)
-    made_attr node dim attribute value result is made = IfOk-weaker result (λ f. IsMade table lexicon parts scope (w.attr node dim attribute value) f) (λ f. IsMade table lexicon parts scope (tree kind) f) (λ f. made_by (r.Attr node dim attribute value) (w.attr node dim attribute value) f is (tree_attr node dim attribute value)) made
-
-    pub made_feat : {E : Type 0} (node dim feature : Name) (value : Term) (result : Result Formula E) → kind ≡ r.Feat node dim feature value → IfOk result (λ f. IsMade table lexicon parts scope (w.feat node dim feature value) f) → IfOk result (λ f. IsMade table lexicon parts scope (tree kind) f)
-    made_feat node dim feature value result is made = IfOk-weaker result (λ f. IsMade table lexicon parts scope (w.feat node dim feature value) f) (λ f. IsMade table lexicon parts scope (tree kind) f) (λ f. made_by (r.Feat node dim feature value) (w.feat node dim feature value) f is (tree_feat node dim feature value)) made
+        made_as _ _ (y.Same m n) _ is (tree_same one other) (claim_same m n) (says_same table lexicon parts scope one other m n (at_place scope one.text m first) (at_place scope other.text n second))
+        (ap₂ y.Same (sym (ap or_zero first)) (sym (ap or_zero second)))
 
   -- ---- rules
 
@@ -224,12 +164,10 @@ module _ (table : Table) (lexicon : Lexicon) (parts : Parts) where
 
   pub keeps_all : (rules : List Rule) (made : List Formula) → AllZip (Compiles table lexicon parts) rules made → KeepsEach table lexicon parts rules made
   keeps_all [] [] are = tt
-  keeps_all [] (f ∷ made) are = absurd are
-  keeps_all (rule ∷ rules) [] are = absurd are
   keeps_all (rule ∷ rules) (f ∷ made) are = (are.0.keeps, keeps_all rules made are.1)
+  keeps_all _ _ are = absurd are
 
   pub all_are : (rules : List Rule) (made : List Formula) → AllZip (Compiles table lexicon parts) rules made → made ≡ formulas_of table lexicon parts rules
   all_are [] [] are = refl
-  all_are [] (f ∷ made) are = absurd are
-  all_are (rule ∷ rules) [] are = absurd are
   all_are (rule ∷ rules) (f ∷ made) are = ap₂ (λ (one : Formula) (more : List Formula). one ∷ more) are.0.is (all_are rules made are.1)
+  all_are _ _ are = absurd are

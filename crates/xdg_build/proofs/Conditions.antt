@@ -14,7 +14,7 @@ use Rattle.xdg_problem.specs.Arguments.{first_dim, second_dim, label_count, orde
 use Rattle.xdg_problem.specs.Asking.{IsBetween, IsInItem, IsLinked, AsksLink, Asks}
 use Rattle.xdg_problem.specs.Conditions.{AreBelow}
 use Rattle.xdg_problem.specs.Features.{in_row, out_row, set_row, map_row}
-use Rattle.xdg_problem.specs.Paths.{edges_on, edges_into, edges_out_of, edges_joining, mothers, roots, IsDaughter, IsDaughterBy, IsDaughterByAny, Above, AboveByFirst, AboveByLast}
+use Rattle.xdg_problem.specs.Paths.{edges_on, edges_into, edges_out_of, edges_joining, mothers, roots, IsDaughterBy, IsDaughterByAny, Above, AboveByFirst, AboveByLast}
 use Rattle.xdg_problem.specs.Places.{nodes}
 use Rattle.xdg_problem.specs.Relations.{IsKept}
 use Rattle.xdg_problem.proofs.Tuples.{tuples_1, tuples_2, tuples_3}
@@ -137,175 +137,113 @@ module _ (parts : Parts) (group : Group) (candidates attrs : List ℕ) (edges : 
   abbrev pub candidate : ℕ → ℕ
   candidate v = slice_index candidates v
 
-  pub cycle_same : ((v : ℕ) → v < n → Above on_first v v → ⊥) ↔ Kept conditions.Cycle
-  cycle_same = singles_within (Asks conditions.Cycle parts group candidates attrs edges) (λ v. Above on_first v v → ⊥) n (λ v l. (λ p. p, λ p. p))
-
-  pub roots_same : (length (roots n on_first) ≡ 1) ↔ Kept conditions.Roots
-  roots_same = (λ one tuple is. ap (λ (t : List ℕ). get_or t 0 0) is ∙ one, λ kept. kept (length (roots n on_first) ∷ []) refl)
-
-  pub mothers_same : ((v : ℕ) → v < n → mothers on_first v ≤ 1) ↔ Kept conditions.Mothers
-  mothers_same = singles_within (Asks conditions.Mothers parts group candidates attrs edges) (λ v. mothers on_first v ≤ 1) n (λ v l. (λ p. p, λ p. p))
-
-  pub pair_same : ((x : ℕ) → x < n → (v : ℕ) → v < n → edges_joining on_first x v ≤ 1) ↔ Kept conditions.Pair
-  pair_same = pairs_within (Asks conditions.Pair parts group candidates attrs edges) (λ x v. edges_joining on_first x v ≤ 1) n n (λ x l v m. (λ p. p, λ p. p))
-
-  pub in_same : (Has : ℕ → ℕ → ℕ → Type 0) → ((v : ℕ) → v < n → (l : ℕ) → l < labels → (k : ℕ) → Has v l k ↔ Contains (in_row group v (candidate v) l) k)
-      → ((v : ℕ) → v < n → (l : ℕ) → l < labels → Has v l (edges_into on_first v l)) ↔ Kept conditions.InCount
-  in_same Has same = pairs_within (Asks conditions.InCount parts group candidates attrs edges) (λ v l. Has v l (edges_into on_first v l)) n labels (λ v x l y. same v x l y (edges_into on_first v l))
-
-  pub out_same : (Has : ℕ → ℕ → ℕ → Type 0) → ((v : ℕ) → v < n → (l : ℕ) → l < labels → (k : ℕ) → Has v l k ↔ Contains (out_row group v (candidate v) l) k)
-      → ((v : ℕ) → v < n → (l : ℕ) → l < labels → Has v l (edges_out_of on_first v l)) ↔ Kept conditions.OutCount
-  out_same Has same = pairs_within (Asks conditions.OutCount parts group candidates attrs edges) (λ v l. Has v l (edges_out_of on_first v l)) n labels (λ v x l y. same v x l y (edges_out_of on_first v l))
-
-  pub order_same : (Q : ℕ → ℕ → ℕ → Type 0)
-      → ((w : ℕ) → w < n → (x : ℕ) → x < n → (y : ℕ) → y < n → Q w x y ↔ AllPairs (λ l m. IsInItem on_first (truth_of group.truths 0 ≡ true) (value w 0) w l x → IsInItem on_first (truth_of group.truths 0 ≡ true) (value w 0) w m y → x < y) (order_of group))
-      → ((w : ℕ) → w < n → (x : ℕ) → x < n → (y : ℕ) → y < n → Q w x y) ↔ Kept conditions.Order
-  order_same Q same = triples_within (Asks conditions.Order parts group candidates attrs edges) Q n n n same
-
-  pub between_same : AreWithin n labels on_first → ((e : Edge) → Contains on_first e → (w : ℕ) → w < n → IsBetween e.mother.0 e.daughter.0 w → Above on_first e.mother.0 w) ↔ Kept conditions.Between
-  between_same within =
-      let C : ℕ → ℕ → ℕ → Type 0 = λ u v w. IsDaughter on_first u v → IsBetween u v w → Above on_first u w in (
-        λ h. tuples_3 (Asks conditions.Between parts group candidates attrs edges) n n n (λ u x v y w z d.
-            let e : Edge = d.1 in
-            subst (λ k. IsBetween u k w → Above on_first u w) d.4.1 (subst (λ k. IsBetween k e.daughter.0 w → Above on_first k w) d.4.0 (h e (d.0, d.2, d.3) w z))),
-        λ kept e is w z. kept (e.mother.0 ∷ e.daughter.0 ∷ w ∷ []) (within.mother e is, (within.daughter e is, (z, tt))) (is.0, e, is.1, is.2, (refl, refl)),
-      )
-
   pub agr_same : (Q : ℕ → Type 0) → ((v : ℕ) → v < n → Q v ↔ Contains (set_row group v (candidate v)) (value v 0)) → ((v : ℕ) → v < n → Q v) ↔ Kept conditions.Agr
   agr_same Q same = singles_within (Asks conditions.Agr parts group candidates attrs edges) Q n same
 
-  by_edges : (B : Edge → Type 0) (C : ℕ → ℕ → ℕ → Type 0) (condition : Condition) → AreWithin n labels on_first → ((e : Edge) → Contains on_first e → B e ↔ C e.mother.0 e.label.0 e.daughter.0)
-      → ((u : ℕ) → u < n → (l : ℕ) → l < labels → (v : ℕ) → v < n → IsDaughterBy on_first u l v → C u l v) ↔ Kept condition → ((e : Edge) → Contains on_first e → B e) ↔ Kept condition
-  by_edges B C condition within same kept =
-      let each = each_edge n labels on_first B C within same in
-      (λ h. kept.0 (each.0 h), λ k. each.1 (kept.1 k))
+  -- what is said of each condition, of the edges of both dimensions and of the number of labels
+  abbrev Says : Type 1
+  Says = List Edge → List Edge → ℕ → Type 0
 
-  pub agree_same : (B : Edge → Type 0) → AreWithin n labels on_first
-      → ((e : Edge) → Contains on_first e → B e ↔ (Contains (set_row group e.mother.0 (candidate e.mother.0)) e.label.0 → value e.mother.0 0 ≡ value e.daughter.0 1))
-      → ((e : Edge) → Contains on_first e → B e) ↔ Kept conditions.Agree
-  agree_same B within same =
-      let C : ℕ → ℕ → ℕ → Type 0 = λ u l v. Contains (set_row group u (candidate u)) l → value u 0 ≡ value v 1 in
-      by_edges B C conditions.Agree within same
-      (triples_within (Asks conditions.Agree parts group candidates attrs edges) (λ u l v. IsDaughterBy on_first u l v → C u l v) n labels n (λ u x l y v z. (λ p. p, λ p. p)))
+  abbrev SaysIn : (ℕ → ℕ → ℕ → Type 0) → Says
+  SaysIn Has E F b = ((v : ℕ) → v < n → (l : ℕ) → l < b → (k : ℕ) → Has v l k ↔ Contains (in_row group v (candidate v) l) k)
+      → ((v : ℕ) → v < n → (l : ℕ) → l < b → Has v l (edges_into E v l)) ↔ Kept conditions.InCount
 
-  pub govern_same : (B : Edge → Type 0) → AreWithin n labels on_first
-      → ((e : Edge) → Contains on_first e → B e ↔ (0 < length (map_row group e.mother.0 (candidate e.mother.0) e.label.0) → Contains (map_row group e.mother.0 (candidate e.mother.0) e.label.0) (value e.daughter.0 0)))
-      → ((e : Edge) → Contains on_first e → B e) ↔ Kept conditions.Govern
-  govern_same B within same =
-      let C : ℕ → ℕ → ℕ → Type 0 = λ u l v. 0 < length (map_row group u (candidate u) l) → Contains (map_row group u (candidate u) l) (value v 0) in
-      by_edges B C conditions.Govern within same
-      (triples_within (Asks conditions.Govern parts group candidates attrs edges) (λ u l v. IsDaughterBy on_first u l v → C u l v) n labels n (λ u x l y v z. (λ p. p, λ p. p)))
+  abbrev SaysOut : (ℕ → ℕ → ℕ → Type 0) → Says
+  SaysOut Has E F b = ((v : ℕ) → v < n → (l : ℕ) → l < b → (k : ℕ) → Has v l k ↔ Contains (out_row group v (candidate v) l) k)
+      → ((v : ℕ) → v < n → (l : ℕ) → l < b → Has v l (edges_out_of E v l)) ↔ Kept conditions.OutCount
 
-  pub below_same : ((x : ℕ) → x < n → (v : ℕ) → v < n → Above on_first x v → Above on_second x v) ↔ Kept conditions.Below
-  below_same = pairs_within (Asks conditions.Below parts group candidates attrs edges) (λ x v. Above on_first x v → Above on_second x v) n n (λ x l v m. (λ p. p, λ p. p))
+  abbrev InItem : List Edge → ℕ → ℕ → ℕ → Type 0
+  InItem E w l x = IsInItem E (truth_of group.truths 0 ≡ true) (value w 0) w l x
 
-  pub blocked_same : (P : ℕ → Edge → Type 0) → ((w : ℕ) → w < n → (f : Edge) → Contains on_second f → P w f ↔ Contains (set_row group w (candidate w)) f.label.0)
-      → ((w : ℕ) → w < n → (v : ℕ) → v < n → EndsBy on_second w (P w) v → Above on_first w v) ↔ Kept conditions.Blocked
-  blocked_same P same = pairs_within (Asks conditions.Blocked parts group candidates attrs edges) (λ w v. EndsBy on_second w (P w) v → Above on_first w v) n n (λ w l v m.
-      let ends = ends_same on_second (P w) (set_row group w (candidate w)) w v (same w l) in
-      (λ p h. p (ends.1 h), λ p h. p (ends.0 h)))
+  abbrev SaysOrder : (ℕ → ℕ → ℕ → Type 0) → Says
+  SaysOrder Q E F b = ((w : ℕ) → w < n → (x : ℕ) → x < n → (y : ℕ) → y < n → Q w x y ↔ AllPairs (λ l k. InItem E w l x → InItem E w k y → x < y) (order_of group))
+      → ((w : ℕ) → w < n → (x : ℕ) → x < n → (y : ℕ) → y < n → Q w x y) ↔ Kept conditions.Order
 
-  pub link_same : (q : Principle) (B : Edge → Type 0) → group.principle ≡ q → AreWithin n labels on_first
-      → ((e : Edge) → Contains on_first e → B e ↔ AsksLink q group (candidate e.mother.0) on_second e.mother.0 e.label.0 e.daughter.0)
-      → ((e : Edge) → Contains on_first e → B e) ↔ Kept conditions.Link
-  link_same q B is within same =
-      let C : ℕ → ℕ → ℕ → Type 0 = λ u l v. AsksLink q group (candidate u) on_second u l v in
-      by_edges B C conditions.Link within same
-      (triples_within (Asks conditions.Link parts group candidates attrs edges) (λ u l v. IsDaughterBy on_first u l v → C u l v) n labels n (λ u x l y v z. (
-        λ p d. subst (λ (r : Principle). AsksLink r group (candidate u) on_second u l v) (sym is) (p d),
-        λ p d. subst (λ (r : Principle). AsksLink r group (candidate u) on_second u l v) is (p d),
-      )))
+  -- of each edge
+  abbrev SaysEdges : (Edge → Type 0) → (List Edge → ℕ → ℕ → ℕ → Type 0) → Condition → Says
+  SaysEdges B C condition E F b = AreWithin n b E → ((e : Edge) → Contains E e → B e ↔ C F e.mother.0 e.label.0 e.daughter.0) → ((e : Edge) → Contains E e → B e) ↔ Kept condition
 
--- ---- the same with names for the edges and for the number of labels
+  abbrev AsksAgree : List Edge → ℕ → ℕ → ℕ → Type 0
+  AsksAgree F u l v = Contains (set_row group u (candidate u)) l → value u 0 ≡ value v 1
 
-module _ (parts : Parts) (group : Group) (candidates attrs : List ℕ) (edges : List Edge) (E1 E2 : List Edge) (L : ℕ) (one : edges_on (first_dim group) edges ≡ E1) (two : edges_on (second_dim group) edges ≡ E2) (many : label_count parts (first_dim group) ≡ L) where
-  abbrev m : ℕ
-  m = nodes parts
+  abbrev AsksGovern : List Edge → ℕ → ℕ → ℕ → Type 0
+  AsksGovern F u l v = 0 < length (map_row group u (candidate u) l) → Contains (map_row group u (candidate u) l) (value v 0)
 
-  abbrev C : Condition → Type 0
-  C condition = IsKept parts group candidates attrs edges condition
+  abbrev SaysBetween : Says
+  SaysBetween E F b = AreWithin n b E → ((e : Edge) → Contains E e → (w : ℕ) → w < n → IsBetween e.mother.0 e.daughter.0 w → Above E e.mother.0 w) ↔ Kept conditions.Between
 
-  abbrev val : ℕ → ℕ → ℕ
-  val v argument = slice_index attrs (attr_place parts (first_dim group) v (attr_of group argument))
+  abbrev SaysBlocked : (ℕ → Edge → Type 0) → Says
+  SaysBlocked P E F b = ((w : ℕ) → w < n → (f : Edge) → Contains F f → P w f ↔ Contains (set_row group w (candidate w)) f.label.0)
+      → ((w : ℕ) → w < n → (v : ℕ) → v < n → EndsBy F w (P w) v → Above E w v) ↔ Kept conditions.Blocked
 
-  abbrev can : ℕ → ℕ
-  can v = slice_index candidates v
+  -- with names for the edges and for the number of labels
+  module _ (E1 E2 : List Edge) (L : ℕ) (one : on_first ≡ E1) (two : on_second ≡ E2) (many : labels ≡ L) where
+    lend : (S : Says) → S on_first on_second labels → S E1 E2 L
+    lend S said = subst (S E1 E2) many (subst (λ (F : List Edge). S E1 F labels) two (subst (λ (E : List Edge). S E on_second labels) one said))
 
-  pub cycle_at : ((v : ℕ) → v < m → Above E1 v v → ⊥) ↔ C conditions.Cycle
-  cycle_at = subst (λ (E : List Edge). ((v : ℕ) → v < m → Above E v v → ⊥) ↔ C conditions.Cycle) one (cycle_same parts group candidates attrs edges)
+    pub cycle_at : ((v : ℕ) → v < n → Above E1 v v → ⊥) ↔ Kept conditions.Cycle
+    cycle_at = lend (λ E F b. ((v : ℕ) → v < n → Above E v v → ⊥) ↔ Kept conditions.Cycle)
+        (singles_within (Asks conditions.Cycle parts group candidates attrs edges) (λ v. Above on_first v v → ⊥) n (λ v l. (λ p. p, λ p. p)))
 
-  pub roots_at : (length (roots m E1) ≡ 1) ↔ C conditions.Roots
-  roots_at = subst (λ (E : List Edge). (length (roots m E) ≡ 1) ↔ C conditions.Roots) one (roots_same parts group candidates attrs edges)
+    pub roots_at : (length (roots n E1) ≡ 1) ↔ Kept conditions.Roots
+    roots_at = lend (λ E F b. (length (roots n E) ≡ 1) ↔ Kept conditions.Roots) (λ one tuple is. ap (λ (t : List ℕ). get_or t 0 0) is ∙ one, λ kept. kept (length (roots n on_first) ∷ []) refl)
 
-  pub mothers_at : ((v : ℕ) → v < m → mothers E1 v ≤ 1) ↔ C conditions.Mothers
-  mothers_at = subst (λ (E : List Edge). ((v : ℕ) → v < m → mothers E v ≤ 1) ↔ C conditions.Mothers) one (mothers_same parts group candidates attrs edges)
+    pub mothers_at : ((v : ℕ) → v < n → mothers E1 v ≤ 1) ↔ Kept conditions.Mothers
+    mothers_at = lend (λ E F b. ((v : ℕ) → v < n → mothers E v ≤ 1) ↔ Kept conditions.Mothers)
+        (singles_within (Asks conditions.Mothers parts group candidates attrs edges) (λ v. mothers on_first v ≤ 1) n (λ v l. (λ p. p, λ p. p)))
 
-  pub pair_at : ((x : ℕ) → x < m → (v : ℕ) → v < m → edges_joining E1 x v ≤ 1) ↔ C conditions.Pair
-  pair_at = subst (λ (E : List Edge). ((x : ℕ) → x < m → (v : ℕ) → v < m → edges_joining E x v ≤ 1) ↔ C conditions.Pair) one (pair_same parts group candidates attrs edges)
+    pub pair_at : ((x : ℕ) → x < n → (v : ℕ) → v < n → edges_joining E1 x v ≤ 1) ↔ Kept conditions.Pair
+    pair_at = lend (λ E F b. ((x : ℕ) → x < n → (v : ℕ) → v < n → edges_joining E x v ≤ 1) ↔ Kept conditions.Pair)
+        (pairs_within (Asks conditions.Pair parts group candidates attrs edges) (λ x v. edges_joining on_first x v ≤ 1) n n (λ x l v m. (λ p. p, λ p. p)))
 
-  pub in_at : (Has : ℕ → ℕ → ℕ → Type 0) → ((v : ℕ) → v < m → (l : ℕ) → l < L → (k : ℕ) → Has v l k ↔ Contains (in_row group v (can v) l) k)
-      → ((v : ℕ) → v < m → (l : ℕ) → l < L → Has v l (edges_into E1 v l)) ↔ C conditions.InCount
-  in_at Has =
-      subst (λ (b : ℕ). ((v : ℕ) → v < m → (l : ℕ) → l < b → (k : ℕ) → Has v l k ↔ Contains (in_row group v (can v) l) k) → ((v : ℕ) → v < m → (l : ℕ) → l < b → Has v l (edges_into E1 v l)) ↔ C conditions.InCount) many
-      (subst (λ (E : List Edge). ((v : ℕ) → v < m → (l : ℕ) → l < label_count parts (first_dim group) → (k : ℕ) → Has v l k ↔ Contains (in_row group v (can v) l) k) → ((v : ℕ) → v < m → (l : ℕ) → l < label_count parts (first_dim group) → Has v l (edges_into E v l)) ↔ C conditions.InCount) one
-      (in_same parts group candidates attrs edges Has))
+    pub in_at : (Has : ℕ → ℕ → ℕ → Type 0) → SaysIn Has E1 E2 L
+    in_at Has = lend (SaysIn Has) (λ same. pairs_within (Asks conditions.InCount parts group candidates attrs edges) (λ v l. Has v l (edges_into on_first v l)) n labels (λ v x l y. same v x l y (edges_into on_first v l)))
 
-  pub out_at : (Has : ℕ → ℕ → ℕ → Type 0) → ((v : ℕ) → v < m → (l : ℕ) → l < L → (k : ℕ) → Has v l k ↔ Contains (out_row group v (can v) l) k)
-      → ((v : ℕ) → v < m → (l : ℕ) → l < L → Has v l (edges_out_of E1 v l)) ↔ C conditions.OutCount
-  out_at Has =
-      subst (λ (b : ℕ). ((v : ℕ) → v < m → (l : ℕ) → l < b → (k : ℕ) → Has v l k ↔ Contains (out_row group v (can v) l) k) → ((v : ℕ) → v < m → (l : ℕ) → l < b → Has v l (edges_out_of E1 v l)) ↔ C conditions.OutCount) many
-      (subst (λ (E : List Edge). ((v : ℕ) → v < m → (l : ℕ) → l < label_count parts (first_dim group) → (k : ℕ) → Has v l k ↔ Contains (out_row group v (can v) l) k) → ((v : ℕ) → v < m → (l : ℕ) → l < label_count parts (first_dim group) → Has v l (edges_out_of E v l)) ↔ C conditions.OutCount) one
-      (out_same parts group candidates attrs edges Has))
+    pub out_at : (Has : ℕ → ℕ → ℕ → Type 0) → SaysOut Has E1 E2 L
+    out_at Has = lend (SaysOut Has) (λ same. pairs_within (Asks conditions.OutCount parts group candidates attrs edges) (λ v l. Has v l (edges_out_of on_first v l)) n labels (λ v x l y. same v x l y (edges_out_of on_first v l)))
 
-  pub order_at : (Q : ℕ → ℕ → ℕ → Type 0)
-      → ((w : ℕ) → w < m → (x : ℕ) → x < m → (y : ℕ) → y < m → Q w x y ↔ AllPairs (λ l k. IsInItem E1 (truth_of group.truths 0 ≡ true) (val w 0) w l x → IsInItem E1 (truth_of group.truths 0 ≡ true) (val w 0) w k y → x < y) (order_of group))
-      → ((w : ℕ) → w < m → (x : ℕ) → x < m → (y : ℕ) → y < m → Q w x y) ↔ C conditions.Order
-  order_at Q =
-      subst (λ (E : List Edge). ((w : ℕ) → w < m → (x : ℕ) → x < m → (y : ℕ) → y < m → Q w x y ↔ AllPairs (λ l k. IsInItem E (truth_of group.truths 0 ≡ true) (val w 0) w l x → IsInItem E (truth_of group.truths 0 ≡ true) (val w 0) w k y → x < y) (order_of group))
-      → ((w : ℕ) → w < m → (x : ℕ) → x < m → (y : ℕ) → y < m → Q w x y) ↔ C conditions.Order) one (order_same parts group candidates attrs edges Q)
+    pub order_at : (Q : ℕ → ℕ → ℕ → Type 0) → SaysOrder Q E1 E2 L
+    order_at Q = lend (SaysOrder Q) (triples_within (Asks conditions.Order parts group candidates attrs edges) Q n n n)
 
-  pub between_at : AreWithin m L E1 → ((e : Edge) → Contains E1 e → (w : ℕ) → w < m → IsBetween e.mother.0 e.daughter.0 w → Above E1 e.mother.0 w) ↔ C conditions.Between
-  between_at =
-      subst (λ (b : ℕ). AreWithin m b E1 → ((e : Edge) → Contains E1 e → (w : ℕ) → w < m → IsBetween e.mother.0 e.daughter.0 w → Above E1 e.mother.0 w) ↔ C conditions.Between) many
-      (subst (λ (E : List Edge). AreWithin m (label_count parts (first_dim group)) E → ((e : Edge) → Contains E e → (w : ℕ) → w < m → IsBetween e.mother.0 e.daughter.0 w → Above E e.mother.0 w) ↔ C conditions.Between) one
-      (between_same parts group candidates attrs edges))
+    pub between_at : SaysBetween E1 E2 L
+    between_at = lend SaysBetween (λ within. (
+      λ h. tuples_3 (Asks conditions.Between parts group candidates attrs edges) n n n (λ u x v y w z d.
+          let e : Edge = d.1 in
+          subst (λ k. IsBetween u k w → Above on_first u w) d.4.1 (subst (λ k. IsBetween k e.daughter.0 w → Above on_first k w) d.4.0 (h e (d.0, d.2, d.3) w z))),
+      λ kept e is w z. kept (e.mother.0 ∷ e.daughter.0 ∷ w ∷ []) (within.mother e is, (within.daughter e is, (z, tt))) (is.0, e, is.1, is.2, (refl, refl)),
+    ))
 
-  pub agree_at : (B : Edge → Type 0) → AreWithin m L E1
-      → ((e : Edge) → Contains E1 e → B e ↔ (Contains (set_row group e.mother.0 (can e.mother.0)) e.label.0 → val e.mother.0 0 ≡ val e.daughter.0 1))
-      → ((e : Edge) → Contains E1 e → B e) ↔ C conditions.Agree
-  agree_at B =
-      subst (λ (b : ℕ). AreWithin m b E1 → ((e : Edge) → Contains E1 e → B e ↔ (Contains (set_row group e.mother.0 (can e.mother.0)) e.label.0 → val e.mother.0 0 ≡ val e.daughter.0 1)) → ((e : Edge) → Contains E1 e → B e) ↔ C conditions.Agree) many
-      (subst (λ (E : List Edge). AreWithin m (label_count parts (first_dim group)) E → ((e : Edge) → Contains E e → B e ↔ (Contains (set_row group e.mother.0 (can e.mother.0)) e.label.0 → val e.mother.0 0 ≡ val e.daughter.0 1)) → ((e : Edge) → Contains E e → B e) ↔ C conditions.Agree) one
-      (agree_same parts group candidates attrs edges B))
+    -- of each edge by its numbers
+    edges_at : (B : Edge → Type 0) (C : List Edge → ℕ → ℕ → ℕ → Type 0) (condition : Condition)
+        → ((u : ℕ) → u < n → (l : ℕ) → l < labels → (v : ℕ) → v < n → IsDaughterBy on_first u l v → C on_second u l v) ↔ Kept condition → SaysEdges B C condition E1 E2 L
+    edges_at B C condition kept = lend (SaysEdges B C condition) (λ within same.
+        let each = each_edge n labels on_first B (C on_second) within same in
+        (λ h. kept.0 (each.0 h), λ k. each.1 (kept.1 k)))
 
-  pub govern_at : (B : Edge → Type 0) → AreWithin m L E1
-      → ((e : Edge) → Contains E1 e → B e ↔ (0 < length (map_row group e.mother.0 (can e.mother.0) e.label.0) → Contains (map_row group e.mother.0 (can e.mother.0) e.label.0) (val e.daughter.0 0)))
-      → ((e : Edge) → Contains E1 e → B e) ↔ C conditions.Govern
-  govern_at B =
-      subst (λ (b : ℕ). AreWithin m b E1 → ((e : Edge) → Contains E1 e → B e ↔ (0 < length (map_row group e.mother.0 (can e.mother.0) e.label.0) → Contains (map_row group e.mother.0 (can e.mother.0) e.label.0) (val e.daughter.0 0))) → ((e : Edge) → Contains E1 e → B e) ↔ C conditions.Govern) many
-      (subst (λ (E : List Edge). AreWithin m (label_count parts (first_dim group)) E → ((e : Edge) → Contains E e → B e ↔ (0 < length (map_row group e.mother.0 (can e.mother.0) e.label.0) → Contains (map_row group e.mother.0 (can e.mother.0) e.label.0) (val e.daughter.0 0))) → ((e : Edge) → Contains E e → B e) ↔ C conditions.Govern) one
-      (govern_same parts group candidates attrs edges B))
+    pub agree_at : (B : Edge → Type 0) → SaysEdges B AsksAgree conditions.Agree E1 E2 L
+    agree_at B = edges_at B AsksAgree conditions.Agree
+        (triples_within (Asks conditions.Agree parts group candidates attrs edges) (λ u l v. IsDaughterBy on_first u l v → AsksAgree on_second u l v) n labels n (λ u x l y v z. (λ p. p, λ p. p)))
 
-  pub below_at : ((x : ℕ) → x < m → (v : ℕ) → v < m → Above E1 x v → Above E2 x v) ↔ C conditions.Below
-  below_at =
-      subst (λ (F : List Edge). ((x : ℕ) → x < m → (v : ℕ) → v < m → Above E1 x v → Above F x v) ↔ C conditions.Below) two
-      (subst (λ (E : List Edge). ((x : ℕ) → x < m → (v : ℕ) → v < m → Above E x v → Above (edges_on (second_dim group) edges) x v) ↔ C conditions.Below) one (below_same parts group candidates attrs edges))
+    pub govern_at : (B : Edge → Type 0) → SaysEdges B AsksGovern conditions.Govern E1 E2 L
+    govern_at B = edges_at B AsksGovern conditions.Govern
+        (triples_within (Asks conditions.Govern parts group candidates attrs edges) (λ u l v. IsDaughterBy on_first u l v → AsksGovern on_second u l v) n labels n (λ u x l y v z. (λ p. p, λ p. p)))
 
-  pub blocked_at : (P : ℕ → Edge → Type 0) → ((w : ℕ) → w < m → (f : Edge) → Contains E2 f → P w f ↔ Contains (set_row group w (can w)) f.label.0)
-      → ((w : ℕ) → w < m → (v : ℕ) → v < m → EndsBy E2 w (P w) v → Above E1 w v) ↔ C conditions.Blocked
-  blocked_at P =
-      subst (λ (F : List Edge). ((w : ℕ) → w < m → (f : Edge) → Contains F f → P w f ↔ Contains (set_row group w (can w)) f.label.0) → ((w : ℕ) → w < m → (v : ℕ) → v < m → EndsBy F w (P w) v → Above E1 w v) ↔ C conditions.Blocked) two
-      (subst (λ (E : List Edge). ((w : ℕ) → w < m → (f : Edge) → Contains (edges_on (second_dim group) edges) f → P w f ↔ Contains (set_row group w (can w)) f.label.0) → ((w : ℕ) → w < m → (v : ℕ) → v < m → EndsBy (edges_on (second_dim group) edges) w (P w) v → Above E w v) ↔ C conditions.Blocked) one
-      (blocked_same parts group candidates attrs edges P))
+    pub link_at : (q : Principle) (B : Edge → Type 0) → group.principle ≡ q → SaysEdges B (λ F u l v. AsksLink q group (candidate u) F u l v) conditions.Link E1 E2 L
+    link_at q B is = edges_at B (λ F u l v. AsksLink q group (candidate u) F u l v) conditions.Link
+        (triples_within (Asks conditions.Link parts group candidates attrs edges) (λ u l v. IsDaughterBy on_first u l v → AsksLink q group (candidate u) on_second u l v) n labels n (λ u x l y v z. (
+          λ p d. subst (λ (r : Principle). AsksLink r group (candidate u) on_second u l v) (sym is) (p d),
+          λ p d. subst (λ (r : Principle). AsksLink r group (candidate u) on_second u l v) is (p d),
+        )))
 
-  pub link_at : (q : Principle) (B : Edge → Type 0) → group.principle ≡ q → AreWithin m L E1
-      → ((e : Edge) → Contains E1 e → B e ↔ AsksLink q group (can e.mother.0) E2 e.mother.0 e.label.0 e.daughter.0)
-      → ((e : Edge) → Contains E1 e → B e) ↔ C conditions.Link
-  link_at q B is =
-      subst (λ (F : List Edge). AreWithin m L E1 → ((e : Edge) → Contains E1 e → B e ↔ AsksLink q group (can e.mother.0) F e.mother.0 e.label.0 e.daughter.0) → ((e : Edge) → Contains E1 e → B e) ↔ C conditions.Link) two
-      (subst (λ (b : ℕ). AreWithin m b E1 → ((e : Edge) → Contains E1 e → B e ↔ AsksLink q group (can e.mother.0) (edges_on (second_dim group) edges) e.mother.0 e.label.0 e.daughter.0) → ((e : Edge) → Contains E1 e → B e) ↔ C conditions.Link) many
-      (subst (λ (E : List Edge). AreWithin m (label_count parts (first_dim group)) E → ((e : Edge) → Contains E e → B e ↔ AsksLink q group (can e.mother.0) (edges_on (second_dim group) edges) e.mother.0 e.label.0 e.daughter.0) → ((e : Edge) → Contains E e → B e) ↔ C conditions.Link) one
-      (link_same parts group candidates attrs edges q B is)))
+    pub below_at : ((x : ℕ) → x < n → (v : ℕ) → v < n → Above E1 x v → Above E2 x v) ↔ Kept conditions.Below
+    below_at = lend (λ E F b. ((x : ℕ) → x < n → (v : ℕ) → v < n → Above E x v → Above F x v) ↔ Kept conditions.Below)
+        (pairs_within (Asks conditions.Below parts group candidates attrs edges) (λ x v. Above on_first x v → Above on_second x v) n n (λ x l v m. (λ p. p, λ p. p)))
+
+    pub blocked_at : (P : ℕ → Edge → Type 0) → SaysBlocked P E1 E2 L
+    blocked_at P = lend (SaysBlocked P) (λ same.
+        pairs_within (Asks conditions.Blocked parts group candidates attrs edges) (λ w v. EndsBy on_second w (P w) v → Above on_first w v) n n (λ w l v m.
+        let ends = ends_same on_second (P w) (set_row group w (candidate w)) w v (same w l) in
+        (λ p h. p (ends.1 h), λ p h. p (ends.0 h))))
 
 -- ---- linking
 

@@ -24,7 +24,6 @@ module _ {A : Type 0} (F : EntryNo → List A) where
   pub of_entries : (candidates : List (List EntryNo)) (entries : List EntryNo) → HasCandidates candidates entries → (u : ℕ)
       → slice_index_or (slice_index_or (map (map F) candidates) u []) (slice_index (entry_places candidates entries) u) [] ≡ slice_index_or (map F entries) u []
   of_entries [] [] h u = refl
-  of_entries [] (entry ∷ entries) h u = absurd h
-  of_entries (numbers ∷ more) [] h u = absurd h
   of_entries (numbers ∷ more) (entry ∷ entries) h zero = at_its_place numbers entry h.0
   of_entries (numbers ∷ more) (entry ∷ entries) h (suc u) = of_entries more entries h.1 u
+  of_entries _ _ h u = absurd h

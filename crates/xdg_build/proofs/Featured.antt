@@ -2,7 +2,7 @@
 use Rattle.std.proofs.Common.{◌≡◌, ◌↔◌, ℕ, ◌<◌, true, List, refl, sym, ap, ◌∙◌, subst}
 use Rattle.std.specs.Prelude.{◌==◌, Option, None, Some, MatchOption, slice_get}
 use Rattle.std.proofs.lemmas.Bool.{eqb-true, eq-eqb, false≢true}
-use Rattle.xdg_domain.specs.Shapes.{Shape, domain, tuple, set, iset, truth, integer, text, card, valency, mapping, fields, fields_of, count, IsType, IsSmall}
+use Rattle.xdg_domain.specs.Shapes.{Shape, domain, tuple, set, iset, fields, fields_of, count, IsType, IsSmall}
 use Rattle.xdg_domain.specs.Valencies.{said_at}
 use Rattle.xdg_domain.specs.Values.{IsIn, IsFieldOf, AllBelow}
 use Rattle.xdg_domain.specs.declared.values.Value.{Value, out-Value}
@@ -57,13 +57,7 @@ value_says (iset s) of (Value-F.Set ns) n texts h type is within said =
     let same : s ≡ of = some_same s of h in
     set_says s ns n texts type is.1 (subst (λ t. n < count t) (sym same) within) (ap (λ t. value_texts t n) same ∙ said)
 value_says (iset s) of _ n texts h type is within said = absurd is
-value_says truth of v n texts h type is within said = absurd (cc)
-value_says integer of v n texts h type is within said = absurd (cc)
-value_says text of v n texts h type is within said = absurd (cc)
-value_says card of v n texts h type is within said = absurd (cc)
-value_says (valency k) of v n texts h type is within said = absurd (cc)
-value_says (mapping k u) of v n texts h type is within said = absurd (cc)
-value_says (fields fs) of v n texts h type is within said = absurd (cc)
+value_says other of v n texts h type is within said = absurd (cc)
 
 -- the same of what may be said
 pub said_says : (s of : Shape) (said : Option Value) (n : ℕ) (texts : List (List ℕ)) → member_shape s ≡ Some of → IsType s → ((v : Value) → said ≡ Some v → IsIn s (out-Value v)) → n < count of → value_texts of n ≡ texts

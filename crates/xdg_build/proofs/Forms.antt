@@ -1,9 +1,8 @@
 -- The nineteen principles with what the table of principles says of them. A rule and a bound stand in no table.
-use Rattle.std.proofs.Common.{◌≡◌, inl, inr, ℕ, ◌+◌, ◌<◌, List, [], ◌∷◌, refl, sym, ap, ◌∙◌, arith}
+use Rattle.std.proofs.Common.{◌≡◌, inl, inr, ℕ, ◌+◌, ◌<◌, List, [], ◌∷◌, refl, sym, ap, ◌∙◌, arith, rules}
 use Rattle.std.specs.Prelude.{None, Some, bytes_eq, if◌then◌else◌, length, flat_map}
 use Rattle.std.proofs.lemmas.Bool.{cases_Bool}
 use Rattle.std.proofs.lemmas.Slice.Eq.{bytes_eq-Decides}
-use Rattle.xdg_problem.specs.declared.parts.Linking.TheVariants as linkings
 use Rattle.xdg_problem.specs.declared.parts.Principle.{Principle}
 use Rattle.xdg_problem.specs.declared.parts.Principle.TheVariants as principles
 use Rattle.xdg_problem.specs.Names.{IsOfTexts}
@@ -32,12 +31,6 @@ use Rattle.xdg_problem.specs.Principles.{name_of, dim_arguments, attr_arguments,
 -- ---- what each principle has
 
 abbrev pub form_of : Principle → Form
-form_of principles.Graph = has d.One None None None
-form_of (principles.Rule formula) = has d.One None None None
-form_of (principles.Bound costs bound) = has d.One None None None
-form_of principles.Entries = has d.One None None None
-form_of principles.Tree = has d.One None None None
-form_of principles.Projectivity = has d.One None None None
 form_of principles.Dag = has d.One (flag k.Connected) (flag k.DisjointDaughters) None
 form_of principles.Valency = has d.One (counted k.In preset.In) (counted k.Out preset.Out) None
 form_of principles.Order = has d.One (required k.Order (a.Labels w.First)) (attribute k.On (e.Labels w.First)) (flag k.Yields)
@@ -53,30 +46,13 @@ form_of principles.LinkingBelowStart = linking labels_to_labels
 form_of principles.LinkingAboveStart = linking labels_to_labels
 form_of principles.LinkingSisters = linking labels_to_labels
 form_of principles.LinkingNotDaughter = linking (t.Set (e.Labels w.First))
+form_of _ = has d.One None None None
 
 pub form-name_of : (p : Principle) → IsOfTexts p → principle_named (name_of p) ≡ Some (form_of p)
 unfolding principle_named
-form-name_of principles.Graph of = refl
-form-name_of principles.Entries of = refl
-form-name_of principles.Tree of = refl
-form-name_of principles.Projectivity of = refl
-form-name_of principles.Dag of = refl
-form-name_of principles.Valency of = refl
-form-name_of principles.Order of = refl
-form-name_of principles.Agr of = refl
-form-name_of principles.Agreement of = refl
-form-name_of principles.Government of = refl
-form-name_of principles.Climbing of = refl
-form-name_of principles.Barriers of = refl
-form-name_of principles.LinkingEnd of = refl
-form-name_of principles.LinkingDaughter of = refl
-form-name_of principles.LinkingMother of = refl
-form-name_of principles.LinkingBelowStart of = refl
-form-name_of principles.LinkingAboveStart of = refl
-form-name_of principles.LinkingSisters of = refl
-form-name_of principles.LinkingNotDaughter of = refl
 form-name_of (principles.Rule formula) of = absurd of
 form-name_of (principles.Bound costs bound) of = absurd of
+form-name_of principle of = refl
 
 none_some : (form : Form) → None ≡ Some form → ⊥
 none_some form h = cc
@@ -106,12 +82,11 @@ Matches _ _ = ⊥
 
 found : (name : List ℕ) (ps : List Principle) (rows : List Row) (form : Form) → Matches ps rows → row_named name rows ≡ Some form → (p : Principle) × (name ≡ name_of p)
 found name [] [] form m h = absurd cc
-found name [] (row ∷ rows) form m h = absurd m
-found name (p ∷ ps) [] form m h = absurd m
 found name (p ∷ ps) (row ∷ rows) form m h = elim (cases_Bool (bytes_eq name row.0)) [
   | inl q ↦ (p, (bytes_eq-Decides name row.0).0 q ∙ sym m.0)
   | inr q ↦ found name ps rows form m.1 (sym (ap (λ b. if b then Some row.1 else row_named name rows) q) ∙ h)
 ]
+found name _ _ form m h = absurd m
 
 matches : Matches in_table table.principles
 unfolding in_table
@@ -193,23 +168,11 @@ AreOf which (one ∷ more) = (one.0 ≡ which) × AreOf which more
 
 pub features_of_which : (p : Principle) → AreOf (feature_which p) (feature_typings p)
 features_of_which principles.Graph = tt
-features_of_which (principles.Rule formula) = tt
-features_of_which (principles.Bound costs bound) = tt
-features_of_which principles.Entries = tt
-features_of_which principles.Tree = tt
-features_of_which principles.Projectivity = tt
-features_of_which principles.Dag = tt
-features_of_which principles.Valency = (refl, (refl, tt))
-features_of_which principles.Order = tt
-features_of_which principles.Climbing = tt
-features_of_which principle = (refl, tt)
+features_of_which principle = search rules
 
 pub attrs_of_first : (p : Principle) → AreOf w.First (attr_typings p)
-attrs_of_first principles.Order = (refl, tt)
-attrs_of_first principles.Agr = (refl, tt)
-attrs_of_first principles.Agreement = (refl, (refl, tt))
-attrs_of_first principles.Government = (refl, tt)
-attrs_of_first principle = tt
+attrs_of_first principles.Graph = tt
+attrs_of_first principle = search rules
 
 -- each of its dimensions is one of those that it has
 pub which_within : (p : Principle) → feature_dim p < length (dims_in (form_of p).dims)

@@ -1,5 +1,5 @@
 -- The labels that the argument of order lists.
-use Rattle.std.proofs.Common.{◌≡◌, ℕ, zero, suc, ◌<◌, List, [], ◌∷◌, ◌++◌, length, map, refl, sym, ap, ◌∙◌, subst, arith}
+use Rattle.std.proofs.Common.{◌≡◌, ℕ, zero, suc, ◌<◌, List, [], ◌∷◌, ◌++◌, length, map, refl, sym, ap, ◌∙◌, subst, arith, rules}
 use Rattle.std.specs.Prelude.{All, AllPairs, ◌≢◌, flat_map}
 use Rattle.std.proofs.lemmas.List.{append-nil}
 use Rattle.xdg_base.specs.declared.ids.LabelId.{LabelId}
@@ -79,18 +79,4 @@ listed table u shared (g.Truth b ∷ xs) h = absurd h.0
 
 pub order_right : (p : Principle) (table : Table) (u : PrincipleUse) (shared : Shape) (xs : List Arg) → AreTypedArgs table u shared (parameters (form_of p)) xs → IsOrderFor p (length (labels_at table u w.First)) (flat_map labels_in xs)
 order_right principles.Order table u shared xs h = listed table u shared xs h
-order_right principles.Graph table u shared xs h = unlisted table u shared (parameters (form_of principles.Graph)) xs tt h
-order_right (principles.Rule formula) table u shared xs h = unlisted table u shared (parameters (form_of principles.Graph)) xs tt h
-order_right (principles.Bound costs bound) table u shared xs h = unlisted table u shared (parameters (form_of principles.Graph)) xs tt h
-order_right principles.Entries table u shared xs h = unlisted table u shared (parameters (form_of principles.Entries)) xs tt h
-order_right principles.Tree table u shared xs h = unlisted table u shared (parameters (form_of principles.Tree)) xs tt h
-order_right principles.Projectivity table u shared xs h = unlisted table u shared (parameters (form_of principles.Projectivity)) xs tt h
-order_right principles.Dag table u shared xs h = unlisted table u shared (parameters (form_of principles.Dag)) xs (tt, (tt, tt)) h
-order_right principles.Valency table u shared xs h = unlisted table u shared (parameters (form_of principles.Valency)) xs (tt, (tt, tt)) h
-order_right principles.Agr table u shared xs h = unlisted table u shared (parameters (form_of principles.Agr)) xs (tt, (tt, tt)) h
-order_right principles.Agreement table u shared xs h = unlisted table u shared (parameters (form_of principles.Agreement)) xs (tt, (tt, (tt, tt))) h
-order_right principles.Government table u shared xs h = unlisted table u shared (parameters (form_of principles.Government)) xs (tt, (tt, tt)) h
-order_right principles.Climbing table u shared xs h = unlisted table u shared (parameters (form_of principles.Climbing)) xs tt h
-order_right principles.Barriers table u shared xs h = unlisted table u shared (parameters (form_of principles.Barriers)) xs (tt, tt) h
-order_right principles.LinkingNotDaughter table u shared xs h = unlisted table u shared (parameters (form_of principles.LinkingNotDaughter)) xs (tt, tt) h
-order_right p table u shared xs h = unlisted table u shared (parameters (form_of p)) xs (tt, tt) h
+order_right p table u shared xs h = unlisted table u shared (parameters (form_of p)) xs (search rules) h

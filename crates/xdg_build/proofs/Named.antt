@@ -41,9 +41,8 @@ AreMembers table u shared sort _ _ = ⊥
 
 both_members : (table : Table) (u : PrincipleUse) (shared : Shape) (sort : Sort) (ts us : List (Which × Typing)) (ks ls : List ℕ) → AreMembers table u shared sort ts ks → AreMembers table u shared sort us ls → AreMembers table u shared sort (ts ++ us) (ks ++ ls)
 both_members table u shared sort [] us [] ls h i = i
-both_members table u shared sort [] us (k ∷ ks) ls h i = absurd h
-both_members table u shared sort (t ∷ ts) us [] ls h i = absurd h
 both_members table u shared sort (t ∷ ts) us (k ∷ ks) ls h i = (h.0, both_members table u shared sort ts us ks ls h.1 i)
+both_members table u shared sort _ us _ ls h i = absurd h
 
 one_members : (table : Table) (u : PrincipleUse) (shared : Shape) (sort : Sort) (wanted : Wanted) (x : Arg) → IsTypedArg table u shared wanted x → AreMembers table u shared sort (typings sort wanted) (numbers sort x)
 one_members table u shared s.Feature (a.Member s.Feature which typing) (g.Feature k) h = (h, tt)
@@ -58,17 +57,15 @@ one_members table u shared _ _ _ h = absurd h
 
 pub all_members : (table : Table) (u : PrincipleUse) (shared : Shape) (sort : Sort) (ps : List Parameter) (xs : List Arg) → AreTypedArgs table u shared ps xs → AreMembers table u shared sort (all_typings sort ps) (flat_map (numbers sort) xs)
 all_members table u shared sort [] [] h = tt
-all_members table u shared sort [] (x ∷ xs) h = absurd h
-all_members table u shared sort (p ∷ ps) [] h = absurd h
 all_members table u shared sort (p ∷ ps) (x ∷ xs) h =
     both_members table u shared sort (typings sort p.wanted) (all_typings sort ps) (numbers sort x) (flat_map (numbers sort) xs)
     (one_members table u shared sort p.wanted x h.0) (all_members table u shared sort ps xs h.1)
+all_members table u shared sort _ _ h = absurd h
 
 pub as_many_members : (table : Table) (u : PrincipleUse) (shared : Shape) (sort : Sort) (ts : List (Which × Typing)) (ks : List ℕ) → AreMembers table u shared sort ts ks → length ks ≡ length ts
 as_many_members table u shared sort [] [] h = refl
-as_many_members table u shared sort [] (k ∷ ks) h = absurd h
-as_many_members table u shared sort (t ∷ ts) [] h = absurd h
 as_many_members table u shared sort (t ∷ ts) (k ∷ ks) h = omega (arith, as_many_members table u shared sort ts ks h.1)
+as_many_members table u shared sort _ _ h = absurd h
 
 -- ---- as groups have them
 
@@ -104,11 +101,10 @@ one_truths table u shared _ _ h = absurd h
 
 pub all_truths : (table : Table) (u : PrincipleUse) (shared : Shape) (ps : List Parameter) (xs : List Arg) → AreTypedArgs table u shared ps xs → length (flat_map truths_in xs) ≡ truths_in_all ps
 all_truths table u shared [] [] h = refl
-all_truths table u shared [] (x ∷ xs) h = absurd h
-all_truths table u shared (p ∷ ps) [] h = absurd h
 all_truths table u shared (p ∷ ps) (x ∷ xs) h =
     length-append (truths_in x) (flat_map truths_in xs) ∙ ap (λ n. n + length (flat_map truths_in xs)) (one_truths table u shared p.wanted x h.0)
     ∙ ap (λ n. truths_wanted_by p.wanted + n) (all_truths table u shared ps xs h.1)
+all_truths table u shared _ _ h = absurd h
 
 -- ---- labels
 
@@ -130,10 +126,9 @@ one_unlisted table u shared _ _ q h = absurd h
 
 pub unlisted : (table : Table) (u : PrincipleUse) (shared : Shape) (ps : List Parameter) (xs : List Arg) → NoLabels ps → AreTypedArgs table u shared ps xs → flat_map labels_in xs ≡ []
 unlisted table u shared [] [] q h = refl
-unlisted table u shared [] (x ∷ xs) q h = absurd h
-unlisted table u shared (p ∷ ps) [] q h = absurd h
 unlisted table u shared (p ∷ ps) (x ∷ xs) q h =
     ap (λ ks. ks ++ flat_map labels_in xs) (one_unlisted table u shared p.wanted x q.0 h.0) ∙ unlisted table u shared ps xs q.1 h.1
+unlisted table u shared _ _ q h = absurd h
 
 -- ---- attributes have small places
 
@@ -161,9 +156,8 @@ small_arg table u shared _ (g.Attr k) keeps h = absurd h
 
 small_all : (table : Table) (u : PrincipleUse) (shared : Shape) (ps : List Parameter) (xs : List Arg) → KeepDims table.dims → AreTypedArgs table u shared ps xs → All IsSmallArg xs
 small_all table u shared [] [] keeps h = all_none IsSmallArg
-small_all table u shared [] (x ∷ xs) keeps h = absurd h
-small_all table u shared (p ∷ ps) [] keeps h = absurd h
 small_all table u shared (p ∷ ps) (x ∷ xs) keeps h = all_cons IsSmallArg x xs (small_arg table u shared p.wanted x keeps h.0) (small_all table u shared ps xs keeps h.1)
+small_all table u shared _ _ keeps h = absurd h
 
 pub small_args : (table : Table) (u : PrincipleUse) → KeepDims table.dims → IsTypedUse table u → All IsSmallArg u.args
 small_args table u keeps t = small_all table u t.shared (parameters t.form) u.args keeps t.args

@@ -31,12 +31,7 @@ use Rattle.xdg_terms.proofs.Formed.{so_many}
 
 bound_by : (t : Term) (k : TermKind-F ElemKind TermKind) → bound_in [] t k ≡ t
 bound_by t (TermKind-F.Param name) = refl
-bound_by t (TermKind-F.TermKind::Const name) = refl
-bound_by t (TermKind-F.Number n) = refl
-bound_by t (TermKind-F.Card written) = refl
-bound_by t (TermKind-F.Braces elems) = refl
-bound_by t (TermKind-F.TermKind::Tuple names) = refl
-bound_by t (TermKind-F.Gen gen) = refl
+bound_by t other = refl
 
 bound_none : (t : Term) → bound [] t ≡ t
 unfolding bound
@@ -44,21 +39,11 @@ bound_none t = bound_by t (out-TermKind t.kind)
 
 constant_by : (k : TermKind-F ElemKind TermKind) (name : Name) → constant_in k ≡ Some name → constants_in k ≡ name.text ∷ []
 constant_by (TermKind-F.TermKind::Const own) name h = (let same : own ≡ name = cc in ap (λ (one : Name). one.text ∷ []) same)
-constant_by (TermKind-F.Param own) name h = absurd (cc)
-constant_by (TermKind-F.Number n) name h = absurd (cc)
-constant_by (TermKind-F.Card written) name h = absurd (cc)
-constant_by (TermKind-F.Braces elems) name h = absurd (cc)
-constant_by (TermKind-F.TermKind::Tuple names) name h = absurd (cc)
-constant_by (TermKind-F.Gen gen) name h = absurd (cc)
+constant_by other name h = absurd (cc)
 
 bracket_by : (wanted : ℕ) (k : TermKind-F ElemKind TermKind) (names : List Name) → bracket_in wanted k ≡ Some names → constants_in k ≡ map (λ name. name.text) names
 bracket_by wanted (TermKind-F.TermKind::Tuple own) names h = ap (map (λ (name : Name). name.text)) (so_many (length own == wanted) own names h)
-bracket_by wanted (TermKind-F.TermKind::Const own) names h = absurd (cc)
-bracket_by wanted (TermKind-F.Param own) names h = absurd (cc)
-bracket_by wanted (TermKind-F.Number n) names h = absurd (cc)
-bracket_by wanted (TermKind-F.Card written) names h = absurd (cc)
-bracket_by wanted (TermKind-F.Braces elems) names h = absurd (cc)
-bracket_by wanted (TermKind-F.Gen gen) names h = absurd (cc)
+bracket_by wanted other names h = absurd (cc)
 
 constant_is : (t : Term) (name : Name) → constant_of t ≡ Some name → constants_of t ≡ name.text ∷ []
 unfolding constant_of constants_of

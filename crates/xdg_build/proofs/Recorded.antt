@@ -15,9 +15,8 @@ use Rattle.xdg_problem.specs.Principles.{feature_dim}
 
 pub zip_length : {A B : Type 0} (R : A → B → Type 0) (xs : List A) (ys : List B) → AllZip R xs ys → length ys ≡ length xs
 zip_length R [] [] zip = refl
-zip_length R [] (y ∷ ys) zip = absurd zip
-zip_length R (x ∷ xs) [] zip = absurd zip
 zip_length R (x ∷ xs) (y ∷ ys) zip = ap suc (zip_length R xs ys zip.1)
+zip_length _ _ _ zip = absurd zip
 
 pub zip_at : {A B : Type 0} (R : A → B → Type 0) (xs : List A) (ys : List B) (k : ℕ) (x : A) (e : B) → k < length xs → x ≡ get_or xs k x → AllZip R xs ys → R x (get_or ys k e)
 zip_at R [] ys k x e within is zip = absurd (omega (arith, within))
@@ -34,9 +33,8 @@ zip_set R (z ∷ xs) (w ∷ ys) (suc k) x y within is one zip = (zip.0, zip_set 
 zip_more : {A B : Type 0} (R : A → B → Type 0) (xs : List A) (ys : List B) (k : ℕ) (y : B) → ((x : A) → R x y) → k < length xs → AllZip R (take k xs) ys → AllZip R (take (suc k) xs) (ys ++ y ∷ [])
 zip_more R [] ys k y one within zip = absurd (omega (arith, within))
 zip_more R (z ∷ xs) [] zero y one within zip = (one z, tt)
-zip_more R (z ∷ xs) (w ∷ ys) zero y one within zip = absurd zip
-zip_more R (z ∷ xs) [] (suc k) y one within zip = absurd zip
 zip_more R (z ∷ xs) (w ∷ ys) (suc k) y one within zip = (zip.0, zip_more R xs ys k y one (omega (arith, within)) zip.1)
+zip_more _ _ _ _ y one within zip = absurd zip
 
 pub zip_turn : {A B : Type 0} (R : A → B → Type 0) (xs : List A) (ys more : List B) (k : ℕ) (y : B) → ((x : A) → R x y) → k < length xs → AllZip R (take k xs) ys → more ≡ ys ++ y ∷ [] → AllZip R (take (k + 1) xs) more
 zip_turn R xs ys more k y one within zip grown =

@@ -104,12 +104,11 @@ attrs_size g candidates parts u typed_so used suits within =
 
 attrs_below : (table : Table) (u : PrincipleUse) (shared : Shape) (ts : List (Which × Typing)) (ks : List ℕ) → AreOf w.First ts → AreMembers table u shared s.Attribute ts ks → All (λ k. k < length (members_at table u s.Attribute w.First)) ks
 attrs_below table u shared [] [] of h = all_none (λ k. k < length (members_at table u s.Attribute w.First))
-attrs_below table u shared [] (k ∷ ks) of h = absurd h
-attrs_below table u shared (t ∷ ts) [] of h = absurd h
 attrs_below table u shared (t ∷ ts) (k ∷ ks) of h =
     let member : IsTypedMember table u shared s.Attribute w.First t.1 k = subst (λ (x : Which). IsTypedMember table u shared s.Attribute x t.1 k) of.0 h.0 in
     all_cons (λ j. j < length (members_at table u s.Attribute w.First)) k ks
     (slice_get_within (members_at table u s.Attribute w.First) k (member.name, member.type) member.stands) (attrs_below table u shared ts ks of.1 h.1)
+attrs_below table u shared _ _ of h = absurd h
 
 shared_value : (g : Grammar) (candidates : List (List EntryNo)) (parts : Parts) (u : PrincipleUse) (shared : Shape) → IsTypedUse g.table u → is_used g.table u.home ≡ true → Suits g candidates parts → 0 < length u.dims
     → (ts : List (Which × Typing)) (ks : List ℕ) → SharesFirst ts → AreMembers g.table u shared s.Attribute ts ks

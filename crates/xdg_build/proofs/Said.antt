@@ -87,9 +87,8 @@ FitAll labels shared _ _ = ⊥
 pub all_fit : (table : Table) (u : PrincipleUse) (shared : Shape) (which : Which) (entry : Entry) (ts : List (Which × Typing)) (ks : List ℕ) → number_of which < length u.dims → Home table (get_or u.dims (number_of which) 0) → IsEntry table entry
     → AreOf which ts → AreMembers table u shared s.Feature ts ks → FitAll (labels_at table u) shared ts (map (λ place. feature table entry (get_or u.dims (number_of which) 0) place) ks)
 all_fit table u shared which entry [] [] within home is of h = tt
-all_fit table u shared which entry [] (k ∷ ks) within home is of h = absurd h
-all_fit table u shared which entry (t ∷ ts) [] within home is of h = absurd h
 all_fit table u shared which entry (t ∷ ts) (k ∷ ks) within home is of h = (
   feature_fits table u shared which t.1 entry k within home is (subst (λ (x : Which). IsTypedMember table u shared s.Feature x t.1 k) of.0 h.0),
   all_fit table u shared which entry ts ks within home is of.1 h.1,
 )
+all_fit table u shared which entry _ _ within home is of h = absurd h

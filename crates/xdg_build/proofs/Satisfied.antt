@@ -102,6 +102,12 @@ label_texts labels shared which s all l is same = ap (λ (cs : List (List ℕ)).
 label_count_is : (labels : Which → List (List ℕ)) (shared : Shape) (which : Which) (s : Shape) (all : List (List ℕ)) → IsElementOf labels shared (elements.Labels which) s → labels which ≡ all → count s ≡ length all
 label_count_is labels shared which s all is same = ap count is ∙ ap length same
 
+-- the constant of a label is a member exactly where its number is
+label_is : (labels : Which → List (List ℕ)) (shared : Shape) (which : Which) (P : List (List ℕ) → Type 0) (s : Shape) (row : List ℕ) (all : List (List ℕ)) (l : ℕ) → HasRow P s row
+    → IsElementOf labels shared (elements.Labels which) s → labels which ≡ all → l < length all → P (get_or all l [] ∷ []) ↔ Contains row l
+label_is labels shared which P s row all l has is same within =
+    member_is P s row (get_or all l [] ∷ []) l has (subst (λ k. l < k) (sym (label_count_is labels shared which s all is same)) within) (label_texts labels shared which s all l is same)
+
 -- two types that are the same as a third
 shared_texts : (shared s u : Shape) (n : ℕ) → IsSame shared s → IsSame shared u → value_texts s n ≡ value_texts u n
 shared_texts shared s u n h k = sym (same_texts shared s n h) ∙ same_texts shared u n k
@@ -133,9 +139,6 @@ module _ (g : Grammar) (words : List SentenceWord) (a : Analysis) (u : Principle
 
   abbrev n : ℕ
   n = length words
-
-  abbrev d3 : ℕ
-  d3 = D3 g words a u
 
   abbrev d1 : ℕ
   d1 = D1 g words a u
@@ -437,6 +440,10 @@ module _ (g : Grammar) (words : List SentenceWord) (a : Analysis) (u : Principle
         λ p. (let k = all.1 p in (into.1 k.0, out.1 k.1)),
       )
 
+  -- the attribute that an argument names
+  attr_is : (j : ℕ) (args : List Arg) → u.args ≡ args → attr_of G j ≡ (get_or (flat_map attrs_in args) j (record { 0 = 0 })).0
+  attr_is j args same = ap (λ (xs : List AttrId). (get_or xs j (record { 0 = 0 })).0) (ap (flat_map attrs_in) same)
+
   -- a principle with one condition
   one : (A : Type 0) (condition : Condition) → A ↔ C condition → A ↔ All C (condition ∷ [])
   one A condition same = then_iff A (C condition) (All C (condition ∷ [])) same (one_kept C condition)
@@ -451,18 +458,15 @@ module _ (g : Grammar) (words : List SentenceWord) (a : Analysis) (u : Principle
       let y = feature_argument g.table u shape nth.First (typings.Set elements.Shared) xs.1 xs.4 in
       let args : List Arg = arg.Attr x.0 ∷ arg.Feature y.0 ∷ [] in
       let same : u.args ≡ args = xs.2 ∙ ap₂ (λ (s t : Arg). s ∷ t ∷ []) x.1 y.1 in
-      let fs : List ℕ = y.0 ∷ [] in
-      let listed : flat_map features_in u.args ≡ fs = ap (flat_map features_in) same in
-      let attr : attr_of G 0 ≡ x.0 = ap (λ (xs : List AttrId). (get_or xs 0 (record { 0 = 0 })).0) (ap (flat_map attrs_in) same) in
       let s : Shape = element y.2.type in
       let s_same : IsSame shape s = element_right (IsElementOf (labels_at g.table u) shape elements.Shared) y.2.type y.2.wanted in
       one (Agrees g words a u) conditions.Agr
       (kept.agr_same (compiled g words) G cs a.attrs a.edges (λ v. InSet g words a u d (codes "Agrs") v (attribute g words a u d (codes "Agr") v)) (λ v node.
-      let has = set_has g words a u h q named nth.First (some_dim g words a u h q named) refl fs listed 0 y.0 (omega arith) refl (codes "Agrs") (argument_is g words a u h q named args (codes "Agrs") same) elements.Shared y.2 v node in
+      let has = set_has g words a u h q named nth.First (some_dim g words a u h q named) refl (y.0 ∷ []) (ap (flat_map features_in) same) 0 y.0 (omega arith) refl (codes "Agrs") (argument_is g words a u h q named args (codes "Agrs") same) elements.Shared y.2 v node in
       let m : ℕ = value_number g (length words) a d v x.0 in
       let texts = text_is g words a u h q named (typings.One elements.Shared) x.0 x.2 (codes "Agr") v (argument_is g words a u h q named args (codes "Agr") same) ∙ shared_texts shape x.2.type s m x.2.wanted s_same in
       let below : m < count s = subst (λ k. m < k) (shared_count shape x.2.type s x.2.wanted s_same) (number_below g words a u h q named (typings.One elements.Shared) x.0 x.2 v node) in
-      subst (λ k. InSet g words a u d (codes "Agrs") v (attribute g words a u d (codes "Agr") v) ↔ Contains (set_row G v (slice_index cs v)) k) (sym (value_is g words a u h q named 0 x.0 v attr))
+      subst (λ k. InSet g words a u d (codes "Agrs") v (attribute g words a u d (codes "Agr") v) ↔ Contains (set_row G v (slice_index cs v)) k) (sym (value_is g words a u h q named 0 x.0 v (attr_is 0 args same)))
       (member_is (InSet g words a u d (codes "Agrs") v) s (set_row G v (slice_index cs v)) (attribute g words a u d (codes "Agr") v) m has below texts)))
 
   agreement : Same principles.Agreement
@@ -476,10 +480,6 @@ module _ (g : Grammar) (words : List SentenceWord) (a : Analysis) (u : Principle
       let z = feature_argument g.table u shape nth.First (typings.Set (elements.Labels nth.First)) xs.2 xs.6 in
       let args : List Arg = arg.Attr x.0 ∷ arg.Attr y.0 ∷ arg.Feature z.0 ∷ [] in
       let same : u.args ≡ args = xs.3 ∙ ap₂ (λ (s : Arg) (more : List Arg). s ∷ more) x.1 (ap₂ (λ (s t : Arg). s ∷ t ∷ []) y.1 z.1) in
-      let fs : List ℕ = z.0 ∷ [] in
-      let listed : flat_map features_in u.args ≡ fs = ap (flat_map features_in) same in
-      let attr1 : attr_of G 0 ≡ x.0 = ap (λ (xs : List AttrId). (get_or xs 0 (record { 0 = 0 })).0) (ap (flat_map attrs_in) same) in
-      let attr2 : attr_of G 1 ≡ y.0 = ap (λ (xs : List AttrId). (get_or xs 1 (record { 0 = 0 })).0) (ap (flat_map attrs_in) same) in
       let s : Shape = element z.2.type in
       let s_is = element_right (IsElementOf (labels_at g.table u) shape (elements.Labels nth.First)) z.2.type z.2.wanted in
       let labels_are = labels_first g words a u h q named in
@@ -489,18 +489,16 @@ module _ (g : Grammar) (words : List SentenceWord) (a : Analysis) (u : Principle
       (λ f. InSet g words a u d (codes "Agree") f.mother.0 (label_text g d f.label.0 ∷ []) → attribute g words a u d (codes "Agr1") f.mother.0 ≡ attribute g words a u d (codes "Agr2") f.daughter.0) within (λ f is.
       let node = within.mother f is in
       let below_node = within.daughter f is in
-      let has = set_has g words a u h q named nth.First (some_dim g words a u h q named) refl fs listed 0 z.0 (omega arith) refl (codes "Agree") (argument_is g words a u h q named args (codes "Agree") same) (elements.Labels nth.First) z.2 f.mother.0 node in
-      let member = member_is (InSet g words a u d (codes "Agree") f.mother.0) s (set_row G f.mother.0 (slice_index cs f.mother.0)) (label_text g d f.label.0 ∷ []) f.label.0 has
-      (subst (λ k. f.label.0 < k) (sym (label_count_is (labels_at g.table u) shape nth.First s (dimension g d).labels s_is labels_are)) (within.label f is))
-      (label_texts (labels_at g.table u) shape nth.First s (dimension g d).labels f.label.0 s_is labels_are) in
+      let has = set_has g words a u h q named nth.First (some_dim g words a u h q named) refl (z.0 ∷ []) (ap (flat_map features_in) same) 0 z.0 (omega arith) refl (codes "Agree") (argument_is g words a u h q named args (codes "Agree") same) (elements.Labels nth.First) z.2 f.mother.0 node in
+      let member = label_is (labels_at g.table u) shape nth.First (InSet g words a u d (codes "Agree") f.mother.0) s (set_row G f.mother.0 (slice_index cs f.mother.0)) (dimension g d).labels f.label.0 has s_is labels_are (within.label f is) in
       let m : ℕ = value_number g (length words) a d f.mother.0 x.0 in
       let k : ℕ = value_number g (length words) a d f.daughter.0 y.0 in
       let one_text = text_is g words a u h q named (typings.One elements.Shared) x.0 x.2 (codes "Agr1") f.mother.0 (argument_is g words a u h q named args (codes "Agr1") same) in
       let two_text = text_is g words a u h q named (typings.One elements.Shared) y.0 y.2 (codes "Agr2") f.daughter.0 (argument_is g words a u h q named args (codes "Agr2") same) ∙ shared_texts shape y.2.type x.2.type k y.2.wanted x.2.wanted in
       let m_below = number_below g words a u h q named (typings.One elements.Shared) x.0 x.2 f.mother.0 node in
       let k_below : k < count x.2.type = subst (λ b. k < b) (shared_count shape y.2.type x.2.type y.2.wanted x.2.wanted) (number_below g words a u h q named (typings.One elements.Shared) y.0 y.2 f.daughter.0 below_node) in
-      let first_value = value_is g words a u h q named 0 x.0 f.mother.0 attr1 in
-      let second_value = value_is g words a u h q named 1 y.0 f.daughter.0 attr2 in (
+      let first_value = value_is g words a u h q named 0 x.0 f.mother.0 (attr_is 0 args same) in
+      let second_value = value_is g words a u h q named 1 y.0 f.daughter.0 (attr_is 1 args same) in (
         λ p c. first_value ∙ same_number x.2.type m k (attribute_type_small g words a u h q named (typings.One elements.Shared) x.0 x.2) m_below k_below (sym one_text ∙ p (member.1 c) ∙ two_text) ∙ sym second_value,
         λ p i. one_text ∙ ap (value_texts x.2.type) (sym first_value ∙ p (member.0 i) ∙ second_value) ∙ sym two_text,
       )))
@@ -515,9 +513,6 @@ module _ (g : Grammar) (words : List SentenceWord) (a : Analysis) (u : Principle
       let y = feature_argument g.table u shape nth.First (typings.Map nth.First elements.Shared) xs.1 xs.4 in
       let args : List Arg = arg.Attr x.0 ∷ arg.Feature y.0 ∷ [] in
       let same : u.args ≡ args = xs.2 ∙ ap₂ (λ (s t : Arg). s ∷ t ∷ []) x.1 y.1 in
-      let fs : List ℕ = y.0 ∷ [] in
-      let listed : flat_map features_in u.args ≡ fs = ap (flat_map features_in) same in
-      let attr : attr_of G 0 ≡ x.0 = ap (λ (xs : List AttrId). (get_or xs 0 (record { 0 = 0 })).0) (ap (flat_map attrs_in) same) in
       let parts = map_parts (IsElementOf (labels_at g.table u) shape elements.Shared) (labels_at g.table u nth.First) y.2.type y.2.wanted in
       let s : Shape = element parts.0 in
       let s_same : IsSame shape s = element_right (IsElementOf (labels_at g.table u) shape elements.Shared) parts.0 parts.2 in
@@ -528,12 +523,12 @@ module _ (g : Grammar) (words : List SentenceWord) (a : Analysis) (u : Principle
       (λ f. (some : List (List ℕ)) → InMap g words a u d (codes "Govern") f.mother.0 (label_text g d f.label.0) some → InMap g words a u d (codes "Govern") f.mother.0 (label_text g d f.label.0) (attribute g words a u d (codes "Agr") f.daughter.0)) within (λ f is.
       let row : List ℕ = map_row G f.mother.0 (slice_index cs f.mother.0) f.label.0 in
       let M : List (List ℕ) → Type 0 = InMap g words a u d (codes "Govern") f.mother.0 (label_text g d f.label.0) in
-      let has = map_has g words a u h q named nth.First (some_dim g words a u h q named) refl fs listed 0 y.0 (omega arith) refl (codes "Govern") (argument_is g words a u h q named args (codes "Govern") same) labels_are f.label.0 f.mother.0 (within.label f is) (within.mother f is) elements.Shared y.2 parts.0 parts.1 parts.2 in
+      let has = map_has g words a u h q named nth.First (some_dim g words a u h q named) refl (y.0 ∷ []) (ap (flat_map features_in) same) 0 y.0 (omega arith) refl (codes "Govern") (argument_is g words a u h q named args (codes "Govern") same) labels_are f.label.0 f.mother.0 (within.label f is) (within.mother f is) elements.Shared y.2 parts.0 parts.1 parts.2 in
       let m : ℕ = value_number g (length words) a d f.daughter.0 x.0 in
       let texts = text_is g words a u h q named (typings.One elements.Shared) x.0 x.2 (codes "Agr") f.daughter.0 (argument_is g words a u h q named args (codes "Agr") same) ∙ shared_texts shape x.2.type s m x.2.wanted s_same in
       let below : m < count s = subst (λ k. m < k) (shared_count shape x.2.type s x.2.wanted s_same) (number_below g words a u h q named (typings.One elements.Shared) x.0 x.2 f.daughter.0 (within.daughter f is)) in
       map_asks g words a u h q named M s row (M (attribute g words a u d (codes "Agr") f.daughter.0)) (Contains row (kept.value (compiled g words) G cs a.attrs a.edges f.daughter.0 0)) has
-      (subst (λ k. M (attribute g words a u d (codes "Agr") f.daughter.0) ↔ Contains row k) (sym (value_is g words a u h q named 0 x.0 f.daughter.0 attr)) (member_is M s row (attribute g words a u d (codes "Agr") f.daughter.0) m has below texts))))
+      (subst (λ k. M (attribute g words a u d (codes "Agr") f.daughter.0) ↔ Contains row k) (sym (value_is g words a u h q named 0 x.0 f.daughter.0 (attr_is 0 args same))) (member_is M s row (attribute g words a u d (codes "Agr") f.daughter.0) m has below texts))))
 
   order_same : Same principles.Order
   order_same named =
@@ -546,7 +541,6 @@ module _ (g : Grammar) (words : List SentenceWord) (a : Analysis) (u : Principle
       let z = truth_argument g.table u shape xs.2 xs.6 in
       let args : List Arg = arg.Labels x.0 ∷ arg.Attr y.0 ∷ arg.Truth z.0 ∷ [] in
       let same : u.args ≡ args = xs.3 ∙ ap₂ (λ (s : Arg) (more : List Arg). s ∷ more) x.1 (ap₂ (λ (s t : Arg). s ∷ t ∷ []) y.1 z.1) in
-      let attr : attr_of G 0 ≡ y.0 = ap (λ (xs : List AttrId). (get_or xs 0 (record { 0 = 0 })).0) (ap (flat_map attrs_in) same) in
       let truths : G.truths ≡ z.0 ∷ [] = ap (flat_map truths_in) same in
       let yields = truth_same g words a u h q named (codes "Yields") 0 z.0 (argument_is g words a u h q named args (codes "Yields") same) (ap (λ (bs : List Bool). truth_of bs 0) truths) in
       let labels_are = labels_first g words a u h q named in
@@ -564,7 +558,7 @@ module _ (g : Grammar) (words : List SentenceWord) (a : Analysis) (u : Principle
       let m : ℕ = value_number g (length words) a d v y.0 in
       let text : attribute g words a u d (codes "On") v ≡ value_texts y.2.type m = text_is g words a u h q named (typings.One (elements.Labels nth.First)) y.0 y.2 (codes "On") v (argument_is g words a u h q named args (codes "On") same) in
       let own : label_text g d l ∷ [] ≡ value_texts y.2.type l = label_texts (labels_at g.table u) shape nth.First y.2.type (dimension g d).labels l y.2.wanted labels_are in
-      let value = value_is g words a u h q named 0 y.0 v attr in
+      let value = value_is g words a u h q named 0 y.0 v (attr_is 0 args same) in
       let l_below : l < count y.2.type = subst (λ b. l < b) (sym (label_count_is (labels_at g.table u) shape nth.First y.2.type (dimension g d).labels y.2.wanted labels_are)) label in
       let m_below = number_below g words a u h q named (typings.One (elements.Labels nth.First)) y.0 y.2 v node in
       let type_small = attribute_type_small g words a u h q named (typings.One (elements.Labels nth.First)) y.0 y.2 in (
@@ -584,14 +578,6 @@ module _ (g : Grammar) (words : List SentenceWord) (a : Analysis) (u : Principle
         ],
       ))))))
 
-  projectivity : Same principles.Projectivity
-  projectivity named = one (Projective g words a u) conditions.Between (between_kept g words a u h principles.Projectivity named)
-
-  climbing : Same principles.Climbing
-  climbing named =
-      let dims = dims_are g words a u h principles.Climbing named in
-      one (Climbs g words a u) conditions.Below (below_kept g words a u h principles.Climbing named (omega (arith, dims)))
-
   barriers : Same principles.Barriers
   barriers named =
       let q = principles.Barriers in
@@ -603,8 +589,6 @@ module _ (g : Grammar) (words : List SentenceWord) (a : Analysis) (u : Principle
       let x = feature_argument g.table u shape nth.Second (typings.Set (elements.Labels nth.Second)) xs.0 xs.2 in
       let args : List Arg = arg.Feature x.0 ∷ [] in
       let same : u.args ≡ args = xs.1 ∙ ap (λ (s : Arg). s ∷ []) x.1 in
-      let fs : List ℕ = x.0 ∷ [] in
-      let listed : flat_map features_in u.args ≡ fs = ap (flat_map features_in) same in
       let s : Shape = element x.2.type in
       let s_is = element_right (IsElementOf (labels_at g.table u) shape (elements.Labels nth.Second)) x.2.type x.2.wanted in
       let labels_are = labels_second g words a u h q named two in
@@ -612,10 +596,8 @@ module _ (g : Grammar) (words : List SentenceWord) (a : Analysis) (u : Principle
       one (Blocked g words a u) conditions.Blocked
       (kept.blocked_at (compiled g words) G cs a.attrs a.edges F1 F2 M1 (first_is g words a u h q named) (second_is g words a u h q named two) (labels_count g words a u h q named)
       (λ v f. InSet g words a u d (codes "Blocks") v (label_text g d f.label.0 ∷ [])) (λ v node f is.
-      let has = set_has g words a u h q named nth.Second two refl fs listed 0 x.0 (omega arith) refl (codes "Blocks") (argument_is g words a u h q named args (codes "Blocks") same) (elements.Labels nth.Second) x.2 v node in
-      member_is (InSet g words a u d (codes "Blocks") v) s (set_row G v (slice_index cs v)) (label_text g d f.label.0 ∷ []) f.label.0 has
-      (subst (λ k. f.label.0 < k) (sym (label_count_is (labels_at g.table u) shape nth.Second s (dimension g d).labels s_is labels_are)) (within.label f is))
-      (label_texts (labels_at g.table u) shape nth.Second s (dimension g d).labels f.label.0 s_is labels_are)))
+      let has = set_has g words a u h q named nth.Second two refl (x.0 ∷ []) (ap (flat_map features_in) same) 0 x.0 (omega arith) refl (codes "Blocks") (argument_is g words a u h q named args (codes "Blocks") same) (elements.Labels nth.Second) x.2 v node in
+      label_is (labels_at g.table u) shape nth.Second (InSet g words a u d (codes "Blocks") v) s (set_row G v (slice_index cs v)) (dimension g d).labels f.label.0 has s_is labels_are (within.label f is)))
 
   -- ---- linking
 
@@ -623,7 +605,7 @@ module _ (g : Grammar) (words : List SentenceWord) (a : Analysis) (u : Principle
   by_map : (q : Principle) (way : Linking) (named : name_of q ≡ u.principle) → form_of q ≡ linking labels_to_labels → feature_dim q ≡ 2 → (P : Edge → Type 0)
       → ((f : Edge) (row : List ℕ) → ((k : Edge) → Contains F2 k → IsLink g words a u f k ↔ Contains row k.label.0) → P f ↔ IsLinked way F2 f.mother.0 row f.daughter.0)
       → ((c x l v : ℕ) → AsksLink q G c F2 x l v ↔ (0 < length (map_row G x c l) → IsLinked way F2 x (map_row G x c l) v))
-      → Linked g words a u P ↔ C conditions.Link
+      → Linked g words a u P ↔ All C (conditions.Link ∷ [])
   by_map q way named form third P linked asks =
       let d = D1 g words a u in
       let dims : length u.dims ≡ 3 = dims_are g words a u h q named ∙ ap (λ (f : Form). length (dims_in f.dims)) form in
@@ -635,8 +617,6 @@ module _ (g : Grammar) (words : List SentenceWord) (a : Analysis) (u : Principle
       let args : List Arg = arg.Feature x.0 ∷ [] in
       let same : u.args ≡ args = xs.1 ∙ ap (λ (s : Arg). s ∷ []) x.1 in
       let under : argument u (codes "Link") ≡ Some (arg.Feature x.0) = argument_is g words a u h q named args (codes "Link") same ∙ ap (λ (f : Form). argument_with (Some f) args (codes "Link")) form in
-      let fs : List ℕ = x.0 ∷ [] in
-      let listed : flat_map features_in u.args ≡ fs = ap (flat_map features_in) same in
       let parts = map_parts (IsElementOf (labels_at g.table u) shape (elements.Labels nth.Second)) (labels_at g.table u nth.First) x.2.type x.2.wanted in
       let s : Shape = element parts.0 in
       let s_is = element_right (IsElementOf (labels_at g.table u) shape (elements.Labels nth.Second)) parts.0 parts.2 in
@@ -644,44 +624,19 @@ module _ (g : Grammar) (words : List SentenceWord) (a : Analysis) (u : Principle
       let second_are = labels_second g words a u h q named two in
       let within = within_first g words a u h q named in
       let within2 = within_second g words a u h q named in
-      kept.link_at (compiled g words) G cs a.attrs a.edges F1 F2 M1 (first_is g words a u h q named) (second_is g words a u h q named two) (labels_count g words a u h q named) q
+      one (Linked g words a u P) conditions.Link
+      (kept.link_at (compiled g words) G cs a.attrs a.edges F1 F2 M1 (first_is g words a u h q named) (second_is g words a u h q named two) (labels_count g words a u h q named) q
       (λ f. (some : List (List ℕ)) → InMap g words a u (D3 g words a u) (codes "Link") f.mother.0 (label_text g d f.label.0) some → P f) (called_is g words a u h q named) within (λ f is.
       let c : ℕ = slice_index cs f.mother.0 in
       let row : List ℕ = map_row G f.mother.0 c f.label.0 in
       let M : List (List ℕ) → Type 0 = InMap g words a u (D3 g words a u) (codes "Link") f.mother.0 (label_text g d f.label.0) in
-      let has = map_has g words a u h q named nth.Third three third fs listed 0 x.0 (omega arith) refl (codes "Link") under labels_are f.label.0 f.mother.0 (within.label f is) (within.mother f is) (elements.Labels nth.Second) x.2 parts.0 parts.1 parts.2 in
-      let each : (k : Edge) → Contains F2 k → IsLink g words a u f k ↔ Contains row k.label.0 = λ k on. member_is M s row (label_text g (D2 g words a u) k.label.0 ∷ []) k.label.0 has
-      (subst (λ b. k.label.0 < b) (sym (label_count_is (labels_at g.table u) shape nth.Second s (dimension g (D2 g words a u)).labels s_is second_are)) (within2.label k on))
-      (label_texts (labels_at g.table u) shape nth.Second s (dimension g (D2 g words a u)).labels k.label.0 s_is second_are) in
+      let has = map_has g words a u h q named nth.Third three third (x.0 ∷ []) (ap (flat_map features_in) same) 0 x.0 (omega arith) refl (codes "Link") under labels_are f.label.0 f.mother.0 (within.label f is) (within.mother f is) (elements.Labels nth.Second) x.2 parts.0 parts.1 parts.2 in
+      let each : (k : Edge) → Contains F2 k → IsLink g words a u f k ↔ Contains row k.label.0 = λ k on. label_is (labels_at g.table u) shape nth.Second M s row (dimension g (D2 g words a u)).labels k.label.0 has s_is second_are (within2.label k on) in
       let mapped = map_asks g words a u h q named M s row (P f) (IsLinked way F2 f.mother.0 row f.daughter.0) has (linked f row each) in
       let asked = asks c f.mother.0 f.label.0 f.daughter.0 in (
         λ p. asked.1 (mapped.0 p),
         λ p. mapped.1 (asked.0 p),
-      ))
-
-  linking_end : Same principles.LinkingEnd
-  linking_end named = one (Asks g words a u principles.LinkingEnd) conditions.Link (by_map principles.LinkingEnd linkings.End named refl refl (λ f. Any (λ k. (k.daughter.0 ≡ f.daughter.0) × IsLink g words a u f k) F2)
-      (λ f row same. kept.end_linked F2 (IsLink g words a u f) row same f.mother.0 f.daughter.0) (λ c x l v. (λ p. p, λ p. p)))
-
-  linking_daughter : Same principles.LinkingDaughter
-  linking_daughter named = one (Asks g words a u principles.LinkingDaughter) conditions.Link (by_map principles.LinkingDaughter linkings.Daughter named refl refl (λ f. HasLink g words a u f f.mother.0 f.daughter.0)
-      (λ f row same. kept.by_daughter F2 (IsLink g words a u f) row same f.mother.0 f.daughter.0) (λ c x l v. (λ p. p, λ p. p)))
-
-  linking_mother : Same principles.LinkingMother
-  linking_mother named = one (Asks g words a u principles.LinkingMother) conditions.Link (by_map principles.LinkingMother linkings.Mother named refl refl (λ f. HasLink g words a u f f.daughter.0 f.mother.0)
-      (λ f row same. kept.by_daughter F2 (IsLink g words a u f) row same f.daughter.0 f.mother.0) (λ c x l v. (λ p. p, λ p. p)))
-
-  linking_below_start : Same principles.LinkingBelowStart
-  linking_below_start named = one (Asks g words a u principles.LinkingBelowStart) conditions.Link (by_map principles.LinkingBelowStart linkings.BelowStart named refl refl (λ f. StartsBy F2 f.mother.0 (IsLink g words a u f) f.daughter.0)
-      (λ f row same. kept.starts_same F2 (IsLink g words a u f) row f.mother.0 f.daughter.0 same) (λ c x l v. (λ p. p, λ p. p)))
-
-  linking_above_start : Same principles.LinkingAboveStart
-  linking_above_start named = one (Asks g words a u principles.LinkingAboveStart) conditions.Link (by_map principles.LinkingAboveStart linkings.AboveStart named refl refl (λ f. StartsBy F2 f.daughter.0 (IsLink g words a u f) f.mother.0)
-      (λ f row same. kept.starts_same F2 (IsLink g words a u f) row f.daughter.0 f.mother.0 same) (λ c x l v. (λ p. p, λ p. p)))
-
-  linking_sisters : Same principles.LinkingSisters
-  linking_sisters named = one (Asks g words a u principles.LinkingSisters) conditions.Link (by_map principles.LinkingSisters linkings.Sisters named refl refl (λ f. Any (λ k. (k.daughter.0 ≡ f.mother.0) × HasLink g words a u f k.mother.0 f.daughter.0) F2)
-      (λ f row same. kept.sisters_linked F2 (IsLink g words a u f) row same f.mother.0 f.daughter.0) (λ c x l v. (λ p. p, λ p. p)))
+      )))
 
   linking_not_daughter : Same principles.LinkingNotDaughter
   linking_not_daughter named =
@@ -695,8 +650,6 @@ module _ (g : Grammar) (words : List SentenceWord) (a : Analysis) (u : Principle
       let x = feature_argument g.table u shape nth.Third (typings.Set (elements.Labels nth.First)) xs.0 xs.2 in
       let args : List Arg = arg.Feature x.0 ∷ [] in
       let same : u.args ≡ args = xs.1 ∙ ap (λ (s : Arg). s ∷ []) x.1 in
-      let fs : List ℕ = x.0 ∷ [] in
-      let listed : flat_map features_in u.args ≡ fs = ap (flat_map features_in) same in
       let s : Shape = element x.2.type in
       let s_is = element_right (IsElementOf (labels_at g.table u) shape (elements.Labels nth.First)) x.2.type x.2.wanted in
       let labels_are = labels_first g words a u h q named in
@@ -704,10 +657,8 @@ module _ (g : Grammar) (words : List SentenceWord) (a : Analysis) (u : Principle
       one (Asks g words a u q) conditions.Link
       (kept.link_at (compiled g words) G cs a.attrs a.edges F1 F2 M1 (first_is g words a u h q named) (second_is g words a u h q named two) (labels_count g words a u h q named) q
       (λ f. InSet g words a u (D3 g words a u) (codes "Link") f.mother.0 (label_text g d f.label.0 ∷ []) → IsDaughter F2 f.mother.0 f.daughter.0 → ⊥) (called_is g words a u h q named) within (λ f is.
-      let has = set_has g words a u h q named nth.Third three refl fs listed 0 x.0 (omega arith) refl (codes "Link") (argument_is g words a u h q named args (codes "Link") same) (elements.Labels nth.First) x.2 f.mother.0 (within.mother f is) in
-      let member = member_is (InSet g words a u (D3 g words a u) (codes "Link") f.mother.0) s (set_row G f.mother.0 (slice_index cs f.mother.0)) (label_text g d f.label.0 ∷ []) f.label.0 has
-      (subst (λ k. f.label.0 < k) (sym (label_count_is (labels_at g.table u) shape nth.First s (dimension g d).labels s_is labels_are)) (within.label f is))
-      (label_texts (labels_at g.table u) shape nth.First s (dimension g d).labels f.label.0 s_is labels_are) in (
+      let has = set_has g words a u h q named nth.Third three refl (x.0 ∷ []) (ap (flat_map features_in) same) 0 x.0 (omega arith) refl (codes "Link") (argument_is g words a u h q named args (codes "Link") same) (elements.Labels nth.First) x.2 f.mother.0 (within.mother f is) in
+      let member = label_is (labels_at g.table u) shape nth.First (InSet g words a u (D3 g words a u) (codes "Link") f.mother.0) s (set_row G f.mother.0 (slice_index cs f.mother.0)) (dimension g d).labels f.label.0 has s_is labels_are (within.label f is) in (
         λ p c. p (member.1 c),
         λ p i. p (member.0 i),
       )))
@@ -721,18 +672,26 @@ module _ (g : Grammar) (words : List SentenceWord) (a : Analysis) (u : Principle
   same_for principles.Dag named = dag named
   same_for principles.Valency named = valency_same named
   same_for principles.Order named = order_same named
-  same_for principles.Projectivity named = projectivity named
+  same_for principles.Projectivity named = one (Projective g words a u) conditions.Between (between_kept g words a u h principles.Projectivity named)
   same_for principles.Agr named = agr named
   same_for principles.Agreement named = agreement named
   same_for principles.Government named = government named
-  same_for principles.Climbing named = climbing named
+  same_for principles.Climbing named =
+      let dims = dims_are g words a u h principles.Climbing named in
+      one (Climbs g words a u) conditions.Below (below_kept g words a u h principles.Climbing named (omega (arith, dims)))
   same_for principles.Barriers named = barriers named
-  same_for principles.LinkingEnd named = linking_end named
-  same_for principles.LinkingDaughter named = linking_daughter named
-  same_for principles.LinkingMother named = linking_mother named
-  same_for principles.LinkingBelowStart named = linking_below_start named
-  same_for principles.LinkingAboveStart named = linking_above_start named
-  same_for principles.LinkingSisters named = linking_sisters named
+  same_for principles.LinkingEnd named = by_map principles.LinkingEnd linkings.End named refl refl (λ f. Any (λ k. (k.daughter.0 ≡ f.daughter.0) × IsLink g words a u f k) F2)
+      (λ f row same. kept.end_linked F2 (IsLink g words a u f) row same f.mother.0 f.daughter.0) (λ c x l v. (λ p. p, λ p. p))
+  same_for principles.LinkingDaughter named = by_map principles.LinkingDaughter linkings.Daughter named refl refl (λ f. HasLink g words a u f f.mother.0 f.daughter.0)
+      (λ f row same. kept.by_daughter F2 (IsLink g words a u f) row same f.mother.0 f.daughter.0) (λ c x l v. (λ p. p, λ p. p))
+  same_for principles.LinkingMother named = by_map principles.LinkingMother linkings.Mother named refl refl (λ f. HasLink g words a u f f.daughter.0 f.mother.0)
+      (λ f row same. kept.by_daughter F2 (IsLink g words a u f) row same f.daughter.0 f.mother.0) (λ c x l v. (λ p. p, λ p. p))
+  same_for principles.LinkingBelowStart named = by_map principles.LinkingBelowStart linkings.BelowStart named refl refl (λ f. StartsBy F2 f.mother.0 (IsLink g words a u f) f.daughter.0)
+      (λ f row same. kept.starts_same F2 (IsLink g words a u f) row f.mother.0 f.daughter.0 same) (λ c x l v. (λ p. p, λ p. p))
+  same_for principles.LinkingAboveStart named = by_map principles.LinkingAboveStart linkings.AboveStart named refl refl (λ f. StartsBy F2 f.daughter.0 (IsLink g words a u f) f.mother.0)
+      (λ f row same. kept.starts_same F2 (IsLink g words a u f) row f.daughter.0 f.mother.0 same) (λ c x l v. (λ p. p, λ p. p))
+  same_for principles.LinkingSisters named = by_map principles.LinkingSisters linkings.Sisters named refl refl (λ f. Any (λ k. (k.daughter.0 ≡ f.mother.0) × HasLink g words a u f k.mother.0 f.daughter.0) F2)
+      (λ f row same. kept.sisters_linked F2 (IsLink g words a u f) row same f.mother.0 f.daughter.0) (λ c x l v. (λ p. p, λ p. p))
   same_for principles.LinkingNotDaughter named = linking_not_daughter named
   same_for (principles.Rule formula) named = absurd (is_of_texts g words a u h (principles.Rule formula) named)
   same_for (principles.Bound costs bound) named = absurd (is_of_texts g words a u h (principles.Bound costs bound) named)

@@ -149,8 +149,7 @@ pub value_rows : (labels : Which → List (List ℕ)) (shared : Shape) (typing :
 value_rows labels shared (t.One element) type v is h filled = tt
 value_rows labels shared (t.Set element) (set s) v is h filled = set_rows (size labels shared element) s v (element_size labels shared element s is) h
 value_rows labels shared (t.Set element) (iset s) v is h filled = iset_rows (size labels shared element) s v (element_size labels shared element s is) h
-value_rows labels shared (t.Set element) _ v is h filled = absurd is
 value_rows labels shared (t.Valency which) type v is h filled =
     valency_rows (labels which) v (subst (λ s. IsIn s v) is h) (subst (λ s. IsFilledIn s v) is filled)
 value_rows labels shared (t.Map which element) (mapping k u) v is h filled = mapped labels shared which element k u v is.0 is.1 h filled
-value_rows labels shared (t.Map which element) _ v is h filled = absurd is
+value_rows labels shared _ _ v is h filled = absurd is

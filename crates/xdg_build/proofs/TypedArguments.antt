@@ -39,9 +39,8 @@ module _ (table : Table) (u : PrincipleUse) (shared : Shape) where
 
   pub wanted_arguments : (ps : List Parameter) (xs : List Arg) → AreTypedArgs table u shared ps xs → AreWanted (map (λ (p : Parameter). p.wanted) ps) xs
   wanted_arguments [] [] h = tt
-  wanted_arguments [] (x ∷ xs) h = absurd h
-  wanted_arguments (p ∷ ps) [] h = absurd h
   wanted_arguments (p ∷ ps) (x ∷ xs) h = (h.0, wanted_arguments ps xs h.1)
+  wanted_arguments _ _ h = absurd h
 
   pub one_argument : (p : Wanted) (xs : List Arg) → AreWanted (p ∷ []) xs → (x : Arg) × (xs ≡ x ∷ []) × IsTypedArg table u shared p x
   one_argument p [] h = absurd h
