@@ -1,4 +1,3 @@
-pub mod Principles
 pub mod Sweeping
 pub mod AtPlaces
 pub mod AtNodes
