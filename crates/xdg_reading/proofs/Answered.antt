@@ -27,9 +27,8 @@ use Rattle.xdg_facts.proofs.Lists.{all_cons, all_none}
 
 edges_stand : (parts : Parts) (before : Option Edge) (lines : List EdgeLine) (edges : List Edge) → SayEdges parts before lines edges → All (IsPlace parts) edges
 edges_stand parts before [] [] say = all_none (IsPlace parts)
-edges_stand parts before [] (e ∷ edges) say = absurd say
-edges_stand parts before (line ∷ lines) [] say = absurd say
 edges_stand parts before (line ∷ lines) (e ∷ edges) say = all_cons (IsPlace parts) e edges say.0.stands (edges_stand parts (Some e) lines edges say.1)
+edges_stand parts before lines edges say = absurd say
 
 edges_rise : (parts : Parts) (before : Option Edge) (lines : List EdgeLine) (edges : List Edge) → SayEdges parts before lines edges → EdgesRise edges
 edges_rise parts before [] [] say = tt

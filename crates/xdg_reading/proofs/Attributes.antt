@@ -1,5 +1,6 @@
 -- The attributes of a problem in their order.
-use Rattle.std.proofs.Common.{◌≡◌, ◌<◌, ◌≤◌, ◌+◌, ◌++◌, ℕ, zero, suc, List, [], ◌∷◌, length, map, get_or, refl, sym, ap, ap₂, ◌∙◌, subst, arith}
+use Rattle.std.proofs.Common.{◌≡◌, ◌<◌, ◌≤◌, ◌++◌, ℕ, zero, suc, List, [], ◌∷◌, length, map, get_or, refl, sym, ap, ap₂, ◌∙◌, subst, arith}
+use Rattle.std.proofs.lemmas.List.{map-append}
 use Rattle.std.proofs.lemmas.List.Elements.{recursion_from_All}
 use Rattle.std.specs.List.{flat_map, AllByRecursion}
 use Rattle.xdg_facts.specs.Fits.{Fits}
@@ -53,37 +54,27 @@ few_values {X = X} f xs asked same are = by xs (subst AreAttrs (sym same) are) w
 abbrev pub size : Asked → ℕ
 size asked = length asked.attr.values
 
-map_both : (xs ys : List Asked) → map size (xs ++ ys) ≡ map size xs ++ map size ys
-map_both [] ys = refl
-map_both (x ∷ xs) ys = ap (λ z. size x ∷ z) (map_both xs ys)
-
 node_sizes : (dim : List ℕ) (node : ℕ) (attrs : List AttrPlan) → map size (map (λ attr. record { dim = dim; node = node; attr = attr }) attrs) ≡ map (λ attr. length attr.values) attrs
 node_sizes dim node [] = refl
 node_sizes dim node (attr ∷ attrs) = ap (λ z. length attr.values ∷ z) (node_sizes dim node attrs)
 
 nodes_sizes : (plan : DimPlan) (first count : ℕ) → map size (flat_map (node_slots plan) (numbers_from first count)) ≡ flat_map (λ node. map (λ attr. length attr.values) plan.attrs) (numbers_from first count)
 nodes_sizes plan first zero = refl
-nodes_sizes plan first (suc count) = map_both (node_slots plan first) (flat_map (node_slots plan) (numbers_from (suc first) count)) ∙ ap₂ (λ a b. a ++ b) (node_sizes plan.name first plan.attrs) (nodes_sizes plan (suc first) count)
+nodes_sizes plan first (suc count) = map-append size (node_slots plan first) (flat_map (node_slots plan) (numbers_from (suc first) count)) ∙ ap₂ (λ a b. a ++ b) (node_sizes plan.name first plan.attrs) (nodes_sizes plan (suc first) count)
 
 pub sizes_are : (n : ℕ) (plans : List DimPlan) → map size (slots n plans) ≡ attr_sizes n plans
 sizes_are n [] = refl
-sizes_are n (plan ∷ plans) = map_both (dim_slots n plan) (slots n plans) ∙ ap₂ (λ a b. a ++ b) (nodes_sizes plan 0 n) (sizes_are n plans)
+sizes_are n (plan ∷ plans) = map-append size (dim_slots n plan) (slots n plans) ∙ ap₂ (λ a b. a ++ b) (nodes_sizes plan 0 n) (sizes_are n plans)
 
 values_fit : (asked : List Asked) (lines : List AttrLine) (values : List ℕ) → SayValues asked lines values → Fits (map size asked) values
 values_fit [] [] [] say = tt
-values_fit [] [] (v ∷ values) say = absurd say
-values_fit [] (line ∷ lines) values say = absurd say
-values_fit (a ∷ asked) [] values say = absurd say
-values_fit (a ∷ asked) (line ∷ lines) [] say = absurd say
 values_fit (a ∷ asked) (line ∷ lines) (v ∷ values) say = (say.0.within, values_fit asked lines values say.1)
+values_fit asked lines values say = absurd say
 
 values_count : (asked : List Asked) (lines : List AttrLine) (values : List ℕ) → SayValues asked lines values → length values ≡ length (map size asked)
 values_count [] [] [] say = refl
-values_count [] [] (v ∷ values) say = absurd say
-values_count [] (line ∷ lines) values say = absurd say
-values_count (a ∷ asked) [] values say = absurd say
-values_count (a ∷ asked) (line ∷ lines) [] say = absurd say
 values_count (a ∷ asked) (line ∷ lines) (v ∷ values) say = ap suc (values_count asked lines values say.1)
+values_count asked lines values say = absurd say
 
 pub fit_sizes : (n : ℕ) (plans : List DimPlan) (lines : List AttrLine) (values : List ℕ) → SayValues (slots n plans) lines values → Fits (attr_sizes n plans) values
 fit_sizes n plans lines values say = subst (λ z. Fits z values) (sizes_are n plans) (values_fit (slots n plans) lines values say)

@@ -1,11 +1,11 @@
 -- Quoted texts and constants are read as they are written.
-use Rattle.std.proofs.Common.{◌≡◌, ◌≢◌, ◌<◌, ◌++◌, ◌+◌, ◌==◌, ◌&&◌, ◌||◌, ◌⊎◌, inl, inr, ℕ, zero, suc, List, [], ◌∷◌, length, get_or, drop, refl, sym, ap, ◌∙◌, arith, true, false, cond, not, Bool, Some, None, Option, append_assoc}
+use Rattle.std.proofs.Common.{◌≡◌, ◌≢◌, ◌<◌, ◌++◌, ◌==◌, ◌&&◌, ◌||◌, ◌⊎◌, inl, inr, ℕ, zero, suc, List, [], ◌∷◌, length, get_or, drop, refl, sym, ap, ◌∙◌, arith, true, false, cond, not, Bool, Some, None, Option, append_assoc}
 use Rattle.std.proofs.lemmas.Bool.{eqb-true, ne_eqb, and_parts, not_from_false, and_from, or_parts, or_from, or_left, or_right, both_ways}
 use Rattle.std.specs.List.{list_all, flat_map}
 use Rattle.xdg_text.specs.Constants.{is_name, is_keyword, begins_name, continues_name, is_escaped, escaped, quoted, constant}
 use Rattle.xdg_reading.specs.Pieces.{after, past, lead, behind, until, inside, quoted_at, name_at, quoted_constant_at, constant_at, begins_quoted, is_plain}
 use Rattle.xdg_reading.proofs.Fronts.{until_it, until_stands, it_stands, same_byte, other_byte}
-use Rattle.xdg_reading.proofs.Insides.{plain_byte}
+use Rattle.xdg_reading.proofs.Insides.{plain_byte, nothing_left}
 use Rattle.xdg_reading.proofs.Steps.{pair, lead_found, Led, cond_either, cond_found, cond_left, after_found, past_found}
 use Rattle.xdg_facts.proofs.Options.{none_some, some_same}
 use Rattle.xdg_base.proofs.Names.{escaped_is, unescaped}
@@ -59,11 +59,6 @@ inside_false : (byte : ℕ) (bytes : List ℕ) → inside false (byte ∷ bytes)
 unfolding inside
 inside_false byte bytes = refl
 
-inside_nothing : (t : Bool) → inside t [] ≡ None
-unfolding inside
-inside_nothing true = refl
-inside_nothing false = refl
-
 after_mark : (byte : ℕ) (bytes text rest : List ℕ) → is_escaped byte ≡ true → Led byte (inside false bytes) (text, rest) → ((x r : List ℕ) → inside false bytes ≡ Some (x, r) → bytes ≡ flat_map escaped x ++ 34 ∷ r) → 92 ∷ byte ∷ bytes ≡ flat_map escaped text ++ 34 ∷ rest
 after_mark byte bytes text rest e led known =
     ap (λ z. 92 ∷ byte ∷ z) (known led.more led.rest led.is)
@@ -78,7 +73,7 @@ after_plain byte bytes text rest e led known =
 
 -- what is read of an inside is written so
 pub inside_spelled : (t : Bool) (bytes text rest : List ℕ) → inside t bytes ≡ Some (text, rest) → marked t bytes ≡ flat_map escaped text ++ 34 ∷ rest
-inside_spelled t [] text rest read = absurd (none_some (pair text rest) (sym (inside_nothing t) ∙ read))
+inside_spelled t [] text rest read = absurd (none_some (pair text rest) (sym (nothing_left t) ∙ read))
 inside_spelled true (byte ∷ bytes) text rest read =
     by (cond_either (is_escaped byte) (lead byte (inside false bytes)) None (text, rest) (sym (inside_true byte bytes) ∙ read)) (inside_spelled false bytes) where
       by : ((is_escaped byte ≡ true) × (lead byte (inside false bytes) ≡ Some (pair text rest))) ⊎ ((is_escaped byte ≡ false) × (None ≡ Some (pair text rest))) → ((x r : List ℕ) → inside false bytes ≡ Some (x, r) → bytes ≡ flat_map escaped x ++ 34 ∷ r) → 92 ∷ byte ∷ bytes ≡ flat_map escaped text ++ 34 ∷ rest

@@ -143,9 +143,8 @@ said_one parts before line lines e problem next =
 
 pub edges_said : (parts : Parts) (before : Option Edge) (lines : List EdgeLine) (edges : List Edge) → IsProblem parts → SayEdges parts before lines edges → said_edges parts before lines ≡ Ok edges
 edges_said parts before [] [] problem say = refl
-edges_said parts before [] (e ∷ edges) problem say = absurd say
-edges_said parts before (line ∷ lines) [] problem say = absurd say
 edges_said parts before (line ∷ lines) (e ∷ edges) problem say = said_one parts before line lines e problem say.0 ∙ ap (lead e) (edges_said parts (Some e) lines edges problem say.1)
+edges_said parts before lines edges problem say = absurd say
 
 wrong_edge : (parts : Parts) (before : Option Edge) (line : EdgeLine) (lines : List EdgeLine) (o : Option Edge) → said_edge parts line ≡ o → ((e : Edge) → NextEdge parts before line e → ⊥) → or_at o line.at (λ e. cond (follows before e) (lead e (said_edges parts (Some e) lines)) (Err line.at)) ≡ Err line.at
 wrong_edge parts before line lines None said lacks = refl

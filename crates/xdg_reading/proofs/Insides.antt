@@ -78,7 +78,7 @@ to_backslash : (byte : ℕ) (bytes : List ℕ) → (byte == 34) ≡ false → (b
 unfolding inside
 to_backslash byte bytes mark backslash = ap (λ t. cond t (Some ([], bytes)) (cond (byte == 92) (inside true bytes) (lead byte (inside false bytes)))) mark ∙ ap (λ t. cond t (inside true bytes) (lead byte (inside false bytes))) backslash
 
-nothing_left : (escaped : Bool) → inside escaped [] ≡ None
+pub nothing_left : (escaped : Bool) → inside escaped [] ≡ None
 unfolding inside
 nothing_left true = refl
 nothing_left false = refl

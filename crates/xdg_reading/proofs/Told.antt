@@ -1,5 +1,5 @@
 -- What is said is what the lines show, and the place that is told is that of the first line that offends.
-use Rattle.std.proofs.Common.{◌≡◌, ◌≢◌, ◌<◌, ◌-◌, ◌==◌, ◌&&◌, inl, inr, ℕ, zero, suc, List, [], ◌∷◌, length, get_or, refl, sym, ap, ap₂, ◌∙◌, subst, arith, true, false, cond, Bool, Some, None, Option, Ok, Err, nat_lt, bytes_eq, AllPairs}
+use Rattle.std.proofs.Common.{◌≡◌, ◌≢◌, ◌<◌, ◌==◌, ◌&&◌, inl, inr, ℕ, zero, suc, List, [], ◌∷◌, length, get_or, refl, sym, ap, ap₂, ◌∙◌, subst, arith, true, false, cond, Bool, Some, None, Option, Ok, Err, nat_lt, bytes_eq, AllPairs}
 use Rattle.std.specs.Prelude.{Result, Contains}
 use Rattle.std.proofs.lemmas.List.Quantifiers.{position-Some}
 use Rattle.std.proofs.lemmas.List.Sums.{position_or_len_is}
@@ -50,19 +50,15 @@ words_fit (c ∷ cs) (w ∷ ws) (x ∷ es) a b e = by (words_fit cs ws es (omega
   by more false has e = cc
 
 pub word_offends : (cs : List (List EntryNo)) (ws : List SentenceWord) (es : List EntryNo) (at : ℕ) → words_fault cs ws es ≡ Some at → WordOffends cs ws es at
-word_offends [] ws es at e = cc
-word_offends (c ∷ cs) [] es at e = cc
-word_offends (c ∷ cs) (w ∷ ws) [] at e = cc
 word_offends (c ∷ cs) (w ∷ ws) (x ∷ es) at e = by (word_offends cs ws es at) (has_entry c x) refl e where
   by : (words_fault cs ws es ≡ Some at → WordOffends cs ws es at) → (t : Bool) → has_entry c x ≡ t → cond t (words_fault cs ws es) (Some w.at) ≡ Some at → WordOffends (c ∷ cs) (w ∷ ws) (x ∷ es) at
   by more true has e = later_word c cs w ws x es at (entry_found c x has) (more e)
   by more false has e = subst (WordOffends (c ∷ cs) (w ∷ ws) (x ∷ es)) (some_same w.at at e) (this_word c cs w ws x es (entry_lacks c x has))
+word_offends cs ws es at e = cc
 
 pub words_told : (cs : List (List EntryNo)) (ws : List SentenceWord) (es : List EntryNo) → HasCandidates cs es → words_fault cs ws es ≡ None
-words_told [] ws es has = refl
-words_told (c ∷ cs) [] es has = refl
-words_told (c ∷ cs) (w ∷ ws) [] has = refl
 words_told (c ∷ cs) (w ∷ ws) (x ∷ es) has = ap (λ t. cond t (words_fault cs ws es) (Some w.at)) (entry_there c x has.0) ∙ words_told cs ws es has.1
+words_told cs ws es has = refl
 
 pub word_told : (cs : List (List EntryNo)) (ws : List SentenceWord) (es : List EntryNo) (at : ℕ) → WordOffends cs ws es at → words_fault cs ws es ≡ Some at
 word_told cs ws es at (this_word c more w words x entries lacks) = ap (λ t. cond t (words_fault more words entries) (Some w.at)) (false_from_ne_true (has_entry c x) (λ h. lacks (entry_found c x h)))
@@ -159,12 +155,9 @@ values_told behind (a ∷ asked) (line ∷ lines) differ = values_option behind 
 -- and what they say is said
 pub values_said : (behind : ℕ) (asked : List Asked) (lines : List AttrLine) (values : List ℕ) → AllDiffer asked → SayValues asked lines values → said_values behind asked lines ≡ Ok values
 values_said behind [] [] [] differ say = refl
-values_said behind [] [] (v ∷ values) differ say = absurd say
-values_said behind [] (line ∷ lines) values differ say = absurd say
-values_said behind (a ∷ asked) [] values differ say = absurd say
-values_said behind (a ∷ asked) (line ∷ lines) [] differ say = absurd say
 values_said behind (a ∷ asked) (line ∷ lines) (v ∷ values) differ say =
     ap (λ o. or_at o line.at (λ value. lead value (said_values behind asked lines))) (value_told a line v differ.0 say.0) ∙ ap (lead v) (values_said behind asked lines values differ.1 say.1)
+values_said behind asked lines values differ say = absurd say
 
 value_none : (asked : Asked) (line : AttrLine) (o : Option ℕ) → said_value asked line ≡ o → ((v : ℕ) → SaysValue asked line v → ⊥) → said_value asked line ≡ None
 value_none asked line None e lacks = e

@@ -1,5 +1,5 @@
 -- Values of attributes are read as they are written.
-use Rattle.std.proofs.Common.{◌≡◌, ◌<◌, ◌≤◌, ◌++◌, ◌+◌, ◌&&◌, not, ◌⊎◌, inl, inr, ℕ, zero, suc, List, [], ◌∷◌, length, refl, sym, ap, ◌∙◌, subst, arith, lit<, true, false, cond, Bool, Some, None, Option, append_assoc, length-append, codes}
+use Rattle.std.proofs.Common.{◌≡◌, ◌<◌, ◌≤◌, ◌++◌, ◌&&◌, not, ◌⊎◌, inl, inr, ℕ, zero, suc, List, [], ◌∷◌, length, refl, sym, ap, ◌∙◌, subst, arith, lit<, true, false, cond, Bool, Some, None, Option, append_assoc, length-append, codes}
 use Rattle.std.proofs.lemmas.Bool.{and_parts, both_ways}
 use Rattle.std.specs.List.{flat_map, join_by, list_all}
 use Rattle.xdg_problem.specs.declared.parts.Shown.{Shown}

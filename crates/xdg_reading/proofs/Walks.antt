@@ -113,27 +113,14 @@ taken bytes stage left t made at l new later so_far is read step goes_on adds =
 -- only the last line ends a text
 pub ends_by : (s : Stage) (l : Line) → next s l ≡ Some stages.Ended → l ≡ lines.End
 ends_by s lines.End e = refl
-ends_by stages.Start lines.Version e = cc
-ends_by stages.Start (lines.Analysis number) e = cc
 ends_by stages.Start l e = cc
-ends_by stages.Second (lines.Analysis number) e = cc
-ends_by stages.Second l e = cc
-ends_by stages.Numbered (lines.Counts words attrs edges) e = cc
-ends_by stages.Numbered l e = cc
 ends_by (stages.Words read) (lines.Word node word entry) e = let both = cond_found (node.0 == read) (stages.Words (node.0 + 1)) stages.Ended e in let h = both.1 in cc
 ends_by (stages.Words read) (lines.Attr a) e = let both = cond_left (read == 0) stages.Attrs stages.Ended e in let h = both.1 in cc
 ends_by (stages.Words read) (lines.Edge a) e = let both = cond_left (read == 0) stages.Edges stages.Ended e in let h = both.1 in cc
-ends_by (stages.Words read) l e = cc
-ends_by stages.Attrs (lines.Attr a) e = cc
-ends_by stages.Attrs (lines.Edge a) e = cc
-ends_by stages.Attrs l e = cc
-ends_by stages.Edges (lines.Edge a) e = cc
-ends_by stages.Edges l e = cc
 ends_by (stages.Left read words attrs edges) (lines.Word node word entry) e = let both = cond_found (nat_lt 0 words && (node.0 == read)) (stages.Left (node.0 + 1) (words - 1) attrs edges) stages.Ended e in let h = both.1 in cc
 ends_by (stages.Left read words attrs edges) (lines.Attr a) e = let both = cond_found ((words == 0) && nat_lt 0 attrs) (stages.Left read words (attrs - 1) edges) stages.Ended e in let h = both.1 in cc
 ends_by (stages.Left read words attrs edges) (lines.Edge a) e = let both = cond_found ((words == 0) && (attrs == 0) && nat_lt 0 edges) (stages.Left read words attrs (edges - 1)) stages.Ended e in let h = both.1 in cc
-ends_by (stages.Left read words attrs edges) l e = cc
-ends_by stages.Ended l e = cc
+ends_by s l e = cc
 
 -- behind the last line something is left
 pub left_offends : (bytes : List ℕ) (stage : Stage) (left : List ℕ) (t : AnalysisText) (at : ℕ) (l : Line) (new : List ℕ) → SoFar bytes stage left t → at ≡ length bytes - length left → line_at at left ≡ Some (l, new) → next stage l ≡ Some stages.Ended → (length new ≡ 0 → ⊥) → OffendsAt bytes (length bytes - length new)

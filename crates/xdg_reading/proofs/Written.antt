@@ -25,15 +25,10 @@ use Rattle.xdg_text.specs.Values.{value_text}
 use Rattle.xdg_reading.specs.Blocks.{HasWords}
 use Rattle.xdg_reading.specs.Fits.{SaysEdge, SayValues, SayEdges, Shows}
 use Rattle.xdg_reading.specs.Slots.{Asked, node_slots, dim_slots, slots}
+use Rattle.xdg_facts.proofs.Lists.{head_of, tail_of}
 
 abbrev pub texts : List SentenceWord → List (List ℕ)
 texts words = map (λ (w : SentenceWord). w.text) words
-
-heads : (x y : List ℕ) (xs ys : List (List ℕ)) → x ∷ xs ≡ y ∷ ys → x ≡ y
-heads x y xs ys e = ap (λ z. get_or z 0 x) e
-
-tails : (x y : List ℕ) (xs ys : List (List ℕ)) → x ∷ xs ≡ y ∷ ys → xs ≡ ys
-tails x y xs ys e = ap (drop 1) e
 
 words_text : (node : ℕ) (words others : List SentenceWord) (entries : List EntryNo) → texts words ≡ texts others → text_of (word_lines node words entries) ≡ blocks.word_lines node others entries
 words_text node [] [] entries same = refl
@@ -41,7 +36,7 @@ words_text node [] (o ∷ others) entries same = cc
 words_text node (w ∷ words) [] entries same = cc
 words_text node (w ∷ words) (o ∷ others) [] same = refl
 words_text node (w ∷ words) (o ∷ others) (entry ∷ entries) same =
-    ap₂ (λ t rest. word_line node t entry.0 ++ rest) (heads w.text o.text (texts words) (texts others) same) (words_text (suc node) words others entries (tails w.text o.text (texts words) (texts others) same))
+    ap₂ (λ t rest. word_line node t entry.0 ++ rest) (head_of w.text o.text (texts words) (texts others) same) (words_text (suc node) words others entries (tail_of w.text o.text (texts words) (texts others) same))
 
 -- the lines of attributes with these values
 abbrev said_text : List Asked → List ℕ → List ℕ
@@ -51,15 +46,12 @@ said_text (a ∷ asked) (v ∷ values) = attr_line a.dim a.node a.attr.name (val
 
 attrs_text : (asked : List Asked) (xs : List AttrLine) (values : List ℕ) → SayValues asked xs values → text_of (map lines.Attr xs) ≡ said_text asked values
 attrs_text [] [] [] say = refl
-attrs_text [] [] (v ∷ values) say = absurd say
-attrs_text [] (x ∷ xs) values say = absurd say
-attrs_text (a ∷ asked) [] values say = absurd say
-attrs_text (a ∷ asked) (x ∷ xs) [] say = absurd say
 attrs_text (a ∷ asked) (x ∷ xs) (v ∷ values) say =
     let says = say.0 in
     ap₂ (λ line rest. line ++ rest)
     (ap₂ (λ d n. attr_line d n x.attr (value_text x.value)) says.dim says.node ∙ ap₂ (λ n z. attr_line a.dim a.node n (value_text z)) says.attr (sym says.is))
     (attrs_text asked xs values say.1)
+attrs_text asked xs values say = absurd say
 
 said_nothing : (asked : List Asked) → said_text asked [] ≡ []
 said_nothing [] = refl
@@ -111,9 +103,8 @@ edge_is dims x e says =
 
 edges_text : (parts : Parts) (before : Option Edge) (xs : List EdgeLine) (edges : List Edge) → SayEdges parts before xs edges → text_of (map lines.Edge xs) ≡ edge_lines parts.dims edges
 edges_text parts before [] [] say = refl
-edges_text parts before [] (e ∷ edges) say = absurd say
-edges_text parts before (x ∷ xs) [] say = absurd say
 edges_text parts before (x ∷ xs) (e ∷ edges) say = ap₂ (λ a b. a ++ b) (edge_is parts.dims x e say.0.says) (edges_text parts (Some e) xs edges say.1)
+edges_text parts before xs edges say = absurd say
 
 pub both_texts : (xs ys : List Line) → text_of (xs ++ ys) ≡ text_of xs ++ text_of ys
 both_texts xs ys = flat_map-append line_text xs ys
@@ -131,17 +122,13 @@ body_text parts t a words shows =
 
 pub values_count : (asked : List Asked) (xs : List AttrLine) (values : List ℕ) → SayValues asked xs values → length xs ≡ length values
 values_count [] [] [] say = refl
-values_count [] [] (v ∷ values) say = absurd say
-values_count [] (x ∷ xs) values say = absurd say
-values_count (a ∷ asked) [] values say = absurd say
-values_count (a ∷ asked) (x ∷ xs) [] say = absurd say
 values_count (a ∷ asked) (x ∷ xs) (v ∷ values) say = ap suc (values_count asked xs values say.1)
+values_count asked xs values say = absurd say
 
 pub edges_count : (parts : Parts) (before : Option Edge) (xs : List EdgeLine) (edges : List Edge) → SayEdges parts before xs edges → length xs ≡ length edges
 edges_count parts before [] [] say = refl
-edges_count parts before [] (e ∷ edges) say = absurd say
-edges_count parts before (x ∷ xs) [] say = absurd say
 edges_count parts before (x ∷ xs) (e ∷ edges) say = ap suc (edges_count parts (Some e) xs edges say.1)
+edges_count parts before xs edges say = absurd say
 
 words_count : (parts : Parts) (t : AnalysisText) → HasWords parts t → length t.words ≡ length parts.words
 words_count parts t words =
