@@ -1,5 +1,5 @@
 -- A body denotes at most as many partial entries as it has combinations, and the classes that an entry uses have places.
-use Rattle.std.proofs.Common.{◌≡◌, ℕ, zero, suc, ◌<◌, ◌≤◌, ◌+◌, ◌*◌, List, [], ◌∷◌, ◌++◌, length, get_or, refl, ap, sym, ◌∙◌, arith, inl, inr, subst, slice_index_or}
+use Rattle.std.proofs.Common.{◌≡◌, ℕ, zero, suc, ◌<◌, ◌≤◌, ◌+◌, ◌*◌, List, [], ◌∷◌, ◌++◌, length, get_or, ap, sym, ◌∙◌, arith, inl, inr, subst}
 use Rattle.std.specs.Prelude.{Some}
 use Rattle.std.proofs.Math.Nat.{suc-mul}
 use Rattle.std.proofs.lemmas.List.{length-append, length-map}
@@ -15,6 +15,7 @@ use Rattle.xdg_check.specs.Counts.{Counting, Agrees, combos, sum_of_combos, prod
 use Rattle.xdg_lexicon.specs.Denotes.{JoinsEach, no_other, clashes, joins, JoinsAll, no_first, first_then, Denotes, record_said, class_used, conjunction, disjunction, DenotesBoth, all_joined, join_first, DenotesEither, all_listed, list_first, IsRanked}
 use Rattle.xdg_lexicon.specs.Partial.{Partial}
 use Rattle.xdg_facts.specs.Membership.{In}
+use Rattle.xdg_facts.proofs.In.{in_map, in_index}
 
 -- ---- counts
 
@@ -43,18 +44,13 @@ products (suc a) b (suc c) d h k =
 
 -- ---- classes
 
--- the class that a name with parameters and a body comes from
-pub behind : (cs : List Class) (n : NamedBody) → In (named_bodies cs) n → (c : Class) × (In cs c × (named_body c ≡ n))
-behind [] n h = absurd h
-behind (c ∷ cs) n h = elim h [ inl is ↦ (c, (inl refl, is)) | inr k ↦ (let r = behind cs n k in (r.0, (inr r.1.0, r.1.1))) ]
-
 module _ (checked : Parts) (names : Counting) (agrees : Agrees combos checked.classes names) where
   mutual
     pub few : (bs : Bindings) (b : Body) (ms : List Partial) → Denotes checked.types.dims (named_bodies checked.classes) bs b ms → length ms ≤ combos names b
     few bs _ _ (record_said _ dim pairs p says) = omega arith
     few bs _ ms (class_used _ name args c _ stands is d) =
         let h = few _ c.body ms d in
-        let found = behind checked.classes c stands in
+        let found = in_map named_body checked.classes c stands in
         let same : names name.text ≡ combos names c.body =
         ap names (sym is ∙ ap (λ (n : NamedBody). n.name) (sym found.1.1)) ∙ agrees.defined found.0 found.1.0 ∙ ap (λ (n : NamedBody). combos names n.body) found.1.1 in
         omega (arith, h, same)
@@ -85,11 +81,6 @@ named [] c h = absurd h
 named (x ∷ cs) c (inl is) = (0, (omega arith, ap (λ (y : Class). y.name) is))
 named (x ∷ cs) c (inr h) = (let found = named cs c h in (suc found.0, ((let l = found.1.0 in omega (arith, l)), found.1.1)))
 
-index_of : (xs : List ℕ) (k : ℕ) → In xs k → (j : ℕ) × ((j < length xs) × (slice_index_or xs j 0 ≡ k))
-index_of [] k h = absurd h
-index_of (x ∷ xs) k (inl is) = (0, (omega arith, is))
-index_of (x ∷ xs) k (inr h) = (let found = index_of xs k h in (suc found.0, ((let l = found.1.0 in omega (arith, l)), found.1.1)))
-
 pub entry_ranked : (checked : Parts) (e : EntryDef) (expr : Expr) → IsChecked checked → In checked.entries e → e.body ≡ expr → IsRanked checked (length checked.order) (body expr.kind)
 entry_ranked checked e expr keeps stands is call used =
     let bound = ((keeps.entries e stands).called call (subst (λ (x : Expr). In (calls (body x.kind)) call) (sym is) used)).bound in
@@ -98,5 +89,5 @@ entry_ranked checked e expr keeps stands is call used =
     let there = named checked.classes bound.class bound.stands in
     let place = place_of-has_text known text (stands-has_text known text there.0 there.1.0 (there.1.1 ∙ bound.name)) in
     let inside : place.0 < length checked.classes = (let l = (place_of-Some known text place.0 place.1).0 in let long : length known ≡ length checked.classes = length-map checked.classes (λ (c : Class). c.name) in omega (arith, l, long)) in
-    let found = index_of checked.order place.0 (keeps.ordered.placed place.0 inside) in
+    let found = in_index checked.order place.0 0 (keeps.ordered.placed place.0 inside) in
     (found.0, (found.1.0, place.1 ∙ ap Some (sym found.1.1)))

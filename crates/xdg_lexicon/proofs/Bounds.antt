@@ -1,6 +1,6 @@
 -- The place of words, and the limits of entries.
 use Rattle.std.proofs.Common.{◌≡◌, ℕ, zero, suc, ◌-◌, ◌^◌, ◌<◌, ◌≤◌, List, [], ◌∷◌, length, get_or, map, Option, None, Some, Err, All, false, refl, sym, ap, ◌∙◌, subst, inr, arith, codes}
-use Rattle.std.specs.Prelude.{slice_get}
+use Rattle.std.specs.Prelude.{slice_get, option_map}
 use Rattle.std.proofs.lemmas.List.{length-map, get_or-map}
 use Rattle.xdg_base.specs.declared.faults.Cause.TheVariants as causes
 use Rattle.xdg_base.specs.declared.faults.Fault.{Fault}
@@ -23,13 +23,13 @@ use Rattle.xdg_lexicon.proofs.Counting.{found_count}
 use Rattle.xdg_lexicon.proofs.Right.{keeps_at}
 use Rattle.xdg_facts.proofs.In.{differ_once}
 use Rattle.xdg_types.proofs.Places.{places_once}
+use Rattle.std.proofs.lemmas.Option.{slice_get-map}
+use Rattle.xdg_lexicon.proofs.OneMeaning.{some_same}
 
 -- ---- one place
 
 map_at : {A B : Type 0} (f : A → B) (xs : List A) (k : ℕ) (x : A) → slice_get xs k ≡ Some x → slice_get (map f xs) k ≡ Some (f x)
-map_at f [] k x is = absurd (cc)
-map_at f (y ∷ xs) zero x is = (let same : y ≡ x = cc in ap (λ z. Some (f z)) same)
-map_at f (y ∷ xs) (suc k) x is = map_at f xs k x is
+map_at f xs k x is = slice_get-map f xs k ∙ ap (option_map f) is
 
 name_at : (fs : List (List ℕ × Ty)) (k : ℕ) (name : List ℕ) (s : Shape) → slice_get (typed fs) k ≡ Some (name, s) → slice_get (firsts fs) k ≡ Some name
 name_at [] k name s is = absurd (cc)
@@ -45,15 +45,12 @@ words_once table is d f e g x y =
     let one : slice_get names x.used.0 ≡ Some (codes "lex") = map_at (λ (dim : DimType). dim.name) table.dims x.used.0 x.lex x.used.1.1 ∙ ap Some x.name in
     let other : slice_get names y.used.0 ≡ Some (codes "lex") = map_at (λ (dim : DimType). dim.name) table.dims y.used.0 y.lex y.used.1.1 ∙ ap Some y.name in
     let same_place : x.used.0 ≡ y.used.0 = differ_once names x.used.0 y.used.0 (codes "lex") is.names one other in
-    let same_dim : x.lex ≡ y.lex = same_some (slice_get table.dims x.used.0) x.lex y.lex x.used.1.1 (ap (slice_get table.dims) same_place ∙ y.used.1.1) in
+    let same_dim : x.lex ≡ y.lex = some_same (slice_get table.dims x.used.0) x.lex y.lex x.used.1.1 (ap (slice_get table.dims) same_place ∙ y.used.1.1) in
     let keeps = keeps_at table.dims x.used.0 x.lex x.used.1.1 is.dims in (
       places_once (length table.dims) table.used d e x.used.0 is.used x.used.1.0 (y.used.1.0 ∙ ap Some (sym same_place)),
       differ_once (firsts x.lex.fields) f g (codes "word") keeps.fields (name_at x.lex.fields f (codes "word") text x.word)
           (name_at x.lex.fields g (codes "word") text (ap (λ (dim : DimType). slice_get (typed dim.fields) g) same_dim ∙ y.word)),
     )
-  where
-    same_some : (o : Option DimType) (a b : DimType) → o ≡ Some a → o ≡ Some b → a ≡ b
-    same_some o a b e f = cc
 
 -- ---- entries of words
 

@@ -1,6 +1,6 @@
 -- How many entries each word has, while further ones are added.
-use Rattle.std.proofs.Common.{◌≡◌, ℕ, zero, suc, ◌+◌, ◌<◌, List, [], ◌∷◌, ◌++◌, length, get_or, map, None, Some, refl, sym, ap, ap₂, ◌∙◌, subst, slice_set}
-use Rattle.std.proofs.lemmas.List.{map-append, length-map, length-append, get_or-map}
+use Rattle.std.proofs.Common.{◌≡◌, ℕ, zero, suc, ◌+◌, List, [], ◌∷◌, ◌++◌, length, get_or, map, None, Some, refl, sym, ap, ap₂, ◌∙◌, subst, slice_set}
+use Rattle.std.proofs.lemmas.List.{map-append, length-map, length-append, get_or-map, map-set}
 use Rattle.xdg_base.specs.declared.ids.EntryNo.{EntryNo}
 use Rattle.xdg_names.specs.Texts.{place_of}
 use Rattle.xdg_names.proofs.Texts.{place_of-Some}
@@ -8,14 +8,9 @@ use Rattle.xdg_packed.specs.Lexicon.{number, numbers_of, places_of}
 use Rattle.xdg_packed.specs.Words.{IsWordIndex}
 use Rattle.xdg_packed.proofs.WordLists.{known_word, new_word, word_unknown}
 use Rattle.xdg_lexicon.specs.Growing.{IsWordCount}
-use Rattle.xdg_facts.proofs.Lists.{any_default}
+use Rattle.xdg_facts.proofs.Lists.{fused}
 
 -- ---- lengths
-
-lengths_set : (all : List (List EntryNo)) (place : ℕ) (m : List EntryNo) → map (λ (l : List EntryNo). length l) (slice_set all place m) ≡ slice_set (map (λ (l : List EntryNo). length l) all) place (length m)
-lengths_set [] place m = refl
-lengths_set (x ∷ all) zero m = refl
-lengths_set (x ∷ all) (suc place) m = ap (λ l. length x ∷ l) (lengths_set all place m)
 
 lengths_at : (all : List (List EntryNo)) (place : ℕ) → get_or (map (λ (l : List EntryNo). length l) all) place 0 ≡ length (get_or all place [])
 lengths_at [] place = refl
@@ -23,8 +18,7 @@ lengths_at (x ∷ all) zero = refl
 lengths_at (x ∷ all) (suc place) = lengths_at all place
 
 lengths_of : (said words : List (List ℕ)) → map (λ (l : List EntryNo). length l) (map (numbers_of said) words) ≡ map (λ word. length (numbers_of said word)) words
-lengths_of said [] = refl
-lengths_of said (word ∷ words) = ap (λ l. length (numbers_of said word) ∷ l) (lengths_of said words)
+lengths_of said words = fused (λ (l : List EntryNo). length l) (numbers_of said) words
 
 again : (said words : List (List ℕ)) (numbers : List (List EntryNo)) → IsWordIndex said words numbers → IsWordIndex said words (map (numbers_of said) words)
 again said words numbers index = record { differ = index.differ; all = index.all; numbered = refl }
@@ -45,7 +39,7 @@ module _ (said words : List (List ℕ)) (counts : List ℕ) (word : List ℕ) (c
         index = again (said ++ word ∷ []) words (slice_set numbers place (get_or numbers place [] ++ number (length said) ∷ [])) index;
         counted = is
             ∙ ap₂ (λ l n. slice_set l place n) (count.counted ∙ sym (lengths_of said words)) (ap (λ n. n + 1) at ∙ sym longer)
-            ∙ sym (lengths_set numbers place (get_or numbers place [] ++ number (length said) ∷ []))
+            ∙ sym (map-set (λ (l : List EntryNo). length l) numbers place (get_or numbers place [] ++ number (length said) ∷ []))
             ∙ ap (map (λ (l : List EntryNo). length l)) index.numbered
             ∙ lengths_of (said ++ word ∷ []) words;
       }
@@ -75,6 +69,3 @@ module _ (said words : List (List ℕ)) (counts : List ℕ) (word : List ℕ) (c
 
 pub as_many : (said words : List (List ℕ)) (counts : List ℕ) → IsWordCount said words counts → length counts ≡ length words
 as_many said words counts count = ap length count.counted ∙ length-map words (λ word. length (numbers_of said word))
-
-pub any_number : (counts : List ℕ) (place d e : ℕ) → place < length counts → get_or counts place d ≡ get_or counts place e
-any_number counts place d e within = any_default counts place d e within

@@ -1,44 +1,32 @@
 -- The numbers of bodies are told by the classes.
-use Rattle.std.proofs.Common.{◌≡◌, ℕ, List, [], ◌∷◌, map, refl, sym, ap, ◌∙◌, subst, inl, inr}
+use Rattle.std.proofs.Common.{◌≡◌, ℕ, List, refl, sym, ◌∙◌, subst}
 use Rattle.xdg_classes.specs.Bodies.{Body}
 use Rattle.xdg_classes.specs.Wants.{NamedBody}
 use Rattle.xdg_check.specs.declared.checked.Class.{Class}
 use Rattle.xdg_check.specs.Checked.{named_body, named_bodies}
-use Rattle.xdg_check.specs.Counts.{Counting, Agrees, AreCounted, class_texts, uses, combos}
+use Rattle.xdg_check.specs.Counts.{Counting, Agrees, AreCounted, uses, combos}
 use Rattle.xdg_check.proofs.SameCounts.{same_uses, same_combos}
 use Rattle.xdg_lexicon.specs.Sources.{AreNumbers, HasNumber}
 use Rattle.xdg_facts.specs.Membership.{In}
+use Rattle.xdg_facts.proofs.In.{in_map, map_in}
+use Rattle.xdg_facts.proofs.Lists.{fused}
 
 -- ---- classes and named bodies
-
-names_are : (cs : List Class) → map (λ (c : NamedBody). c.name) (named_bodies cs) ≡ class_texts cs
-names_are [] = refl
-names_are (c ∷ cs) = ap (λ l. c.name ∷ l) (names_are cs)
-
-in_named : (cs : List Class) (c : Class) → In cs c → In (named_bodies cs) (named_body c)
-in_named [] c stands = stands
-in_named (first ∷ cs) c (inl is) = inl (ap named_body is)
-in_named (first ∷ cs) c (inr later) = inr (in_named cs c later)
-
-behind : (cs : List Class) (n : NamedBody) → In (named_bodies cs) n → (c : Class) × (In cs c × (named_body c ≡ n))
-behind [] n stands = absurd stands
-behind (c ∷ cs) n (inl is) = (c, (inl refl, is))
-behind (c ∷ cs) n (inr later) = let found = behind cs n later in (found.0, (inr found.1.0, found.1.1))
 
 module _ (count : Counting → Body → ℕ) (cs : List Class) (names : Counting) where
   agrees_of : AreNumbers count (named_bodies cs) names → Agrees count cs names
   agrees_of are = record {
-    defined = λ c stands. are.defined (named_body c) (in_named cs c stands);
-    undefined = λ name missing. are.undefined name (λ among. missing (subst (λ l. In l name) (names_are cs) among));
+    defined = λ c stands. are.defined (named_body c) (map_in named_body cs c stands);
+    undefined = λ name missing. are.undefined name (λ among. missing (subst (λ l. In l name) (fused (λ (c : NamedBody). c.name) named_body cs) among));
   }
 
   numbers_of : Agrees count cs names → AreNumbers count (named_bodies cs) names
   numbers_of agrees = record {
     defined = λ n stands.
-        let found = behind cs n stands in
+        let found = in_map named_body cs n stands in
         let P : NamedBody → Type 0 = λ m. names m.name ≡ count names m.body in
         subst P found.1.1 (agrees.defined found.0 found.1.0);
-    undefined = λ name missing. agrees.undefined name (λ among. missing (subst (λ l. In l name) (sym (names_are cs)) among));
+    undefined = λ name missing. agrees.undefined name (λ among. missing (subst (λ l. In l name) (sym (fused (λ (c : NamedBody). c.name) named_body cs)) among));
   }
 
 -- ---- one number

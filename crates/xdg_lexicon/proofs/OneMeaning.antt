@@ -44,11 +44,8 @@ one_allowed written a b h k = allows_unique a a a b (h.0, λ n. sym (and_self (h
 
 said_once : {A V : Type 0} (P : A → V → Type 0) → ((a : A) (x y : V) → P a x → P a y → x ≡ y) → (o : Option A) (s t : Option V) → Said P o s → Said P o t → s ≡ t
 said_once P once None None None h k = refl
-said_once P once None None (Some y) h k = absurd k
-said_once P once None (Some x) t h k = absurd h
-said_once P once (Some a) None t h k = absurd h
-said_once P once (Some a) (Some x) None h k = absurd k
 said_once P once (Some a) (Some x) (Some y) h k = ap (λ z. Some z) (once a x y h k)
+said_once P once o s t h k = absurd (assumption (h, k))
 
 -- ---- values
 

@@ -21,6 +21,7 @@ use Rattle.xdg_packed.specs.Entries.{IsWhole, IsEntry, record_type}
 use Rattle.xdg_lexicon.specs.Lexicon.{whole_record, record_then, records_of, whole}
 use Rattle.xdg_facts.proofs.Lists.{any_default}
 use Rattle.xdg_facts.specs.Membership.{Differ}
+use Rattle.xdg_lexicon.proofs.OneMeaning.{some_same}
 
 -- ---- types
 
@@ -103,14 +104,11 @@ whole_right table p entry is partial made = record {
   each = λ d dim used.
       let at = record_at table.dims p table.used entry d used.0 made used.1.0 in
       let found = some_record (slice_get table.dims used.0) (said_of p used.0) (get_or entry d []) at in
-      let same : found.0 ≡ dim = same_dim (slice_get table.dims used.0) found.0 dim found.1.0 used.1.1 in
+      let same : found.0 ≡ dim = some_same (slice_get table.dims used.0) found.0 dim found.1.0 used.1.1 in
       let right = subst (λ fs. IsRecord fs (said_of p used.0)) (same_features dim.fields) (partial.each used.0 dim (dim_at table.dims used.0 dim used.1.1)) in
       record_is_whole dim (said_of p used.0) (get_or entry d []) (keeps_at table.dims used.0 dim used.1.1 is.dims) right
       (subst (λ (x : DimType). filled_fields 0 (fields_of (typed x.fields)) (said_of p used.0) ≡ Some (get_or entry d [])) same found.1.1);
 }
-  where
-    same_dim : (o : Option DimType) (a b : DimType) → o ≡ Some a → o ≡ Some b → a ≡ b
-    same_dim o a b e f = cc
 
 -- ---- one record after the other
 

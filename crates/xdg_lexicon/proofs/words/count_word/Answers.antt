@@ -1,7 +1,8 @@
 use Rattle.std.proofs.Common.{◌+◌, length, vec_len, sym, ap, ◌∙◌, slice_set}
 use Rattle.xdg_packed.proofs.Packs.{added_last}
 use Rattle.xdg_packed.proofs.WordLists.{still_as_many, place_inside}
-use Rattle.xdg_lexicon.proofs.Counting.{as_many, any_number, known_counted, new_counted}
+use Rattle.xdg_lexicon.proofs.Counting.{as_many, known_counted, new_counted}
+use Rattle.xdg_facts.proofs.Lists.{any_default}
 use Rattle.xdg_lexicon.proofs.words.count_word.Goals as goal
 
 pub index-requires : goal.index-requires
@@ -14,7 +15,7 @@ pub returns-in-Some-checked_add-clause-counted : goal.returns-in-Some-checked_ad
 returns-in-Some-checked_add-clause-counted c said count =
     let within = place_inside c.args.words.now c.args.word.now c.in-Some.place (length c.args.counts.now.items) (sym c.in-Some.ensures) (as_many said c.args.words.now c.args.counts.now.items count) in
     known_counted said c.args.words.now c.args.counts.now.items c.args.word.now count c.in-Some.place (slice_set c.args.counts.now.items c.in-Some.place c.in-Some-checked_add.count) (sym c.in-Some.ensures)
-    (ap (slice_set c.args.counts.now.items c.in-Some.place) (c.in-Some-checked_add.ensures.1 ∙ ap (λ n. n + 1) (c.index.ensures ∙ any_number c.args.counts.now.items c.in-Some.place c.index.result.now 0 within)))
+    (ap (slice_set c.args.counts.now.items c.in-Some.place) (c.in-Some-checked_add.ensures.1 ∙ ap (λ n. n + 1) (c.index.ensures ∙ any_default c.args.counts.now.items c.in-Some.place c.index.result.now 0 within)))
 
 pub returns-in_ok-add-in-None-clause-as_many : goal.returns-in_ok-add-in-None-clause-as_many
 returns-in_ok-add-in-None-clause-as_many c =
