@@ -171,7 +171,7 @@ below_within parts box dim table is exact a b i = closed_above (must_edges parts
 mothers_within : (parts : Parts) (box : List (List Bool)) (dim : ℕ) → IsBox (shape parts) box → All (λ e. e.mother.0 < nodes parts) (must_edges parts box dim)
 mothers_within parts box dim is = All-weaker (Contains (must_edges parts box dim)) (λ e. e.mother.0 < nodes parts) (λ e c. (is_place parts e ((must_exact parts box dim e is).0 c).0.0).mother) (must_edges parts box dim) (All-contains_itself (must_edges parts box dim))
 
-barrier_within : (parts : Parts) (box : List (List Bool)) (dim barrier u : ℕ) → IsBox (shape parts) box → u < nodes parts → (barrier ≡ u) ⊎ Above (must_edges parts box dim) barrier u → barrier < nodes parts
+pub barrier_within : (parts : Parts) (box : List (List Bool)) (dim barrier u : ℕ) → IsBox (shape parts) box → u < nodes parts → (barrier ≡ u) ⊎ Above (must_edges parts box dim) barrier u → barrier < nodes parts
 barrier_within parts box dim barrier u is within (inl here) = omega (arith, here, within)
 barrier_within parts box dim barrier u is within (inr over) = above_within (nodes parts) (must_edges parts box dim) barrier u (mothers_within parts box dim is) over
 

@@ -1,5 +1,5 @@
 -- Where what the rules of a principle take was cleared, and nothing was taken, the box is closed.
-use Rattle.std.proofs.Common.{◌≡◌, ℕ, inr, Bool, List, refl, sym, subst}
+use Rattle.std.proofs.Common.{◌≡◌, ℕ, inr, refl, sym, subst}
 use Rattle.xdg_problem.specs.declared.parts.Group.{Group}
 use Rattle.xdg_problem.specs.declared.parts.Principle.{Principle}
 use Rattle.xdg_problem.specs.declared.parts.Principle.TheVariants as principles

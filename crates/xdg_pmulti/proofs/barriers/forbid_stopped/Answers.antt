@@ -1,7 +1,6 @@
 use Rattle.std.proofs.Common.{◌≡◌, [], ◌∷◌, arith}
-use Rattle.xdg_graph.specs.Edges.{edge_labels}
 use Rattle.xdg_pmulti.proofs.Aiming.{ByBarrier, barrier_out, stopped_all, under_within}
-use Rattle.xdg_pmulti.proofs.Forbidding.{passed_more, passed_node, passed_start, stays_below}
+use Rattle.xdg_pmulti.proofs.Forbidding.{passed_more, passed_node, passed_start}
 use Rattle.xdg_pmulti.proofs.barriers.forbid_stopped.Goals as goal
 
 pub loop-barrier-init : goal.loop-barrier-init
@@ -21,17 +20,11 @@ set_at-within-requires c =
     let most = c.loop-barrier.invariant.3.problem.most in
     omega (arith, within, most)
 
-pub forbid_out-requires-clause-known : goal.forbid_out-requires-clause-known
-forbid_out-requires-clause-known c = c.loop-barrier.invariant.3
-
 pub forbid_out-requires-clause-nodes : goal.forbid_out-requires-clause-nodes
 forbid_out-requires-clause-nodes c =
     let left_is : c.loop-barrier.barrier-iterator ≡ c.in-Some.barrier.0 ∷ c.next.new.self = c.in-Some.ensures.steps in
     let within = passed_node c.args.dim.0 (ByBarrier c.args.label.0 c.args.over.now c.args.near.now) c.args.barriers c.iter-barrier-items.result c.into_iter-barrier-iterator.result c.loop-barrier.barrier-iterator c.next.new.self c.in-Some.barrier.0 c.args.pass.now c.loop-barrier.pass c.args.store.now c.loop-barrier.store c.iter-barrier-items.ensures.value c.into_iter-barrier-iterator.ensures.into_iter_gives left_is c.requires.barriers c.loop-barrier.invariant.2 in
     under_within c.args.store.now.parts c.loop-barrier.store.parts c.args.over.now c.in-Some.barrier.0 c.and_below-mothers.result c.loop-barrier.invariant.2.clears.same c.requires.over within c.and_below-mothers.ensures
-
-pub forbid_out-requires-clause-label : goal.forbid_out-requires-clause-label
-forbid_out-requires-clause-label c = stays_below (λ parts. edge_labels parts c.args.dim.0) c.args.label.0 c.loop-barrier.store.parts c.args.store.now.parts c.loop-barrier.invariant.2.clears.same c.requires.label
 
 pub loop-barrier-preserved : goal.loop-barrier-preserved
 loop-barrier-preserved c =
@@ -43,6 +36,3 @@ pub returns-clause-clears : goal.returns-clause-clears
 returns-clause-clears c =
     let left_is : c.loop-barrier.barrier-iterator ≡ [] = c.in-None.ensures.steps.0 in
     stopped_all c.args.store.now.parts c.args.dim.0 c.args.label.0 c.args.barriers c.iter-barrier-items.result c.into_iter-barrier-iterator.result c.loop-barrier.barrier-iterator c.args.over.now c.args.near.now c.args.pass.now c.loop-barrier.pass c.args.store.now c.loop-barrier.store c.iter-barrier-items.ensures.value c.into_iter-barrier-iterator.ensures.into_iter_gives left_is c.loop-barrier.invariant.2
-
-pub returns-clause-known : goal.returns-clause-known
-returns-clause-known c = c.loop-barrier.invariant.3

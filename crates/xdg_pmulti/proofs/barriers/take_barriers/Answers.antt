@@ -1,11 +1,5 @@
-use Rattle.xdg_pmulti.proofs.Aiming.{barriers_done, below_within, blocking_within}
+use Rattle.xdg_pmulti.proofs.Aiming.{barriers_done, below_within}
 use Rattle.xdg_pmulti.proofs.barriers.take_barriers.Goals as goal
-
-pub forbid_blocked-requires-clause-known : goal.forbid_blocked-requires-clause-known
-forbid_blocked-requires-clause-known c = c.above-over.ensures.known
-
-pub forbid_blocked-requires-clause-blocking : goal.forbid_blocked-requires-clause-blocking
-forbid_blocked-requires-clause-blocking c = blocking_within c.args.store.now.parts c.args.store.now.now c.args.group.now c.dim_of-dim.result.0 c.blocking-barred.result c.blocking-barred.ensures.exact
 
 pub forbid_blocked-requires-clause-over : goal.forbid_blocked-requires-clause-over
 forbid_blocked-requires-clause-over c = below_within c.args.store.now.parts c.args.store.now.now c.dim_of-dim.result.0 c.above-over.result c.above-over.ensures.known.is_box c.above-over.ensures.exact

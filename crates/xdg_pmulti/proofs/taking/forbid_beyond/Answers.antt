@@ -25,6 +25,3 @@ returns-clause-clears c =
     let left_is : c.loop-daughter.daughter-iterator ≡ [] = c.in-None.ensures.steps.0 in
     let are = is_beyond c.args.store.now.parts c.args.store.now.now c.args.dim.0 c.args.mother.0 c.args.label.0 c.args.within c.daughters_by.result c.minus-beyond.result c.iter-daughter-items.result c.into_iter-daughter-iterator.result c.daughters_by.ensures.exact c.minus-beyond.ensures.members c.iter-daughter-items.ensures.value c.into_iter-daughter-iterator.ensures.into_iter_gives in
     beyond_all c.args.dim.0 c.args.mother.0 c.args.label.0 c.args.within c.into_iter-daughter-iterator.result c.loop-daughter.daughter-iterator c.args.pass.now c.loop-daughter.pass c.args.store.now c.loop-daughter.store c.requires.known are left_is c.loop-daughter.invariant.2
-
-pub returns-clause-known : goal.returns-clause-known
-returns-clause-known c = c.loop-daughter.invariant.3

@@ -1,23 +1,16 @@
 use Rattle.std.proofs.Common.{◌≡◌, [], ◌∷◌}
-use Rattle.xdg_graph.specs.Edges.{edge_labels}
 use Rattle.xdg_pmulti.specs.Aims.{Beyond}
 use Rattle.xdg_pmulti.proofs.Aiming.{out_all}
-use Rattle.xdg_pmulti.proofs.Forbidding.{passed_more, passed_node, passed_start, stays_below}
+use Rattle.xdg_pmulti.proofs.Forbidding.{passed_more, passed_node, passed_start}
 use Rattle.xdg_pmulti.proofs.taking.forbid_out.Goals as goal
 
 pub loop-mother-init : goal.loop-mother-init
 loop-mother-init c = (tt, tt, passed_start c.args.store.now.parts c.args.dim.0 (λ u. Beyond u c.args.label.0 c.args.within) c.into_iter-mother-iterator.result c.args.pass.now c.args.store.now, c.requires.known)
 
-pub forbid_beyond-requires-clause-known : goal.forbid_beyond-requires-clause-known
-forbid_beyond-requires-clause-known c = c.loop-mother.invariant.3
-
 pub forbid_beyond-requires-clause-node : goal.forbid_beyond-requires-clause-node
 forbid_beyond-requires-clause-node c =
     let left_is : c.loop-mother.mother-iterator ≡ c.in-Some.mother.0 ∷ c.next.new.self = c.in-Some.ensures.steps in
     passed_node c.args.dim.0 (λ u. Beyond u c.args.label.0 c.args.within) c.args.mothers c.iter-mother-items.result c.into_iter-mother-iterator.result c.loop-mother.mother-iterator c.next.new.self c.in-Some.mother.0 c.args.pass.now c.loop-mother.pass c.args.store.now c.loop-mother.store c.iter-mother-items.ensures.value c.into_iter-mother-iterator.ensures.into_iter_gives left_is c.requires.nodes c.loop-mother.invariant.2
-
-pub forbid_beyond-requires-clause-label : goal.forbid_beyond-requires-clause-label
-forbid_beyond-requires-clause-label c = stays_below (λ parts. edge_labels parts c.args.dim.0) c.args.label.0 c.loop-mother.store.parts c.args.store.now.parts c.loop-mother.invariant.2.clears.same c.requires.label
 
 pub loop-mother-preserved : goal.loop-mother-preserved
 loop-mother-preserved c =
@@ -28,6 +21,3 @@ pub returns-clause-clears : goal.returns-clause-clears
 returns-clause-clears c =
     let left_is : c.loop-mother.mother-iterator ≡ [] = c.in-None.ensures.steps.0 in
     out_all c.args.store.now.parts c.args.dim.0 c.args.label.0 c.args.mothers c.args.within c.iter-mother-items.result c.into_iter-mother-iterator.result c.loop-mother.mother-iterator c.args.pass.now c.loop-mother.pass c.args.store.now c.loop-mother.store c.iter-mother-items.ensures.value c.into_iter-mother-iterator.ensures.into_iter_gives left_is c.loop-mother.invariant.2
-
-pub returns-clause-known : goal.returns-clause-known
-returns-clause-known c = c.loop-mother.invariant.3
