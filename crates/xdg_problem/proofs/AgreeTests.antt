@@ -56,7 +56,9 @@ module _ (parts : Parts) (group : Group) (candidates attrs : List ℕ) (edges : 
     second_alike = same_iff (on_same (looks_at group test) two edges (λ e on. looks e ∙ or_here (e.dim.0 == two) (e.dim.0 == one) on))
 
   pub below_tests : EachPair group.truths n labels Passes climbing ↔ IsKept parts group candidates attrs edges conditions.Below
-  below_tests = pairs (Asks conditions.Below parts group candidates attrs edges) (λ u v. Passes (climbing u v)) n n (λ u v. asked_alike _ _ _ _ (first_alike (climbing u v) (λ e. refl) (λ es. Above es u v)) (second_alike (climbing u v) (λ e. refl) (λ es. Above es u v)))
+  below_tests = pairs (Asks conditions.Below parts group candidates attrs edges) (λ u v. Passes (climbing u v)) n n
+      (λ u v. asked_alike _ _ _ _ (first_alike (climbing u v) (λ e. refl) (λ es. Above es u v)) (second_alike (climbing u v) (λ e. refl) (λ es. Above es u v)))
 
   pub blocked_tests : EachPair group.truths n labels Passes not_blocked ↔ IsKept parts group candidates attrs edges conditions.Blocked
-  blocked_tests = pairs (Asks conditions.Blocked parts group candidates attrs edges) (λ w v. Passes (not_blocked w v)) n n (λ w v. asked_alike _ _ _ _ (second_alike (not_blocked w v) (λ e. refl) (λ es. AboveByLast es w (set_row group w (slice_index candidates w)) v)) (first_alike (not_blocked w v) (λ e. refl) (λ es. Above es w v)))
+  blocked_tests = pairs (Asks conditions.Blocked parts group candidates attrs edges) (λ w v. Passes (not_blocked w v)) n n
+      (λ w v. asked_alike _ _ _ _ (second_alike (not_blocked w v) (λ e. refl) (λ es. AboveByLast es w (set_row group w (slice_index candidates w)) v)) (first_alike (not_blocked w v) (λ e. refl) (λ es. Above es w v)))

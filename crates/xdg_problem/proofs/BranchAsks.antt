@@ -34,7 +34,8 @@ abbrev pub LinkAlike : Principle → Principle → Type 0
 LinkAlike p q = (group : Group) (candidate : ℕ) (edges : List Edge) (u l v : ℕ) → AsksLink p group candidate edges u l v ↔ AsksLink q group candidate edges u l v
 
 -- what the linking principles ask goes by the rows
-linked_alike : (principle p q : Principle) (group : Group) (f g : List (List (List Feat))) (node c d : ℕ) (edges : List Edge) (l v : ℕ) → SameRows group f g node c d → AsksLink principle (with_use p f group) c edges node l v → AsksLink principle (with_use q g group) d edges node l v
+linked_alike : (principle p q : Principle) (group : Group) (f g : List (List (List Feat))) (node c d : ℕ) (edges : List Edge) (l v : ℕ) → SameRows group f g node c d → AsksLink principle (with_use p f group) c edges node l v
+    → AsksLink principle (with_use q g group) d edges node l v
 linked_alike principles.LinkingNotDaughter p q group f g node c d edges l v same asks = λ has. asks (subst (λ r. Contains r l) (sym (same 0 0)) has)
 linked_alike principle p q group f g node c d edges l v same asks = subst (λ r. AsksBy (linking_of principle) edges node r v) (same 0 l) asks
 
@@ -46,7 +47,8 @@ module _ (p q : Principle) (group : Group) (f g : List (List (List Feat))) (link
   same_asks conditions.Agree c d values edges tuple same asks = λ daughter has. asks daughter (subst (λ r. Contains r (second tuple)) (sym (same 0 0)) has)
   same_asks conditions.Govern c d values edges tuple same asks = λ daughter. subst (λ r. 0 < length r → Contains r (slice_index values 0)) (same 0 (second tuple)) (asks daughter)
   same_asks conditions.Blocked c d values edges tuple same asks = λ above. asks (subst (λ r. AboveByLast (edges_on (second_dim group) edges) (first tuple) r (second tuple)) (sym (same 0 0)) above)
-  same_asks conditions.Link c d values edges tuple same asks = λ daughter. (links (with_use q g group) d (edges_on (second_dim group) edges) (first tuple) (second tuple) (third tuple)).0 (linked_alike p p q group f g (first tuple) c d (edges_on (second_dim group) edges) (second tuple) (third tuple) same (asks daughter))
+  same_asks conditions.Link c d values edges tuple same asks = λ daughter. (links (with_use q g group) d (edges_on (second_dim group) edges) (first tuple) (second tuple) (third tuple)).0
+      (linked_alike p p q group f g (first tuple) c d (edges_on (second_dim group) edges) (second tuple) (third tuple) same (asks daughter))
   same_asks condition c d values edges tuple same asks = asks
 
   module _ (parts : Parts) (cs ds : List (List EntryNo)) (gs hs : List Group) where
@@ -73,7 +75,8 @@ module _ (p q : Principle) (group : Group) (f g : List (List (List Feat))) (link
           (λ condition holds tuple is. same_all condition tuple (holds tuple (same_tuple condition edges tuple is))) asked kept
 
 -- both ways
-pub relation_alike : (p q : Principle) (group : Group) (f g : List (List (List Feat))) → LinkAlike p q → (parts : Parts) (cs ds : List (List EntryNo)) (gs hs : List Group) (xs ys attrs : List ℕ) (edges : List Edge) → ((node : ℕ) → SameRows group f g node (slice_index xs node) (slice_index ys node))
+pub relation_alike : (p q : Principle) (group : Group) (f g : List (List (List Feat))) → LinkAlike p q → (parts : Parts) (cs ds : List (List EntryNo)) (gs hs : List Group) (xs ys attrs : List ℕ) (edges : List Edge)
+    → ((node : ℕ) → SameRows group f g node (slice_index xs node) (slice_index ys node))
     → AsksWhole p (with_candidates cs gs parts) xs attrs edges ↔ AsksWhole q (with_candidates ds hs parts) ys attrs edges → (asked : List Condition)
     → All (IsKept (with_candidates cs gs parts) (with_use p f group) xs attrs edges) asked ↔ All (IsKept (with_candidates ds hs parts) (with_use q g group) ys attrs edges) asked
 relation_alike p q group f g links parts cs ds gs hs xs ys attrs edges same whole asked = (

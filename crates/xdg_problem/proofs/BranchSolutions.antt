@@ -39,8 +39,10 @@ module _ (parts : Parts) (place : ℕ) (is : IsProblem parts) (within : place < 
   same_entries (c ∷ candidates) more = refl
 
   whole_cut : (principle : Principle) (more attrs : List ℕ) (edges : List Edge) → AsksWhole (branch_principle place principle) branch (0 ∷ more) attrs edges ↔ AsksWhole principle parts (place ∷ more) attrs edges
-  whole_cut (principles.Rule formula) more attrs edges = subst (λ c. IsTrueOf branch (0 ∷ more) attrs edges c unbound ↔ IsTrueOf parts (place ∷ more) attrs edges (claim formula) unbound) (sym (claim_cut place formula)) (true_cut parts place more attrs edges (claim formula) unbound)
-  whole_cut (principles.Bound costs most) more attrs edges = subst (λ es. (total_cost costs (entries_at (first_alone no_entry place parts.candidates) (0 ∷ more)) edges < most) ↔ (total_cost costs es edges < most)) (same_entries parts.candidates more) (λ t. t, λ t. t)
+  whole_cut (principles.Rule formula) more attrs edges = subst (λ c. IsTrueOf branch (0 ∷ more) attrs edges c unbound ↔ IsTrueOf parts (place ∷ more) attrs edges (claim formula) unbound) (sym (claim_cut place formula))
+      (true_cut parts place more attrs edges (claim formula) unbound)
+  whole_cut (principles.Bound costs most) more attrs edges = subst (λ es. (total_cost costs (entries_at (first_alone no_entry place parts.candidates) (0 ∷ more)) edges < most) ↔ (total_cost costs es edges < most))
+      (same_entries parts.candidates more) (λ t. t, λ t. t)
   whole_cut principle more attrs edges = (λ t. t, λ t. t)
 
   branch_relation : (group : Group) (a : Analysis) → IsAnalysis branch a → Relation branch (branch_group place group) a ↔ Relation parts group a
@@ -49,11 +51,13 @@ module _ (parts : Parts) (place : ℕ) (is : IsProblem parts) (within : place < 
       let alone = first_alone no_entry place parts.candidates in
       let feats = first_alone [] place group.feats in
       let asked = conditions_of group in
-      let same = relation_alike (branch_principle place group.principle) group.principle group feats group.feats (branch_links group.principle place) parts alone parts.candidates (map (branch_group place) parts.groups) parts.groups (0 ∷ differ.more) (place ∷ differ.more) a.attrs a.edges
+      let same = relation_alike (branch_principle place group.principle) group.principle group feats group.feats (branch_links group.principle place) parts alone parts.candidates
+      (map (branch_group place) parts.groups) parts.groups (0 ∷ differ.more) (place ∷ differ.more) a.attrs a.edges
       (alone_rows group group.feats place differ.more) (whole_cut group.principle differ.more a.attrs a.edges) asked in
       subst (λ xs. All (IsKept branch (branch_group place group) xs a.attrs a.edges) (conditions_of (branch_group place group)) ↔ Relation parts group a) (sym differ.branch)
       (subst (λ xs. All (IsKept branch (branch_group place group) (0 ∷ differ.more) a.attrs a.edges) (conditions_of (branch_group place group)) ↔ All (IsKept parts group xs a.attrs a.edges) asked) (sym differ.whole)
-      (subst (λ cs. All (IsKept branch (branch_group place group) (0 ∷ differ.more) a.attrs a.edges) cs ↔ All (IsKept parts group (place ∷ differ.more) a.attrs a.edges) asked) (sym (same_column (λ principle. conditions_for principle group.truths) (λ f g. refl) group.principle place)) same))
+      (subst (λ cs. All (IsKept branch (branch_group place group) (0 ∷ differ.more) a.attrs a.edges) cs ↔ All (IsKept parts group (place ∷ differ.more) a.attrs a.edges) asked)
+      (sym (same_column (λ principle. conditions_for principle group.truths) (λ f g. refl) group.principle place)) same))
 
   all_relations : (groups : List Group) (a : Analysis) → IsAnalysis branch a → All (Kept branch a) (map (branch_group place) groups) ↔ All (Kept parts a) groups
   all_relations groups a fits = all_mapped (Kept branch a) (Kept parts a) (branch_group place) groups (λ group. branch_relation group a fits)

@@ -49,12 +49,8 @@ module _ (place : ℕ) where
   layer_cut (Formula-F.Or ks) = rolled (Formula-F.Or (map (branch_formula place) (map (λ (k : Told). k.0) ks))) ∙ ap disjunction (all_told ks)
   layer_cut (Formula-F.Every name k) = rolled (Formula-F.Every name (branch_formula place k.0)) ∙ ap (every name) k.1
   layer_cut (Formula-F.Any name k) = rolled (Formula-F.Any name (branch_formula place k.0)) ∙ ap (some name) k.1
-  layer_cut (Formula-F.Edge dim mother label daughter) = rolled (Formula-F.Edge dim mother label daughter)
-  layer_cut (Formula-F.Above dim upper lower) = rolled (Formula-F.Above dim upper lower)
-  layer_cut (Formula-F.Left first second) = rolled (Formula-F.Left first second)
-  layer_cut (Formula-F.Same first second) = rolled (Formula-F.Same first second)
-  layer_cut (Formula-F.Attr name dim attr value) = rolled (Formula-F.Attr name dim attr value)
   layer_cut (Formula-F.Feat name table) = rolled (Formula-F.Feat name (first_alone false place table))
+  layer_cut z = rolled (forget z)
 
   made_cut : (z : Formula-F Told) → Cut (roll-Formula (forget z))
   made_cut z = ap claim (cut_rolled (forget z)) ∙ layer_cut z ∙ ap (branch_claim place) (sym (rolled (forget z)))
@@ -108,7 +104,8 @@ module _ (parts : Parts) (place : ℕ) (is : IsProblem parts) where
 
   pub suits_cut : (formula : Formula) → Suits parts formula → Suits (branch_of parts place) (branch_formula place formula)
   suits_cut formula suits = record {
-    is_of = subst (IsOf (branch_of parts place)) (sym (claim_cut place formula)) (is_of parts (first_alone no_entry place parts.candidates) (map (branch_group place) parts.groups) (first_alone false place) table_cut (claim formula) suits.is_of);
+    is_of = subst (IsOf (branch_of parts place)) (sym (claim_cut place formula)) (is_of parts (first_alone no_entry place parts.candidates) (map (branch_group place) parts.groups) (first_alone false place) table_cut
+        (claim formula) suits.is_of);
     bound = subst (IsBound []) (sym (claim_cut place formula)) (is_bound (first_alone false place) [] (claim formula) suits.bound);
   }
 
@@ -121,7 +118,8 @@ says_alone (row ∷ table) place more zero = refl
 says_alone (row ∷ table) place more (suc v) = refl
 
 pub true_cut : (parts : Parts) (place : ℕ) (more attrs : List ℕ) (edges : List Edge) (c : Claim) (b : ℕ → ℕ) → IsTrueOf (branch_of parts place) (0 ∷ more) attrs edges (branch_claim place c) b ↔ IsTrueOf parts (place ∷ more) attrs edges c b
-true_cut parts place more attrs edges = true_alike parts (first_alone no_entry place parts.candidates) (map (branch_group place) parts.groups) (first_alone false place) (0 ∷ more) (place ∷ more) attrs edges (λ table v. says_alone table place more v)
+true_cut parts place more attrs edges = true_alike parts (first_alone no_entry place parts.candidates) (map (branch_group place) parts.groups) (first_alone false place) (0 ∷ more) (place ∷ more) attrs edges
+    (λ table v. says_alone table place more v)
 
 -- each form of a formula, cut at a place
 pub ruleset cut_steps = (cut_not, cut_and, cut_or, cut_every, cut_any, cut_edge, cut_above, cut_left, cut_same, cut_attr, cut_feat)

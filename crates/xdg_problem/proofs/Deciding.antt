@@ -38,12 +38,22 @@ pub decided_false : (b : Bool) → Decided (b ≡ false)
 decided_false true = inr (λ e. false≢true (sym e))
 decided_false false = inl refl
 
+-- the first number below a bound for which something that can be decided holds
+pub first_below : (Q : ℕ → Type 0) → ((u : ℕ) → Decided (Q u)) → (n : ℕ) → ((u : ℕ) → u < n → Q u → ⊥) ⊎ ((u : ℕ) × (u < n) × Q u × ((w : ℕ) → w < u → Q w → ⊥))
+first_below Q each zero = inl (λ u l q. absurd (omega (arith, l)))
+first_below Q each (suc n) = elim (first_below Q each n) [
+  | inr found ↦ inr (found.0, (let l : found.0 < n = found.1 in omega (arith, l)), found.2, found.3)
+  | inl none ↦ elim (each n) [
+    | inl here ↦ inr (n, omega arith, here, none)
+    | inr fails ↦ inl (λ u l q. elim (cases_eq u n) [ inl e ↦ fails (subst Q e q) | inr other ↦ none u (omega (arith, l, other)) q ])
+  ]
+]
+
 pub decided_below : (P : ℕ → Type 0) (n : ℕ) → ((k : ℕ) → Decided (P k)) → Decided ((k : ℕ) → k < n → P k)
-decided_below P zero each = inl (λ k less. absurd (omega arith))
-decided_below P (suc n) each = decided_like (((k : ℕ) → k < n → P k) × P n) ((k : ℕ) → k < suc n → P k)
-    (λ both k less. elim (cases_eq k n) [ inl e ↦ subst P (sym e) both.1 | inr other ↦ both.0 k (omega arith) ])
-    (λ all. (λ k less. all k (omega arith), all n (omega arith)))
-    (decided_both ((k : ℕ) → k < n → P k) (P n) (decided_below P n each) (each n))
+decided_below P n each = elim (first_below (λ k. P k → ⊥) (λ k. elim (each k) [ inl p ↦ inr (λ fails. fails p) | inr fails ↦ inl fails ]) n) [
+  | inl none ↦ inl (λ k less. elim (each k) [ inl p ↦ p | inr fails ↦ absurd (none k less fails) ])
+  | inr found ↦ inr (λ all. found.2 (all found.0 found.1))
+]
 
 pub decided_all : {X : Type 0} (P : X → Type 0) (xs : List X) → ((x : X) → Decided (P x)) → Decided (All P xs)
 decided_all P [] each = inl (All-nil P)

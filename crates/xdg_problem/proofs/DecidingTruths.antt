@@ -1,7 +1,6 @@
 -- What a rule or a bound asks of all decisions together can be decided.
-use Rattle.std.proofs.Common.{ℕ, ◌<◌, ◌⊎◌, inl, inr, List, zero, suc, subst, arith}
+use Rattle.std.proofs.Common.{ℕ, ◌<◌, inl, inr, List}
 use Rattle.std.specs.Prelude.{slice_index}
-use Rattle.std.proofs.lemmas.Bool.{cases_eq}
 use Rattle.xdg_problem.specs.declared.analysis.Edge.{Edge}
 use Rattle.xdg_problem.specs.declared.parts.Parts.{Parts}
 use Rattle.xdg_problem.specs.declared.parts.Principle.{Principle}
@@ -14,22 +13,15 @@ use Rattle.xdg_problem.specs.Paths.{edges_on}
 use Rattle.xdg_problem.specs.Places.{nodes}
 use Rattle.xdg_problem.specs.Truths.{bound, unbound, says, IsTrueOf, EachTrueOf, SomeTrueOf}
 use Rattle.xdg_problem.specs.Vectors.{entries_at}
-use Rattle.xdg_problem.proofs.Deciding.{Decided, decided_like, decided_both, decided_equal, decided_less, decided_below}
+use Rattle.xdg_problem.proofs.Deciding.{first_below, Decided, decided_both, decided_equal, decided_less, decided_below}
 use Rattle.xdg_problem.proofs.DecidingPaths.{decided_either, decided_true, decided_not, decided_daughter_by, decided_above}
 
 -- that something holds of a number below a bound
 pub decided_some : (P : ℕ → Type 0) (n : ℕ) → ((k : ℕ) → Decided (P k)) → Decided ((k : ℕ) × (k < n) × P k)
-decided_some P zero each = inr (λ found. (let l : found.0 < 0 = found.1 in absurd (omega (arith, l))))
-decided_some P (suc n) each = decided_like (((k : ℕ) × (k < n) × P k) ⊎ P n) ((k : ℕ) × (k < suc n) × P k)
-    (λ either. elim either [
-      | inl found ↦ (found.0, (let l : found.0 < n = found.1 in omega (arith, l)), found.2)
-      | inr here ↦ (n, omega arith, here)
-    ])
-    (λ found. elim (cases_eq found.0 n) [
-      | inl e ↦ inr (subst P e found.2)
-      | inr other ↦ inl (found.0, (let l : found.0 < suc n = found.1 in omega (arith, l, other)), found.2)
-    ])
-    (decided_either ((k : ℕ) × (k < n) × P k) (P n) (decided_some P n each) (each n))
+decided_some P n each = elim (first_below P each n) [
+  | inl never ↦ inr (λ found. never found.0 found.1 found.2)
+  | inr found ↦ inl (found.0, found.1, found.2)
+]
 
 module _ (parts : Parts) (entries attrs : List ℕ) (edges : List Edge) where
   mutual

@@ -1,7 +1,7 @@
 -- Edges: when two are the same, and the order in which they are decided.
 use Rattle.std.proofs.Common.{◌≡◌, ℕ, List, [], ◌∷◌, ◌⊎◌, inl, inr, refl, ap, sym, ◌∙◌, subst, true, false}
 use Rattle.std.specs.Prelude.{◌&&◌, ◌==◌, slice_index}
-use Rattle.std.proofs.lemmas.Bool.{cases_Bool, and_parts, and_from, eq-eqb, eqb-true}
+use Rattle.std.proofs.lemmas.Bool.{cases_Bool, and_parts, eq-eqb, eqb-true}
 use Rattle.xdg_facts.specs.Order.{Less}
 use Rattle.xdg_facts.proofs.Ordered.{less_irreflexive, less_transitive, less_total}
 use Rattle.xdg_problem.specs.declared.analysis.Edge.{Edge}
@@ -15,12 +15,7 @@ edge_equal a b d m l g =
     ∙ ap (λ n. edge b.dim.0 b.mother.0 n a.daughter.0) l ∙ ap (λ n. edge b.dim.0 b.mother.0 b.label.0 n) g
 
 pub same_edge_itself : (a : Edge) → same_edge a a ≡ true
-same_edge_itself a =
-    and_from (((a.dim.0 == a.dim.0) && (a.mother.0 == a.mother.0)) && (a.label.0 == a.label.0)) (a.daughter.0 == a.daughter.0)
-    (and_from ((a.dim.0 == a.dim.0) && (a.mother.0 == a.mother.0)) (a.label.0 == a.label.0)
-    (and_from (a.dim.0 == a.dim.0) (a.mother.0 == a.mother.0) (eq-eqb a.dim.0 a.dim.0 refl) (eq-eqb a.mother.0 a.mother.0 refl))
-    (eq-eqb a.label.0 a.label.0 refl))
-    (eq-eqb a.daughter.0 a.daughter.0 refl)
+same_edge_itself a = rw (eq-eqb a.dim.0 a.dim.0 refl, eq-eqb a.mother.0 a.mother.0 refl, eq-eqb a.label.0 a.label.0 refl, eq-eqb a.daughter.0 a.daughter.0 refl) refl
 
 pub same_edge_equal : (a b : Edge) → same_edge a b ≡ true → a ≡ b
 same_edge_equal a b e =

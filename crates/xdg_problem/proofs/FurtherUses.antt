@@ -50,7 +50,8 @@ none_at (entries ∷ candidates) (suc v) = none_at candidates v
 -- the uses of rules and bounds are uses
 
 -- a use of a principle that takes nothing
-bare_is : (parts : Parts) → IsProblem parts → (principle : Principle) → 0 ≡ dim_arguments principle → 0 ≡ attr_arguments principle → IsOrderFor principle (label_count parts (first_dim (use_of parts principle))) [] → 0 ≡ truth_arguments principle
+bare_is : (parts : Parts) → IsProblem parts → (principle : Principle) → 0 ≡ dim_arguments principle → 0 ≡ attr_arguments principle → IsOrderFor principle (label_count parts (first_dim (use_of parts principle))) []
+    → 0 ≡ truth_arguments principle
     → ((features : List Feat) → length features ≡ 0 → AreFeatures principle parts (use_of parts principle) features) → IsSuited principle parts → IsGroup parts (use_of parts principle)
 bare_is parts is principle dims attrs order truths none suits = record {
   dims_count = dims;
@@ -115,5 +116,6 @@ module _ (parts : Parts) (uses : List Group) where
   pub relation_still : (group : Group) (analysis : Analysis) → Relation (with_uses parts uses) group analysis ↔ Relation parts group analysis
   relation_still group analysis =
       let entries = entry_places parts.candidates analysis.entries in
-      relation_alike group.principle group.principle group group.feats group.feats (λ h c es u l v. (λ t. t, λ t. t)) parts parts.candidates parts.candidates (parts.groups ++ uses) parts.groups entries entries analysis.attrs analysis.edges (λ node argument label. refl)
+      relation_alike group.principle group.principle group group.feats group.feats (λ h c es u l v. (λ t. t, λ t. t)) parts parts.candidates parts.candidates
+      (parts.groups ++ uses) parts.groups entries entries analysis.attrs analysis.edges (λ node argument label. refl)
       (whole_still parts uses entries analysis.attrs analysis.edges group.principle) (conditions_of group)

@@ -25,7 +25,9 @@ use Rattle.xdg_problem.proofs.EachTest.{EachTriple}
 use Rattle.xdg_facts.proofs.Truths.{or_here, either_true, and_2}
 
 -- what is linked by one list of edges is linked by another
-link_alike : (principle : Principle) (group : Group) (candidate u l v : ℕ) (few many few2 many2 : List Edge) → group.principle ≡ principle → IsDaughterBy few u l v ↔ IsDaughterBy many u l v → AsksLink principle group candidate few2 u l v ↔ AsksLink principle group candidate many2 u l v → (IsDaughterBy few u l v → AsksLink group.principle group candidate few2 u l v) ↔ (IsDaughterBy many u l v → AsksLink group.principle group candidate many2 u l v)
+link_alike : (principle : Principle) (group : Group) (candidate u l v : ℕ) (few many few2 many2 : List Edge) → group.principle ≡ principle → IsDaughterBy few u l v ↔ IsDaughterBy many u l v
+    → AsksLink principle group candidate few2 u l v ↔ AsksLink principle group candidate many2 u l v
+    → (IsDaughterBy few u l v → AsksLink group.principle group candidate few2 u l v) ↔ (IsDaughterBy many u l v → AsksLink group.principle group candidate many2 u l v)
 link_alike principle group candidate u l v few many few2 many2 is daughter asks = asked_alike _ _ _ _ daughter (subst (λ p. AsksLink p group candidate few2 u l v ↔ AsksLink p group candidate many2 u l v) (sym is) asks)
 
 -- u is entered by an edge whose mother has v as a daughter along other edges

@@ -67,7 +67,8 @@ module _ (looks : Edge → Bool) (dim : ℕ) (edges : List Edge) where
 module _ (n k : ℕ) (far : Edge → ℕ) (all : Edge → Bool) (edges : List Edge) where
   -- where k is the last node, they are all
   pub upto_last : k + 1 ≡ n → All (λ e. far e < n) edges → filter (λ e. all e && nat_le (far e) k) edges ≡ filter all edges
-  upto_last last within = filter_alike (λ e. all e && nat_le (far e) k) all edges (All-weaker (λ e. far e < n) (λ e. (all e && nat_le (far e) k) ≡ all e) (λ e below. and_true (all e) (nat_le (far e) k) (le-leb (far e) k (omega arith))) edges within)
+  upto_last last within = filter_alike (λ e. all e && nat_le (far e) k) all edges (All-weaker (λ e. far e < n) (λ e. (all e && nat_le (far e) k) ≡ all e)
+      (λ e below. and_true (all e) (nat_le (far e) k) (le-leb (far e) k (omega arith))) edges within)
 
   pub upto_part : (e : Edge) → (all e && nat_le (far e) k) ≡ true → all e ≡ true
   upto_part e looks = (and_parts (all e) (nat_le (far e) k) looks).0

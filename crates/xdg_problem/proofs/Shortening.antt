@@ -62,7 +62,8 @@ attrs_stand parts p t places stand = All-weaker (AttrStands parts p) (AttrStands
 
 -- the values at places that stand in a prefix are the same in whatever continues it
 pub attrs_same : (parts : Parts) (p t places : List ℕ) → All (AttrStands parts p) places → map (attr_in parts (p ++ t)) places ≡ map (attr_in parts p) places
-attrs_same parts p t places stand = map_alike (attr_in parts (p ++ t)) (attr_in parts p) places (All-weaker (AttrStands parts p) (λ place. attr_in parts (p ++ t) place ≡ attr_in parts p place) (λ place stands. get_or_append_left p t 0 (length parts.candidates + place) stands) places stand)
+attrs_same parts p t places stand = map_alike (attr_in parts (p ++ t)) (attr_in parts p) places
+    (All-weaker (AttrStands parts p) (λ place. attr_in parts (p ++ t) place ≡ attr_in parts p place) (λ place stands. get_or_append_left p t 0 (length parts.candidates + place) stands) places stand)
 
 pub stands_longer : (parts : Parts) (group : Group) (test : Test) (p t : List ℕ) → Stands parts group test p → Stands parts group test (p ++ t)
 stands_longer parts group test p t stands = record {

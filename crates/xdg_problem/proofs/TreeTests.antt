@@ -57,7 +57,8 @@ module _ (parts : Parts) (group : Group) (candidates attrs : List ℕ) (edges : 
   pub cycle_tests : EachNode group.truths n (label_count parts (first_dim group)) (PassesAt parts group candidates attrs edges) no_cycle ↔ IsKept parts group candidates attrs edges conditions.Cycle
   cycle_tests = (
     λ passes. no_cycle_kept.0 (subst NoCycle (upto_last n (n - 1) (λ e. e.mother.0) (λ e. e.dim.0 == dim) edges last within) (passes (n - 1) (omega (arith, some)))),
-    λ kept k below v above. no_cycle_kept.1 kept v (above_more (filter (looks_first dim (no_cycle k)) edges) on (filter_among (looks_first dim (no_cycle k)) (λ e. e.dim.0 == dim) edges (upto_part n k (λ e. e.mother.0) (λ e. e.dim.0 == dim) edges)) v v above),
+    λ kept k below v above. no_cycle_kept.1 kept v (above_more (filter (looks_first dim (no_cycle k)) edges) on
+        (filter_among (looks_first dim (no_cycle k)) (λ e. e.dim.0 == dim) edges (upto_part n k (λ e. e.mother.0) (λ e. e.dim.0 == dim) edges)) v v above),
   )
 
   pub root_tests : PassesAt parts group candidates attrs edges one_root ↔ IsKept parts group candidates attrs edges conditions.Roots
@@ -68,7 +69,8 @@ module _ (parts : Parts) (group : Group) (candidates attrs : List ℕ) (edges : 
 
   pub mother_tests : EachPair group.truths n (label_count parts (first_dim group)) (PassesAt parts group candidates attrs edges) one_mother ↔ IsKept parts group candidates attrs edges conditions.Mothers
   mother_tests = (
-    λ passes. tuples_1 (Asks conditions.Mothers parts group candidates attrs edges) n (λ v below. subst (λ m. m ≤ 1) (count_last n (n - 1) dim (λ e. e.mother.0) (into v) (λ e. e.daughter.0 == v) (λ e. refl) edges last within) (passes v below (n - 1) (omega (arith, some)))),
+    λ passes. tuples_1 (Asks conditions.Mothers parts group candidates attrs edges) n (λ v below. subst (λ m. m ≤ 1) (count_last n (n - 1) dim (λ e. e.mother.0) (into v) (λ e. e.daughter.0 == v) (λ e. refl) edges last within)
+        (passes v below (n - 1) (omega (arith, some)))),
     λ kept v below k behind. (let most : mothers on v ≤ 1 = kept (v ∷ []) (below, tt) in let part = count_part n k dim (λ e. e.mother.0) (into v) (λ e. e.daughter.0 == v) (λ e. refl) edges in omega (arith, most, part)),
   )
 

@@ -94,7 +94,12 @@ below_start_broken kept =
 
 -- 0 is above 1 on the first dimension and not on the second
 climbing_broken : AsksOf conditions.Below (linked principles.Climbing) 0 [] (edge 0 0 0 1 ∷ up) (0 ∷ 1 ∷ []) → ⊥
-climbing_broken kept = nothing_out up 0 1 no_start (kept (record { path = edge 0 0 0 1 ∷ []; some = omega arith; along = All-from_recursion (Contains (edge 0 0 0 1 ∷ [])) (edge 0 0 0 1 ∷ []) (contains_head (edge 0 0 0 1) [], tt); leads = (refl, refl) }))
+climbing_broken kept = nothing_out up 0 1 no_start (kept (record {
+  path = edge 0 0 0 1 ∷ [];
+  some = omega arith;
+  along = All-from_recursion (Contains (edge 0 0 0 1 ∷ [])) (edge 0 0 0 1 ∷ []) (contains_head (edge 0 0 0 1) [], tt);
+  leads = (refl, refl);
+}))
 
 -- 1 blocks what is below it on the second dimension, and 0 isn't below it on the first
 barriers_broken : AsksOf conditions.Blocked (linked principles.Barriers) 0 [] (edge 0 0 0 1 ∷ up) (1 ∷ 0 ∷ []) → ⊥
@@ -148,7 +153,9 @@ cycle_broken kept = kept (record {
 -- 2 stands between 3 and its daughter 1, and 3 isn't above it
 between_broken : AsksOf conditions.Between (use_of principles.Projectivity) 0 [] crossing (3 ∷ 1 ∷ 2 ∷ []) → ⊥
 between_broken kept =
-    let found : 2 < 2 = closed_above crossing 3 2 (λ x. x < 2) (λ e c from. each_contained (λ e. e.daughter.0 < 2) crossing e (omega arith, (omega arith, (omega arith, tt))) c) (kept (any_of (λ e. (e.mother.0 ≡ 3) × (e.daughter.0 ≡ 1)) crossing (edge 0 3 0 1) (contains_more (edge 0 0 0 1) (edge 0 1 0 0 ∷ edge 0 3 0 1 ∷ []) (edge 0 3 0 1) (second_in (edge 0 1 0 0) (edge 0 3 0 1) [])) (refl, refl)) (inr (omega arith, omega arith))) in
+    let found : 2 < 2 = closed_above crossing 3 2 (λ x. x < 2) (λ e c from. each_contained (λ e. e.daughter.0 < 2) crossing e (omega arith, (omega arith, (omega arith, tt))) c)
+    (kept (any_of (λ e. (e.mother.0 ≡ 3) × (e.daughter.0 ≡ 1)) crossing (edge 0 3 0 1) (contains_more (edge 0 0 0 1) (edge 0 1 0 0 ∷ edge 0 3 0 1 ∷ []) (edge 0 3 0 1) (second_in (edge 0 1 0 0) (edge 0 3 0 1) []))
+    (refl, refl)) (inr (omega arith, omega arith))) in
     omega (arith, found)
 
 -- Order: label 0 stands before label 1; 1 has its own label 0.
@@ -156,7 +163,8 @@ between_broken kept =
 -- a daughter with label 1 to the left of its head
 order_broken : AsksOf conditions.Order (use_of principles.Order) 0 (0 ∷ []) (edge 0 1 1 0 ∷ []) (1 ∷ 1 ∷ 0 ∷ []) → ⊥
 order_broken kept =
-    let h : 1 < 0 = kept 0 1 0 (omega arith) (omega arith) (inl (refl, refl)) (inr (inl (any_of (λ e. (e.mother.0 ≡ 1) × (e.label.0 ≡ 1) × (e.daughter.0 ≡ 0)) (edge 0 1 1 0 ∷ []) (edge 0 1 1 0) (contains_head (edge 0 1 1 0) []) (refl, refl, refl)))) in
+    let h : 1 < 0 = kept 0 1 0 (omega arith) (omega arith) (inl (refl, refl)) (inr (inl (any_of (λ e. (e.mother.0 ≡ 1) × (e.label.0 ≡ 1) × (e.daughter.0 ≡ 0)) (edge 0 1 1 0 ∷ []) (edge 0 1 1 0)
+    (contains_head (edge 0 1 1 0) []) (refl, refl, refl)))) in
     omega (arith, h)
 
 -- a daughter to the right whose own daughter stands to the left: with yields that one is in the daughter's item

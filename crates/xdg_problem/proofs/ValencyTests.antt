@@ -46,8 +46,10 @@ module _ (parts : Parts) (group : Group) (candidates attrs : List ℕ) (edges : 
     counts =
         let last : (n - 1) + 1 ≡ n = omega (arith, some) in
         let equal = λ (v l k : ℕ). count_last n k (first_dim group) far (all v l) (at v l) (grouped v l) edges in (
-          λ passes. tuples_2 (λ tuple. Contains (row (first tuple) (second tuple)) (count_by (at (first tuple) (second tuple)) (edges_on (first_dim group) edges))) n labels (λ v node l label. subst (Contains (row v l)) (equal v l (n - 1) last within) ((passes v node l label (n - 1) (omega (arith, some))).1 last)),
-          λ kept v node l label k below. counts_part n k (count_by (at v l) (edges_on (first_dim group) edges)) (length (filter (λ e. all v l e && nat_le (far e) k) edges)) (row v l) (kept (v ∷ l ∷ []) (node, (label, tt))) (count_part n k (first_dim group) far (all v l) (at v l) (grouped v l) edges) (λ is. equal v l k is within),
+          λ passes. tuples_2 (λ tuple. Contains (row (first tuple) (second tuple)) (count_by (at (first tuple) (second tuple)) (edges_on (first_dim group) edges))) n labels
+              (λ v node l label. subst (Contains (row v l)) (equal v l (n - 1) last within) ((passes v node l label (n - 1) (omega (arith, some))).1 last)),
+          λ kept v node l label k below. counts_part n k (count_by (at v l) (edges_on (first_dim group) edges)) (length (filter (λ e. all v l e && nat_le (far e) k) edges)) (row v l) (kept (v ∷ l ∷ []) (node, (label, tt)))
+              (count_part n k (first_dim group) far (all v l) (at v l) (grouped v l) edges) (λ is. equal v l k is within),
         )
 
   pub in_tests : All (λ e. e.mother.0 < n) edges → EachTriple group.truths n labels (PassesAt parts group candidates attrs edges) in_count ↔ IsKept parts group candidates attrs edges conditions.InCount

@@ -1,7 +1,7 @@
 -- A principle use has one verdict: its relation holds, or one condition and one tuple are the first that break it.
-use Rattle.std.proofs.Common.{◌≡◌, ℕ, ◌<◌, ◌⊎◌, inl, inr, List, [], ◌∷◌, length, refl, sym, ap, ◌∙◌, subst, arith, zero, suc, map}
+use Rattle.std.proofs.Common.{◌≡◌, ℕ, ◌<◌, ◌⊎◌, inl, inr, List, [], ◌∷◌, length, refl, sym, ap, ◌∙◌, subst, arith, map}
 use Rattle.std.specs.Prelude.{slice_index_or}
-use Rattle.std.proofs.lemmas.Bool.{cases_eq, cases_order}
+use Rattle.std.proofs.lemmas.Bool.{cases_order}
 use Rattle.std.proofs.lemmas.List.{get_or_default}
 use Rattle.xdg_facts.specs.Order.{AtMost}
 use Rattle.xdg_facts.proofs.Ordered.{at_most_of, not_less}
@@ -15,20 +15,9 @@ use Rattle.xdg_problem.specs.Vectors.{entry_places}
 use Rattle.xdg_problem.specs.Conditions.{conditions_of, AreBelow, root_count, items_of, item_count, IsTuple}
 use Rattle.xdg_problem.specs.Asking.{Asks}
 use Rattle.xdg_problem.specs.Relations.{IsKept, Relation, Breaks, IsFirstBroken}
-use Rattle.xdg_problem.proofs.Deciding.{Decided}
+use Rattle.xdg_problem.proofs.Deciding.{Decided, first_below}
 use Rattle.xdg_problem.proofs.DecidingPaths.{decided_not}
 use Rattle.xdg_problem.proofs.DecidingAsks.{decided_asked}
-
--- the first number below a bound for which something that can be decided holds
-first_below : (Q : ℕ → Type 0) → ((u : ℕ) → Decided (Q u)) → (n : ℕ) → ((u : ℕ) → u < n → Q u → ⊥) ⊎ ((u : ℕ) × (u < n) × Q u × ((w : ℕ) → w < u → Q w → ⊥))
-first_below Q each zero = inl (λ u l q. absurd (omega (arith, l)))
-first_below Q each (suc n) = elim (first_below Q each n) [
-  | inr found ↦ inr (found.0, (let l : found.0 < n = found.1 in omega (arith, l)), found.2, found.3)
-  | inl none ↦ elim (each n) [
-    | inl here ↦ inr (n, omega arith, here, none)
-    | inr fails ↦ inl (λ u l q. elim (cases_eq u n) [ inl e ↦ fails (subst Q e q) | inr other ↦ none u (omega (arith, l, other)) q ])
-  ]
-]
 
 -- the least tuple of a range for which P holds
 abbrev Least : List ℕ → (List ℕ → Type 0) → Type 0
@@ -82,7 +71,8 @@ module _ (parts : Parts) (group : Group) (candidates attrs : List ℕ) (edges : 
   kept_of condition none tuple is = elim (decided_here condition tuple) [ inl asks ↦ asks | inr fails ↦ absurd (none tuple is fails) ]
 
   -- a condition of one tuple
-  only_one : (condition : Condition) (only : List ℕ) → ((tuple : List ℕ) → tuple ≡ only → (Here condition tuple → ⊥) → ⊥) ⊎ ((tuple : List ℕ) × (tuple ≡ only) × (Here condition tuple → ⊥) × ((other : List ℕ) → other ≡ only → (Here condition other → ⊥) → AtMost tuple other))
+  only_one : (condition : Condition) (only : List ℕ) → ((tuple : List ℕ) → tuple ≡ only → (Here condition tuple → ⊥) → ⊥)
+      ⊎ ((tuple : List ℕ) × (tuple ≡ only) × (Here condition tuple → ⊥) × ((other : List ℕ) → other ≡ only → (Here condition other → ⊥) → AtMost tuple other))
   only_one condition only = elim (decided_here condition only) [
     | inl asks ↦ inl (λ tuple is fails. fails (subst (Here condition) (sym is) asks))
     | inr fails ↦ inr (only, refl, fails, λ other is q. inl (sym is))
