@@ -1,9 +1,10 @@
 -- A box that agrees with a prefix: what remains of the decisions that stand there, and what tests make of it.
+use Rattle.xdg_facts.proofs.Fitting.{fits_length}
 use Rattle.std.proofs.Common.{◌≡◌, ℕ, ◌+◌, ◌-◌, ◌<◌, ◌≤◌, ◌↔◌, inl, inr, zero, suc, Bool, true, false, ◌&&◌, cond, List, [], ◌∷◌, ◌++◌, length, map, drop, refl, sym, ap, ap₂, ◌∙◌, arith, Option, Some, None}
 use Rattle.std.specs.Prelude.{filter, Contains, All, slice_index, slice_index_or, ◌==◌}
 use Rattle.std.proofs.lemmas.Bool.{cases_lt, eq-eqb, eqb-true, false≢true}
-use Rattle.std.proofs.lemmas.List.{get_or_default, get_or-drop}
-use Rattle.std.proofs.lemmas.List.Elements.{All-head, All-tail, All-weaker, All-contains, All-contains_itself, All-from_recursion}
+use Rattle.std.proofs.lemmas.List.{length-map, get_or_default, get_or-drop}
+use Rattle.std.proofs.lemmas.List.Elements.{All-weaker, All-contains, All-contains_itself, All-from_recursion}
 use Rattle.xdg_facts.specs.Fits.{Fits}
 use Rattle.xdg_problem.specs.declared.analysis.Edge.{Edge}
 use Rattle.xdg_problem.specs.declared.parts.Group.{Group}
@@ -15,11 +16,12 @@ use Rattle.xdg_problem.specs.Tests.{Test, looks_at, entry_node, test_attrs}
 use Rattle.xdg_problem.specs.Vectors.{first_place, chosen, edges_in}
 use Rattle.xdg_problem.proofs.Edges.{same_edge_itself, before_apart}
 use Rattle.xdg_problem.proofs.FilterFacts.{filter_both, filter_alike}
-use Rattle.xdg_problem.proofs.Ordered.{Ordered, contains_cases, contains_none}
+use Rattle.xdg_problem.proofs.Ordered.{Ordered, map_alike, contains_cases, contains_none}
 use Rattle.xdg_problem.proofs.PlaceOrder.{places_ordered}
 use Rattle.xdg_problem.proofs.Shortening.{passes_like}
 use Rattle.xdg_problem.specs.Boxes.{Has, Agrees, place_in, edge_decision, entry_decision}
 use Rattle.xdg_rules.specs.Rules.{has, IsDecided, value_in, EntryDecided, entry_value, TestDecided, TestPasses}
+use Rattle.xdg_rules.proofs.Keeping.{filter_on}
 use Rattle.xdg_rules.proofs.Sizes.{row_within}
 use Rattle.xdg_rules.proofs.Failing.{value_is}
 use Rattle.xdg_facts.proofs.Truths.{same_flag}
@@ -39,9 +41,7 @@ agrees_fits (row ∷ box) (x ∷ p) agrees = (row_within row x ((agrees.0 x).1 r
 
 -- and is no longer than the box
 pub agrees_short : (box : List (List Bool)) (p : List ℕ) → Agrees box p → length p ≤ length box
-agrees_short box [] agrees = omega arith
-agrees_short [] (x ∷ p) agrees = absurd agrees
-agrees_short (row ∷ box) (x ∷ p) agrees = (let rest = agrees_short box p agrees.1 in omega (arith, rest))
+agrees_short box p agrees = (let short = fits_length (map length box) p (agrees_fits box p agrees) in omega (arith, short, length-map box length))
 
 -- a box agrees with each front of what it agrees with
 pub agrees_front : (box : List (List Bool)) (p t : List ℕ) → Agrees box (p ++ t) → Agrees box p
@@ -78,7 +78,7 @@ edges_present parts p = chosen_filter (places parts) (drop (first_place parts) p
     ∙ filter_alike (λ e. says_present (drop (first_place parts) p) (place_in (places parts) e)) (λ e. says_present p (edge_decision parts e)) (places parts)
     (λ k d l. ap (λ n. n == 0) (get_or-drop (first_place parts) p (place_in (places parts) _) 1))
 
-swapped : (a b c : Bool) → (b ≡ true → a ≡ c) → (a && b) ≡ (b && c)
+pub swapped : (a b c : Bool) → (b ≡ true → a ≡ c) → (a && b) ≡ (b && c)
 swapped true true c same = same refl
 swapped false true c same = same refl
 swapped true false c same = refl
@@ -127,8 +127,8 @@ module _ (parts : Parts) (box : List (List Bool)) (p : List ℕ) (agrees : Agree
   attrs_decided attrs stand = All-weaker (AttrStands parts p) (λ place. IsDecided box (length parts.candidates + place)) (λ place l. decided_at (length parts.candidates + place) l) attrs stand
 
   attrs_like : (attrs : List ℕ) → All (AttrStands parts p) attrs → map (attr_in parts p) attrs ≡ map (λ place. value_in box (length parts.candidates + place)) attrs
-  attrs_like [] stand = refl
-  attrs_like (place ∷ attrs) stand = ap₂ (λ z zs. z ∷ zs) (sym (value_at (length parts.candidates + place) (All-head (AttrStands parts p) place attrs stand))) (attrs_like attrs (All-tail (AttrStands parts p) place attrs stand))
+  attrs_like attrs stand = map_alike (attr_in parts p) (λ place. value_in box (length parts.candidates + place)) attrs
+      (All-weaker (AttrStands parts p) (λ place. attr_in parts p place ≡ value_in box (length parts.candidates + place)) (λ place stands. sym (value_at (length parts.candidates + place) stands)) attrs stand)
 
   -- a place that isn't open stands in the prefix
   stands_at : (looks : Edge → Bool) → All (λ e. looks e ≡ false) (open_places parts p) → (e : Edge) → Contains (places parts) e → looks e ≡ true → edge_decision parts e < length p
@@ -144,10 +144,8 @@ module _ (parts : Parts) (box : List (List Bool)) (p : List ℕ) (agrees : Agree
   edges_like looks closed =
       ap (filter looks) (edges_present parts p)
       ∙ filter_both looks (λ e. says_present p (edge_decision parts e)) (places parts)
-      ∙ filter_alike (λ e. says_present p (edge_decision parts e) && looks e) (λ e. looks e && has box (edge_decision parts e) 0) (places parts)
-      (All-weaker (Contains (places parts)) (λ e. (says_present p (edge_decision parts e) && looks e) ≡ (looks e && has box (edge_decision parts e) 0))
+      ∙ filter_on (λ e. says_present p (edge_decision parts e) && looks e) (λ e. looks e && has box (edge_decision parts e) 0) (places parts)
       (λ e c. swapped (says_present p (edge_decision parts e)) (looks e) (has box (edge_decision parts e) 0) (λ sees. present_at (edge_decision parts e) (stands_at looks closed e c sees)))
-      (places parts) (All-contains_itself (places parts)))
 
   -- a test that stands in the prefix is decided in the box
   pub stands_decided : (group : Group) (test : Test) → Stands parts group test p → TestDecided parts group box test

@@ -1,8 +1,10 @@
 -- Paths, links and roots of edges that are all among others.
-use Rattle.std.proofs.Common.{◌≡◌, ℕ, ◌≤◌, inl, inr, Bool, true, List, [], ◌∷◌, length, ap, ◌∙◌}
+use Rattle.xdg_problem.proofs.Walks.{above_more}
+use Rattle.std.proofs.lemmas.List.Folds.{Any-from_list_any, list_any-from_Any}
+use Rattle.std.proofs.Common.{◌≡◌, ℕ, ◌≤◌, inl, inr, Bool, true, List, ◌∷◌, length}
 use Rattle.std.specs.Prelude.{Contains, not, ◌==◌}
 use Rattle.std.specs.List.{Any, list_any}
-use Rattle.std.proofs.lemmas.Bool.{cases_Bool, or_cases, false≢true, both_ways, not-true, not_from_false, eqb-true, eq-eqb}
+use Rattle.std.proofs.lemmas.Bool.{cases_Bool, both_ways, not-true, not_from_false, eqb-true, eq-eqb}
 use Rattle.std.proofs.lemmas.List.Elements.{All-weaker}
 use Rattle.xdg_problem.specs.declared.analysis.Edge.{Edge}
 use Rattle.xdg_problem.specs.declared.parts.Linking.{Linking}
@@ -10,26 +12,17 @@ use Rattle.xdg_problem.specs.declared.parts.Linking.TheVariants as linkings
 use Rattle.xdg_problem.specs.Asking.{IsLinked}
 use Rattle.xdg_problem.specs.Paths.{IsDaughterByAny, Above, AboveByFirst, roots}
 use Rattle.xdg_problem.specs.Places.{below}
+use Rattle.xdg_problem.proofs.DecidingPaths.{contained}
 use Rattle.xdg_problem.proofs.Looking.{any_of, any_weaker}
 use Rattle.xdg_problem.proofs.FilterFacts.{filter_contained}
-use Rattle.xdg_problem.proofs.Ordered.{contains_head, contains_cases, contains_none, contains_filter}
+use Rattle.xdg_problem.proofs.Ordered.{contains_filter}
 use Rattle.xdg_rules.proofs.Keeping.{Less, less_length}
-use Rattle.xdg_facts.proofs.Truths.{or_here, either_true}
-use Rattle.xdg_facts.proofs.Lists.{contains_more}
 
 pub list_any_of : {X : Type 0} (test : X → Bool) (xs : List X) (x : X) → Contains xs x → test x ≡ true → list_any test xs ≡ true
-list_any_of test [] x c passes = absurd (contains_none x c)
-list_any_of test (y ∷ xs) x c passes = elim (contains_cases y xs x c) [
-  | inl e ↦ or_here (test y) (list_any test xs) (ap test e ∙ passes)
-  | inr d ↦ either_true (test y) (list_any test xs) (list_any_of test xs x d passes)
-]
+list_any_of test xs x c passes = list_any-from_Any test xs (any_of (λ y. test y ≡ true) xs x c passes)
 
 pub any_passes : {X : Type 0} (test : X → Bool) (xs : List X) → list_any test xs ≡ true → (x : X) × Contains xs x × (test x ≡ true)
-any_passes test [] e = absurd (false≢true e)
-any_passes test (y ∷ xs) e = elim (or_cases (test y) (list_any test xs) e) [
-  | inl here ↦ (y, contains_head y xs, here)
-  | inr there ↦ (let found = any_passes test xs there in (found.0, contains_more y xs found.0 found.1, found.2))
-]
+any_passes test xs e = contained (λ x. test x ≡ true) xs (Any-from_list_any test xs e)
 
 -- each of the few edges is one of the many
 abbrev pub Among : List Edge → List Edge → Type 0
@@ -58,12 +51,7 @@ module _ (few many : List Edge) (among : Among few many) where
   any_among P a = any_of P many a.1 (among a.1 (a.0, a.2, a.3)) a.4
 
   pub above_among : (u v : ℕ) → Above few u v → Above many u v
-  above_among u v above = record {
-    path = above.path;
-    some = above.some;
-    along = All-weaker (Contains few) (Contains many) among above.path above.along;
-    leads = above.leads;
-  }
+  above_among = above_more few many among
 
   above_first_among : (u : ℕ) (labels : List ℕ) (v : ℕ) → AboveByFirst few u labels v → AboveByFirst many u labels v
   above_first_among u labels v above = record {

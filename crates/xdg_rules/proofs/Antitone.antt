@@ -28,28 +28,22 @@ module _ (parts : Parts) (group : Group) (small large : List (List Bool)) (is : 
   abbrev two : ℕ
   two = second_dim group
 
-  abbrev may_small : ℕ → List Edge
-  may_small dim = may_edges parts small dim
+  abbrev may : List (List Bool) → ℕ → List Edge
+  may box dim = may_edges parts box dim
 
-  abbrev must_small : ℕ → List Edge
-  must_small dim = must_edges parts small dim
-
-  abbrev may_large : ℕ → List Edge
-  may_large dim = may_edges parts large dim
-
-  abbrev must_large : ℕ → List Edge
-  must_large dim = must_edges parts large dim
+  abbrev must : List (List Bool) → ℕ → List Edge
+  must box dim = must_edges parts box dim
 
   -- fewer entries remain
   pub each_entry : (node : ℕ) (P : ℕ → Type 0) → EachEntry large node P → EachEntry small node P
   each_entry node P each c remains = each c (lies (entry_decision node) c remains)
 
-  must_above : (dim u v : ℕ) → Above (must_large dim) u v → Above (must_small dim) u v
-  must_above dim u v = above_among (must_large dim) (must_small dim) (must_among parts small large is lies dim) u v
+  must_above : (dim u v : ℕ) → Above (must large dim) u v → Above (must small dim) u v
+  must_above dim u v = above_among (must large dim) (must small dim) (must_among parts small large is lies dim) u v
 
   -- where u isn't above v among more edges, it isn't among fewer
-  may_apart : (dim u v : ℕ) → (Above (may_large dim) u v → ⊥) → Above (may_small dim) u v → ⊥
-  may_apart dim u v apart above = apart (above_among (may_small dim) (may_large dim) (may_among parts small large is lies dim) u v above)
+  may_apart : (dim u v : ℕ) → (Above (may large dim) u v → ⊥) → Above (may small dim) u v → ⊥
+  may_apart dim u v apart above = apart (above_among (may small dim) (may large dim) (may_among parts small large is lies dim) u v above)
 
   pub valency_entry : (d v : ℕ) → ValencyEntry parts group large d v → ValencyEntry parts group small d v
   valency_entry d v rule = record {
@@ -59,8 +53,10 @@ module _ (parts : Parts) (group : Group) (small large : List (List Bool)) (is : 
     known = rule.known;
     is = rule.is;
     none = elim rule.none [
-      | inl none ↦ inl (none_narrower (out_row group rule.node v rule.label) (edges_out_of (must_large one) rule.node rule.label) (edges_out_of (may_large one) rule.node rule.label) (edges_out_of (must_small one) rule.node rule.label) (edges_out_of (may_small one) rule.node rule.label) (must_count parts small large is lies one _) (may_count parts small large is lies one _) none)
-      | inr none ↦ inr (none_narrower (in_row group rule.node v rule.label) (edges_into (must_large one) rule.node rule.label) (edges_into (may_large one) rule.node rule.label) (edges_into (must_small one) rule.node rule.label) (edges_into (may_small one) rule.node rule.label) (must_count parts small large is lies one _) (may_count parts small large is lies one _) none)
+      | inl none ↦ inl (none_narrower (out_row group rule.node v rule.label) (edges_out_of (must large one) rule.node rule.label) (edges_out_of (may large one) rule.node rule.label)
+          (edges_out_of (must small one) rule.node rule.label) (edges_out_of (may small one) rule.node rule.label) (must_count parts small large is lies one _) (may_count parts small large is lies one _) none)
+      | inr none ↦ inr (none_narrower (in_row group rule.node v rule.label) (edges_into (must large one) rule.node rule.label) (edges_into (may large one) rule.node rule.label)
+          (edges_into (must small one) rule.node rule.label) (edges_into (may small one) rule.node rule.label) (must_count parts small large is lies one _) (may_count parts small large is lies one _) none)
     ];
   }
 
@@ -68,10 +64,10 @@ module _ (parts : Parts) (group : Group) (small large : List (List Bool)) (is : 
   one_mother d v rule = record { place = rule.place; is = rule.is; says = rule.says; other = rule.other; must = must_among parts small large is lies one rule.other rule.must; differs = rule.differs; both = rule.both }
 
   pub no_root : HasNoRoot parts group large → HasNoRoot parts group small
-  no_root none = filter_none (is_root (must_small one)) (is_root (must_large one)) _ (roots_less (must_large one) (must_small one) (must_among parts small large is lies one) (nodes parts)) none
+  no_root none = filter_none (is_root (must small one)) (is_root (must large one)) _ (roots_less (must large one) (must small one) (must_among parts small large is lies one) (nodes parts)) none
 
   pub two_roots : HasTwoRoots parts group large → HasTwoRoots parts group small
-  two_roots two = (let more = roots_length (may_small one) (may_large one) (may_among parts small large is lies one) (nodes parts) in omega (arith, two, more))
+  two_roots two = (let more = roots_length (may small one) (may large one) (may_among parts small large is lies one) (nodes parts) in omega (arith, two, more))
 
   pub no_cycle : (d v : ℕ) → NoCycle parts group large d v → NoCycle parts group small d v
   no_cycle d v rule = record { place = rule.place; is = rule.is; says = rule.says; back = must_above one rule.place.daughter.0 rule.place.mother.0 rule.back }
@@ -161,7 +157,8 @@ module _ (parts : Parts) (group : Group) (small large : List (List Bool)) (is : 
     is = rule.is;
     says = rule.says;
     links = each_entry rule.place.mother.0 (λ c. 0 < length (map_row group rule.place.mother.0 c rule.place.label.0)) rule.links;
-    apart = λ c remains link. rule.apart c (lies (entry_decision rule.place.mother.0) c remains) (linked_among (may_small two) (may_large two) (may_among parts small large is lies two) way rule.place.mother.0 (map_row group rule.place.mother.0 c rule.place.label.0) rule.place.daughter.0 link);
+    apart = λ c remains link. rule.apart c (lies (entry_decision rule.place.mother.0) c remains)
+        (linked_among (may small two) (may large two) (may_among parts small large is lies two) way rule.place.mother.0 (map_row group rule.place.mother.0 c rule.place.label.0) rule.place.daughter.0 link);
   }
 
   pub linking_not_daughter : (d v : ℕ) → LinkingNotDaughter parts group large d v → LinkingNotDaughter parts group small d v

@@ -56,10 +56,8 @@ module _ (parts : Parts) (box : List (List Bool)) (problem : IsProblem parts) (i
 
     each_apart : (cs : Claims) (truth : Bool) (b : ℕ → ℕ) → EachIsOf parts cs → AreNodes parts b → MakesEach parts box cs truth b → MakesSome parts box cs (not truth) b → ⊥
     each_apart none truth b suits nodes_are this that = that
-    each_apart (claim_then c cs) truth b suits nodes_are this that = elim that [
-      | inl here ↦ apart c truth b suits.0 nodes_are this.0 here
-      | inr later ↦ each_apart cs truth b suits.1 nodes_are this.1 later
-    ]
+    each_apart (claim_then c cs) truth b suits nodes_are this (inl here) = apart c truth b suits.0 nodes_are this.0 here
+    each_apart (claim_then c cs) truth b suits nodes_are this (inr later) = each_apart cs truth b suits.1 nodes_are this.1 later
 
 decided_truth : (truth : Bool) (P : Type 0) → Decided P → Decided (HasTruth truth P)
 decided_truth true P decided = decided

@@ -1,5 +1,5 @@
 -- In a box that agrees with a whole vector, a rule or a bound takes nothing exactly where the vector's analysis is as it asks.
-use Rattle.std.proofs.Common.{◌≡◌, ℕ, ◌<◌, ◌≤◌, inl, inr, Bool, true, false, List, length, sym, ap, ◌∙◌, subst, arith}
+use Rattle.std.proofs.Common.{◌≡◌, ℕ, ◌≤◌, inl, inr, Bool, true, false, List, length, ap, ◌∙◌, arith}
 use Rattle.std.proofs.lemmas.Bool.{cases_lt}
 use Rattle.std.proofs.lemmas.List.{length-take-le}
 use Rattle.xdg_problem.specs.declared.analysis.Edge.{Edge}
@@ -16,7 +16,7 @@ use Rattle.xdg_problem.specs.Problems.{IsProblem, IsSuited}
 use Rattle.xdg_problem.specs.Truths.{unbound, FormulaHolds, AreNodes}
 use Rattle.xdg_problem.specs.Vectors.{shape, entry_places, entries_at, edges_in, analysis_of}
 use Rattle.xdg_problem.proofs.VectorFacts.{entries_back, length_shape}
-use Rattle.xdg_rules.specs.Bounds.{least_cost, BoundReached, BoundPlace}
+use Rattle.xdg_rules.specs.Bounds.{least_cost}
 use Rattle.xdg_rules.specs.Rules.{TakesBy}
 use Rattle.xdg_rules.specs.Worths.{RuleFalse}
 use Rattle.xdg_rules.proofs.ClaimLaws.{agreeing_sound, agreeing_settled}
@@ -76,7 +76,5 @@ module _ (parts : Parts) (group : Group) (box : List (List Bool)) (x : List ℕ)
   rule_takes_none formula suits holds fails = agreeing_sound parts problem (claim formula) unbound suits.is_of are_nodes box x is whole agrees false fails holds
 
   pub bound_takes_none : (costs : CostLists) (bound : ℕ) → Asked (principles.Bound costs bound) → (d v : ℕ) → Has box d v → TakesBy (principles.Bound costs bound) parts group box d v → ⊥
-  bound_takes_none costs bound asked d v has taken = elim taken [
-    | inl reached ↦ (let same = cost_is costs in omega (arith, reached, asked, same))
-    | inr place ↦ place_whole parts costs box x problem is whole agrees bound d v has place
-  ]
+  bound_takes_none costs bound asked d v has (inl reached) = (let same = cost_is costs in omega (arith, reached, asked, same))
+  bound_takes_none costs bound asked d v has (inr place) = place_whole parts costs box x problem is whole agrees bound d v has place

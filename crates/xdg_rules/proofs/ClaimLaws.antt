@@ -1,16 +1,17 @@
 -- The laws of what claims are worth in boxes.
-use Rattle.std.proofs.Common.{◌≡◌, ℕ, ◌⊎◌, inl, inr, zero, suc, Bool, true, false, List, [], ◌∷◌, length, refl, sym, subst, ap, ◌∙◌, arith}
+use Rattle.std.proofs.Common.{◌<◌, ◌≡◌, ℕ, ◌⊎◌, inl, inr, Bool, true, false, List, length, refl, sym, subst, ap, ◌∙◌, arith}
 use Rattle.std.specs.Prelude.{Option, Some, None}
-use Rattle.std.proofs.lemmas.Bool.{false≢true}
 use Rattle.std.proofs.lemmas.List.{length-map}
 use Rattle.xdg_facts.specs.Fits.{Fits}
 use Rattle.xdg_problem.specs.declared.analysis.Analysis.{Analysis}
 use Rattle.xdg_problem.specs.declared.parts.Parts.{Parts}
 use Rattle.xdg_problem.specs.Analyses.{IsAnalysis}
-use Rattle.xdg_problem.specs.Boxes.{IsBox, LiesIn, IsSingle, IsIn, Agrees}
+use Rattle.xdg_problem.specs.Boxes.{IsBox, IsSingle, IsIn, Agrees}
 use Rattle.xdg_problem.specs.Problems.{IsProblem}
 use Rattle.xdg_problem.specs.Vectors.{shape, vector, entry_places, analysis_of}
 use Rattle.xdg_problem.proofs.VectorFacts.{analysis_vector, vector_fits, length_vector}
+use Rattle.xdg_problem.proofs.BoxPlaces.{has_decision}
+use Rattle.xdg_rules.proofs.Agreeing.{agrees_at}
 use Rattle.xdg_rules.specs.Boxed.{only, first_numbers}
 use Rattle.xdg_rules.specs.Rules.{first_true}
 use Rattle.xdg_rules.proofs.Single.{single_agrees, only_agrees, only_box, only_lies}
@@ -26,10 +27,9 @@ use Rattle.xdg_rules.proofs.SoundClaims.{sound}
 
 -- a box that agrees with a whole vector has single values
 agrees_single : (box : List (List Bool)) (x : List ℕ) → length box ≡ length x → Agrees box x → IsSingle box
-agrees_single [] x long agrees d v y has other = absurd (false≢true has)
-agrees_single (row ∷ box) [] long agrees d v y has other = absurd (omega (arith, long))
-agrees_single (row ∷ box) (a ∷ x) long agrees zero v y has other = (agrees.0 y).0 other ∙ sym ((agrees.0 v).0 has)
-agrees_single (row ∷ box) (a ∷ x) long agrees (suc d) v y has other = agrees_single box x (omega (arith, long)) agrees.1 d v y has other
+agrees_single box x long agrees d v y has other =
+    let l : d < length x = (let k = has_decision box d v has in omega (arith, k, long)) in
+    (agrees_at box x agrees d l y).0 other ∙ sym ((agrees_at box x agrees d l v).0 has)
 
 -- what a claim is goes by its bound names
 pub name_laws : (parts : Parts) (scope : List ℕ) (c : Claim) → IsBound scope c → NameLaws parts scope c

@@ -11,7 +11,7 @@ use Rattle.xdg_problem.specs.Problems.{IsProblem, IsGroup}
 use Rattle.xdg_problem.specs.Tests.{Test, IsTest, looks_at, entry_node, test_attrs}
 use Rattle.xdg_problem.specs.Vectors.{shape, edges_in}
 use Rattle.xdg_problem.proofs.LiveDecided.{decided_passes}
-use Rattle.xdg_problem.specs.Boxes.{Has, IsBox, Agrees}
+use Rattle.xdg_problem.specs.Boxes.{IsBox, Agrees}
 use Rattle.xdg_rules.specs.Rules.{FailsTest, IsClosedFor, IsClosed}
 use Rattle.xdg_rules.specs.Boxed.{Boxed}
 use Rattle.xdg_rules.proofs.Sizes.{some_value}

@@ -1,9 +1,8 @@
 -- What a box costs at the least: more in a smaller box, and where it agrees with a whole vector what the vector's analysis costs.
 use Rattle.std.proofs.Common.{◌≡◌, ℕ, ◌+◌, ◌<◌, ◌≤◌, inl, inr, zero, suc, Bool, true, false, ◌&&◌, List, [], ◌∷◌, ◌++◌, length, map, refl, sym, ap, ap₂, ◌∙◌, arith, subst}
-use Rattle.std.specs.Prelude.{filter, Contains, not, slice_index, slice_index_or, ◌==◌}
+use Rattle.std.specs.Prelude.{Contains, not, slice_index, slice_index_or, ◌==◌}
 use Rattle.std.specs.List.{sum_by}
-use Rattle.std.proofs.lemmas.Bool.{and_parts, and_from, cases_Bool, eq-eqb, not_from_false, false_from_ne_true, false≢true}
-use Rattle.std.proofs.lemmas.List.Elements.{All-weaker, All-contains_itself}
+use Rattle.std.proofs.lemmas.Bool.{and_parts, and_from, cases_Bool, eq-eqb, not_from_false, false≢true}
 use Rattle.std.proofs.lemmas.List.Sums.{sum_by-cons}
 use Rattle.xdg_base.specs.declared.ids.EntryNo.{EntryNo}
 use Rattle.xdg_problem.specs.declared.analysis.Edge.{Edge}
@@ -13,16 +12,15 @@ use Rattle.xdg_problem.specs.Costs.{CostLists, entry_cost, total_cost}
 use Rattle.xdg_problem.specs.Places.{nodes, places}
 use Rattle.xdg_problem.specs.Problems.{IsProblem}
 use Rattle.xdg_problem.specs.Vectors.{shape, entry_places, entries_at, edges_in}
-use Rattle.xdg_problem.proofs.FilterFacts.{filter_alike}
 use Rattle.xdg_rules.specs.Remaining.{has}
 use Rattle.xdg_rules.specs.Bounds.{sum_below, candidate_cost, node_cost, edge_cost, must_places, least_cost, BoundReached, BoundPlace}
-use Rattle.xdg_rules.proofs.Agreeing.{says_present, edges_present, present_at}
-use Rattle.xdg_rules.proofs.Keeping.{Less}
+use Rattle.xdg_rules.proofs.Agreeing.{says_present, edges_present}
+use Rattle.xdg_rules.proofs.Keeping.{Less, filter_on, less_sum, more_sum}
 use Rattle.xdg_rules.proofs.Least.{least_less, least_single}
-use Rattle.xdg_rules.proofs.Shrinking.{must_be, must_less}
-use Rattle.xdg_rules.proofs.Sizes.{within_sizes, node_within, edge_within}
-use Rattle.xdg_rules.proofs.Summing.{less_sum, more_sum, below_most, below_same, below_first}
-use Rattle.xdg_rules.proofs.Whole.{entry_has, entry_is, not_both}
+use Rattle.xdg_rules.proofs.Shrinking.{must_less}
+use Rattle.xdg_rules.proofs.Sizes.{within_sizes, node_within}
+use Rattle.xdg_rules.proofs.Summing.{below_most, below_same, below_first}
+use Rattle.xdg_rules.proofs.Whole.{entry_has, entry_is, not_both, present_must}
 
 -- ---- sizes
 
@@ -109,18 +107,8 @@ module _ (parts : Parts) (costs : CostLists) (box : List (List Bool)) (x : List 
       (candidate_within parts box problem is node (slice_index chosen_places node) within there) there
       (λ j remains. entry_is parts box x problem is whole agrees node j within remains)
 
-  turned : (a b c : Bool) → a ≡ b → (b ≡ true → c ≡ false) → a ≡ (b && not c)
-  turned a true c same none = (let off : c ≡ false = none refl in rw off same)
-  turned a false c same none = same
-
   edges_whole : must_places parts box ≡ edges_in parts x
-  edges_whole = sym (edges_present parts x
-      ∙ filter_alike (λ e. says_present x (edge_decision parts e)) (must_stand parts box) (places parts)
-      (All-weaker (Contains (places parts)) (λ e. says_present x (edge_decision parts e) ≡ must_stand parts box e)
-      (λ e c. turned (says_present x (edge_decision parts e)) (has box (edge_decision parts e) 0) (has box (edge_decision parts e) 1)
-      (present_at parts box x agrees (edge_decision parts e) (subst (λ n. edge_decision parts e < n) (sym whole) (edge_within parts e c)))
-      (λ present. false_from_ne_true (has box (edge_decision parts e) 1) (not_both parts box x problem is whole agrees e c present)))
-      (places parts) (All-contains_itself (places parts))))
+  edges_whole = sym (edges_present parts x ∙ filter_on (λ e. says_present x (edge_decision parts e)) (must_stand parts box) (places parts) (present_must parts box x problem is whole agrees))
 
   -- it costs what the analysis costs
   pub cost_whole : length chosen_places ≡ length parts.candidates → least_cost parts costs box ≡ total_cost costs (entries_at parts.candidates chosen_places) (edges_in parts x)

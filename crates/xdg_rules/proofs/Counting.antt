@@ -1,7 +1,7 @@
 -- What valency takes of edges from a box, it takes from each closed box that lies in it, too: where no entry is taken, the
 -- counts of the smaller box are those of the larger one.
 use Rattle.std.proofs.Common.{◌≡◌, ℕ, ◌<◌, ◌≤◌, inl, inr, Bool, true, List, length, refl, sym, arith, subst}
-use Rattle.std.specs.Prelude.{Contains, All, slice_index_or, ◌==◌, ◌&&◌}
+use Rattle.std.specs.Prelude.{count_by, Contains, All, slice_index_or, ◌==◌, ◌&&◌}
 use Rattle.std.proofs.lemmas.Bool.{and_from, eq-eqb}
 use Rattle.std.proofs.lemmas.List.Elements.{All-contains}
 use Rattle.xdg_problem.specs.declared.analysis.Edge.{Edge}
@@ -12,13 +12,13 @@ use Rattle.xdg_problem.specs.Analyses.{IsPlace}
 use Rattle.xdg_problem.specs.Arguments.{first_dim, label_count, no_plan}
 use Rattle.xdg_problem.specs.Features.{in_row, out_row}
 use Rattle.xdg_problem.specs.Paths.{edges_into, edges_out_of}
-use Rattle.xdg_problem.specs.Places.{places}
+use Rattle.xdg_problem.specs.Places.{nodes, places}
 use Rattle.xdg_problem.specs.Problems.{IsProblem}
 use Rattle.xdg_problem.specs.Vectors.{shape}
 use Rattle.xdg_problem.proofs.PlaceOrder.{is_place}
 use Rattle.xdg_problem.specs.Boxes.{Has, IsBox, LiesIn, entry_decision}
 use Rattle.xdg_problem.proofs.PlacePlans.{plan_read}
-use Rattle.xdg_rules.specs.Rules.{may_edges, must_edges, IsGreatest, IsLeast, ValencyEntry, ValencyFull, ValencyNeeded}
+use Rattle.xdg_rules.specs.Rules.{may_edges, must_edges, HasNoneWithin, IsGreatest, IsLeast, ValencyEntry, ValencyFull, ValencyNeeded}
 use Rattle.xdg_rules.proofs.Sizes.{node_within}
 use Rattle.xdg_rules.proofs.Shrinking.{may_or_not, may_count, must_count, may_count_more, must_count_more, may_is}
 
@@ -71,87 +71,74 @@ module _ (parts : Parts) (group : Group) (small large : List (List Bool)) (probl
   abbrev must : List (List Bool) → List Edge
   must box = must_edges parts box one
 
-  abbrev leaves : ℕ → ℕ → Edge → Bool
-  leaves node label e = (e.mother.0 == node) && (e.label.0 == label)
-
-  abbrev enters : ℕ → ℕ → Edge → Bool
-  enters node label e = (e.daughter.0 == node) && (e.label.0 == label)
-
   -- valency takes no entry of the small box
   abbrev pub KeepsEntries : Type 0
   KeepsEntries = (d v : ℕ) → Has small d v → ValencyEntry parts group small d v → ⊥
 
-  module _ (place : Edge) (placed : Contains (places parts) place) (on : place.dim.0 ≡ one) (keeps : KeepsEntries) where
-    abbrev u : ℕ
-    u = place.mother.0
+  -- an edge at one node of a place, mother or daughter, with the label of the place
+  abbrev at : (Edge → ℕ) → Edge → Edge → Bool
+  at near place e = (near e == near place) && (e.label.0 == place.label.0)
 
-    abbrev w : ℕ
-    w = place.daughter.0
+  -- where each entry of that node has in its row a number of such edges that lies within the counts of the small box
+  module _ (place : Edge) (placed : Contains (places parts) place) (near : Edge → ℕ) (row : ℕ → List ℕ) (within : near place < nodes parts)
+      (keeps : (c : ℕ) → Has small (entry_decision (near place)) c → HasNoneWithin (row c) (count_by (at near place) (must small)) (count_by (at near place) (may small)) → ⊥) where
+    here : at near place place ≡ true
+    here = and_from (near place == near place) (place.label.0 == place.label.0) (eq-eqb (near place) (near place) refl) (eq-eqb place.label.0 place.label.0 refl)
 
-    abbrev l : ℕ
-    l = place.label.0
+    -- an entry of the node remains, and a number of it lies there, as far as nothing follows from it
+    some : ((c k : ℕ) → Has small (entry_decision (near place)) c → Contains (row c) k → count_by (at near place) (must small) ≤ k → k ≤ count_by (at near place) (may small) → ⊥) → ⊥
+    some none = (let entry = is.filled (entry_decision (near place)) (node_within parts (near place) problem within) in keeps entry.0 entry.1 (λ k c a b. none entry.0 k entry.1 c a b))
 
+    -- where as many edges must be in both boxes, the place that need not be in the large one need not be in the small one
+    full : (Contains (must large) place → ⊥) → IsGreatest large (near place) row (count_by (at near place) (must large))
+        → (IsGreatest small (near place) row (count_by (at near place) (must small)) → (Contains (must small) place → ⊥) → ⊥) → ⊥
+    full free greatest none = some (λ c k remains allowed from to.
+        let both = greatest_stays large small (near place) row (count_by (at near place) (must large)) (count_by (at near place) (must small)) lies greatest
+        (must_count parts small large is lies one (at near place)) c k remains allowed from in
+        let same = both.1 in
+        none both.0 (λ there. (let more = must_count_more parts small large is lies one (at near place) place here there free in omega (arith, more, same))))
+
+    -- where as many edges may be in both boxes, the place that may be in the large one may be in the small one
+    needed : Contains (may large) place → IsLeast large (near place) row (count_by (at near place) (may large)) → (IsLeast small (near place) row (count_by (at near place) (may small)) → Contains (may small) place → ⊥) → ⊥
+    needed there least none = some (λ c k remains allowed from to.
+        let both = least_stays large small (near place) row (count_by (at near place) (may large)) (count_by (at near place) (may small)) lies least (may_count parts small large is lies one (at near place)) c k remains allowed to in
+        let same = both.1 in
+        elim (may_or_not parts small one place placed) [
+          | inl stays ↦ none both.0 stays
+          | inr gone ↦ (let more = may_count_more parts small large is lies one (at near place) place here there gone in omega (arith, more, same))
+        ])
+
+  module _ (keeps : KeepsEntries) (place : Edge) (placed : Contains (places parts) place) (on : place.dim.0 ≡ one) where
     stands : IsPlace parts place
     stands = is_place parts place placed
 
-    known : l < label_count parts one
-    known = label_on parts one place stands on
+    keeps_out : (c : ℕ) → Has small (entry_decision place.mother.0) c → HasNoneWithin (out_row group place.mother.0 c place.label.0) (edges_out_of (must small) place.mother.0 place.label.0)
+        (edges_out_of (may small) place.mother.0 place.label.0) → ⊥
+    keeps_out c has none = keeps (entry_decision place.mother.0) c has (record { node = place.mother.0; within = stands.mother; label = place.label.0; known = label_on parts one place stands on; is = refl; none = inl none })
 
-    -- an entry of a node remains, and a number of it lies within the counts of the small box, as far as nothing follows from it
-    out_some : ((c k : ℕ) → Has small (entry_decision u) c → Contains (out_row group u c l) k → edges_out_of (must small) u l ≤ k → k ≤ edges_out_of (may small) u l → ⊥) → ⊥
-    out_some none =
-        let entry = is.filled (entry_decision u) (node_within parts u problem stands.mother) in
-        keeps (entry_decision u) entry.0 entry.1 (record { node = u; within = stands.mother; label = l; known = known; is = refl; none = inl (λ k c a b. none entry.0 k entry.1 c a b) })
-
-    in_some : ((c k : ℕ) → Has small (entry_decision w) c → Contains (in_row group w c l) k → edges_into (must small) w l ≤ k → k ≤ edges_into (may small) w l → ⊥) → ⊥
-    in_some none =
-        let entry = is.filled (entry_decision w) (node_within parts w problem stands.daughter) in
-        keeps (entry_decision w) entry.0 entry.1 (record { node = w; within = stands.daughter; label = l; known = known; is = refl; none = inr (λ k c a b. none entry.0 k entry.1 c a b) })
-
-    leaves_here : leaves u l place ≡ true
-    leaves_here = and_from (place.mother.0 == u) (place.label.0 == l) (eq-eqb u u refl) (eq-eqb l l refl)
-
-    enters_here : enters w l place ≡ true
-    enters_here = and_from (place.daughter.0 == w) (place.label.0 == l) (eq-eqb w w refl) (eq-eqb l l refl)
-
-    -- where as many edges must be in both boxes, the place that need not be in the large one need not be in the small one
-    free_out : (Contains (must large) place → ⊥) → edges_out_of (must small) u l ≡ edges_out_of (must large) u l → Contains (must small) place → ⊥
-    free_out free same c = (let more = must_count_more parts small large is lies one (leaves u l) place leaves_here c free in omega (arith, more, same))
-
-    free_in : (Contains (must large) place → ⊥) → edges_into (must small) w l ≡ edges_into (must large) w l → Contains (must small) place → ⊥
-    free_in free same c = (let more = must_count_more parts small large is lies one (enters w l) place enters_here c free in omega (arith, more, same))
-
-    -- where as many edges may be in both boxes, the place that may be in the large one may be in the small one
-    stays_out : Contains (may large) place → edges_out_of (may small) u l ≡ edges_out_of (may large) u l → Contains (may small) place
-    stays_out there same = elim (may_or_not parts small one place placed) [
-      | inl c ↦ c
-      | inr free ↦ (let more = may_count_more parts small large is lies one (leaves u l) place leaves_here there free in absurd (omega (arith, more, same)))
-    ]
-
-    stays_in : Contains (may large) place → edges_into (may small) w l ≡ edges_into (may large) w l → Contains (may small) place
-    stays_in there same = elim (may_or_not parts small one place placed) [
-      | inl c ↦ c
-      | inr free ↦ (let more = may_count_more parts small large is lies one (enters w l) place enters_here there free in absurd (omega (arith, more, same)))
-    ]
+    keeps_in : (c : ℕ) → Has small (entry_decision place.daughter.0) c → HasNoneWithin (in_row group place.daughter.0 c place.label.0) (edges_into (must small) place.daughter.0 place.label.0)
+        (edges_into (may small) place.daughter.0 place.label.0) → ⊥
+    keeps_in c has none = keeps (entry_decision place.daughter.0) c has (record { node = place.daughter.0; within = stands.daughter; label = place.label.0; known = label_on parts one place stands on; is = refl; none = inr none })
 
   pub valency_full : KeepsEntries → (d v : ℕ) → (ValencyFull parts group small d v → ⊥) → ValencyFull parts group large d v → ⊥
-  valency_full keeps d v none rule = elim rule.full [
-    | inl greatest ↦ out_some rule.place rule.is.0 rule.is.1 keeps (λ c k remains allowed from to.
-        let both = greatest_stays large small rule.place.mother.0 (λ x. out_row group rule.place.mother.0 x rule.place.label.0) (edges_out_of (must large) rule.place.mother.0 rule.place.label.0) (edges_out_of (must small) rule.place.mother.0 rule.place.label.0) lies greatest (must_count parts small large is lies one (leaves rule.place.mother.0 rule.place.label.0)) c k remains allowed from in
-        none (record { place = rule.place; is = rule.is; says = rule.says; free = free_out rule.place rule.is.0 rule.is.1 keeps rule.free both.1; full = inl both.0 }))
-    | inr greatest ↦ in_some rule.place rule.is.0 rule.is.1 keeps (λ c k remains allowed from to.
-        let both = greatest_stays large small rule.place.daughter.0 (λ x. in_row group rule.place.daughter.0 x rule.place.label.0) (edges_into (must large) rule.place.daughter.0 rule.place.label.0) (edges_into (must small) rule.place.daughter.0 rule.place.label.0) lies greatest (must_count parts small large is lies one (enters rule.place.daughter.0 rule.place.label.0)) c k remains allowed from in
-        none (record { place = rule.place; is = rule.is; says = rule.says; free = free_in rule.place rule.is.0 rule.is.1 keeps rule.free both.1; full = inr both.0 }))
-  ]
+  valency_full keeps d v none rule =
+      let place = rule.place in
+      let within = is_place parts place rule.is.0 in
+      elim rule.full [
+        | inl greatest ↦ full place rule.is.0 (λ e. e.mother.0) (λ x. out_row group place.mother.0 x place.label.0) within.mother (keeps_out keeps place rule.is.0 rule.is.1) rule.free greatest
+            (λ most free. none (record { place = place; is = rule.is; says = rule.says; free = free; full = inl most }))
+        | inr greatest ↦ full place rule.is.0 (λ e. e.daughter.0) (λ x. in_row group place.daughter.0 x place.label.0) within.daughter (keeps_in keeps place rule.is.0 rule.is.1) rule.free greatest
+            (λ most free. none (record { place = place; is = rule.is; says = rule.says; free = free; full = inr most }))
+      ]
 
   pub valency_needed : KeepsEntries → (d v : ℕ) → (ValencyNeeded parts group small d v → ⊥) → ValencyNeeded parts group large d v → ⊥
   valency_needed keeps d v none rule =
-      let may_be = may_is parts large one rule.place rule.may in
+      let place = rule.place in
+      let there = may_is parts large one place rule.may in
+      let within = is_place parts place there.place in
       elim rule.needed [
-        | inl least ↦ out_some rule.place may_be.place may_be.dim_is keeps (λ c k remains allowed from to.
-            let both = least_stays large small rule.place.mother.0 (λ x. out_row group rule.place.mother.0 x rule.place.label.0) (edges_out_of (may large) rule.place.mother.0 rule.place.label.0) (edges_out_of (may small) rule.place.mother.0 rule.place.label.0) lies least (may_count parts small large is lies one (leaves rule.place.mother.0 rule.place.label.0)) c k remains allowed to in
-            none (record { place = rule.place; may = stays_out rule.place may_be.place may_be.dim_is keeps rule.may both.1; says = rule.says; needed = inl both.0 }))
-        | inr least ↦ in_some rule.place may_be.place may_be.dim_is keeps (λ c k remains allowed from to.
-            let both = least_stays large small rule.place.daughter.0 (λ x. in_row group rule.place.daughter.0 x rule.place.label.0) (edges_into (may large) rule.place.daughter.0 rule.place.label.0) (edges_into (may small) rule.place.daughter.0 rule.place.label.0) lies least (may_count parts small large is lies one (enters rule.place.daughter.0 rule.place.label.0)) c k remains allowed to in
-            none (record { place = rule.place; may = stays_in rule.place may_be.place may_be.dim_is keeps rule.may both.1; says = rule.says; needed = inr both.0 }))
+        | inl least ↦ needed place there.place (λ e. e.mother.0) (λ x. out_row group place.mother.0 x place.label.0) within.mother (keeps_out keeps place there.place there.dim_is) rule.may least
+            (λ fewest stays. none (record { place = place; may = stays; says = rule.says; needed = inl fewest }))
+        | inr least ↦ needed place there.place (λ e. e.daughter.0) (λ x. in_row group place.daughter.0 x place.label.0) within.daughter (keeps_in keeps place there.place there.dim_is) rule.may least
+            (λ fewest stays. none (record { place = place; may = stays; says = rule.says; needed = inr fewest }))
       ]

@@ -1,9 +1,11 @@
 -- What can be decided of the values that remain in a box, of its edges and of its entries.
-use Rattle.std.proofs.Common.{◌≡◌, ℕ, ◌<◌, ◌≤◌, inl, inr, Bool, true, false, List, [], ◌∷◌, length, refl, ap, ap₂, subst}
+use Rattle.std.proofs.Common.{◌≡◌, ℕ, ◌<◌, ◌≤◌, inl, inr, Bool, true, false, List, [], ◌∷◌, length, refl, subst}
 use Rattle.std.specs.Prelude.{All, Contains, slice_index_or}
 use Rattle.std.specs.List.{Any}
 use Rattle.std.proofs.lemmas.Bool.{cases_Bool, both_ways}
 use Rattle.std.proofs.lemmas.List.Elements.{All-contains, All-contains_itself, All-weaker}
+use Rattle.xdg_facts.specs.Order.{Less}
+use Rattle.xdg_facts.proofs.Ordered.{less_irreflexive, less_total}
 use Rattle.xdg_problem.specs.declared.analysis.Edge.{Edge}
 use Rattle.xdg_problem.proofs.Deciding.{Decided, decided_like, decided_both, decided_from, decided_equal, decided_most, decided_below, decided_all, decided_contains}
 use Rattle.xdg_problem.proofs.DecidingPaths.{decided_either, decided_true, decided_not, decided_any, contained}
@@ -14,6 +16,9 @@ use Rattle.xdg_problem.specs.Boxes.{Has, IsOnly, entry_decision}
 use Rattle.xdg_rules.specs.Rules.{EachEntry, IsDecided, HasNoneWithin, IsGreatest, IsLeast, ComesBefore}
 use Rattle.xdg_rules.proofs.Sizes.{row_within}
 use Rattle.xdg_problem.proofs.DecidingTruths.{decided_some as decided_some_below}
+
+pub decided_as : (P Q : Type 0) → Decided P → (P → Q) → (Q → P) → Decided Q
+decided_as P Q decided to from = decided_like P Q to from decided
 
 pub decided_has : (box : List (List Bool)) (d v : ℕ) → Decided (Has box d v)
 decided_has box d v = decided_true (slice_index_or (slice_index_or box d []) v false)
@@ -45,21 +50,11 @@ decided_each_entry box node P each = decided_remaining box (entry_decision node)
 -- lists of numbers, and edges
 
 pub decided_lists : (xs ys : List ℕ) → Decided (xs ≡ ys)
-decided_lists [] [] = inl refl
-decided_lists [] (y ∷ ys) = inr (λ e. cc e)
-decided_lists (x ∷ xs) [] = inr (λ e. cc e)
-decided_lists (x ∷ xs) (y ∷ ys) = decided_like ((x ≡ y) × (xs ≡ ys)) (x ∷ xs ≡ y ∷ ys)
-    (λ both. ap₂ (λ z zs. z ∷ zs) both.0 both.1)
-    (λ e. (ap (first_of_list x) e, ap rest_of_list e))
-    (decided_both (x ≡ y) (xs ≡ ys) (decided_equal x y) (decided_lists xs ys))
-  where
-    first_of_list : ℕ → List ℕ → ℕ
-    first_of_list d [] = d
-    first_of_list d (z ∷ zs) = z
-
-    rest_of_list : List ℕ → List ℕ
-    rest_of_list [] = []
-    rest_of_list (z ∷ zs) = zs
+decided_lists xs ys = elim (less_total xs ys) [
+  | inl less ↦ inr (λ e. less_irreflexive ys (subst (λ zs. Less zs ys) e less))
+  | inr (inl same) ↦ inl same
+  | inr (inr more) ↦ inr (λ e. less_irreflexive ys (subst (Less ys) e more))
+]
 
 pub decided_edges : (a b : Edge) → Decided (a ≡ b)
 decided_edges a b = elim (cases_Bool (same_edge a b)) [
@@ -82,20 +77,18 @@ decided_none_within cardinality least most = decided_like (All (λ k. least ≤ 
     (decided_all (λ k. least ≤ k → k ≤ most → ⊥) cardinality (λ k. decided_from (least ≤ k) (k ≤ most → ⊥) (decided_most least k) (decided_not (k ≤ most) (decided_most k most))))
 
 pub decided_greatest : (box : List (List Bool)) (node : ℕ) (row : ℕ → List ℕ) (number : ℕ) → Decided (IsGreatest box node row number)
-decided_greatest box node row number = decided_like (((c : ℕ) × Has box (entry_decision node) c × Contains (row c) number) × EachEntry box node (λ c. All (λ k. k ≤ number) (row c))) (IsGreatest box node row number)
+decided_greatest box node row number = decided_as _ _
+    (decided_both _ _ (decided_some box (entry_decision node) (λ c. Contains (row c) number) (λ c. decided_contains (row c) number))
+    (decided_each_entry box node (λ c. All (λ k. k ≤ number) (row c)) (λ c. decided_all (λ k. k ≤ number) (row c) (λ k. decided_most k number))))
     (λ both. record { entry = both.0.0; remains = both.0.1; allowed = both.0.2; most = both.1 })
     (λ is. ((is.entry, is.remains, is.allowed), is.most))
-    (decided_both _ _
-    (decided_some box (entry_decision node) (λ c. Contains (row c) number) (λ c. decided_contains (row c) number))
-    (decided_each_entry box node (λ c. All (λ k. k ≤ number) (row c)) (λ c. decided_all (λ k. k ≤ number) (row c) (λ k. decided_most k number))))
 
 pub decided_least : (box : List (List Bool)) (node : ℕ) (row : ℕ → List ℕ) (number : ℕ) → Decided (IsLeast box node row number)
-decided_least box node row number = decided_like (((c : ℕ) × Has box (entry_decision node) c × Contains (row c) number) × EachEntry box node (λ c. All (λ k. number ≤ k) (row c))) (IsLeast box node row number)
+decided_least box node row number = decided_as _ _
+    (decided_both _ _ (decided_some box (entry_decision node) (λ c. Contains (row c) number) (λ c. decided_contains (row c) number))
+    (decided_each_entry box node (λ c. All (λ k. number ≤ k) (row c)) (λ c. decided_all (λ k. number ≤ k) (row c) (λ k. decided_most number k))))
     (λ both. record { entry = both.0.0; remains = both.0.1; allowed = both.0.2; least = both.1 })
     (λ is. ((is.entry, is.remains, is.allowed), is.least))
-    (decided_both _ _
-    (decided_some box (entry_decision node) (λ c. Contains (row c) number) (λ c. decided_contains (row c) number))
-    (decided_each_entry box node (λ c. All (λ k. number ≤ k) (row c)) (λ c. decided_all (λ k. number ≤ k) (row c) (λ k. decided_most number k))))
 
 pub decided_comes : (order : List ℕ) (l m : ℕ) → Decided (ComesBefore order l m)
 decided_comes [] l m = inr (λ none. none)

@@ -1,6 +1,6 @@
 -- Whether a box is closed can be decided, and whether a prefix is boxed.
 use Rattle.std.proofs.Common.{◌≡◌, ℕ, ◌+◌, ◌<◌, ◌↔◌, inl, inr, zero, suc, Bool, true, false, List, [], ◌∷◌, ◌++◌, length, map, refl, sym, subst, Option, Some, None}
-use Rattle.std.specs.Prelude.{filter, All, Contains, slice_index_or, ◌&&◌}
+use Rattle.std.specs.Prelude.{filter, Contains, slice_index_or, ◌&&◌}
 use Rattle.std.specs.List.{Any, flat_map}
 use Rattle.xdg_facts.specs.Listing.{HasOneListing}
 use Rattle.xdg_facts.proofs.Exists.{decided_listing}
@@ -23,7 +23,7 @@ use Rattle.xdg_rules.specs.Rules.{has, IsDecided, EntryDecided, entry_value, val
 use Rattle.xdg_rules.specs.Boxed.{Boxed}
 use Rattle.xdg_rules.proofs.Sizes.{row_within}
 use Rattle.xdg_rules.proofs.ClosedLive.{none_fails}
-use Rattle.xdg_rules.proofs.DecidingBoxes.{decided_remaining, decided_some, decided_decided, decided_lists}
+use Rattle.xdg_rules.proofs.DecidingBoxes.{decided_as, decided_remaining, decided_some, decided_decided, decided_lists}
 use Rattle.xdg_rules.proofs.DecidingRules.{decided_by}
 use Rattle.xdg_problem.proofs.BoxPlaces.{has_decision}
 
@@ -40,62 +40,51 @@ decided_entry box (Some node) = decided_decided box (entry_decision node)
 
 module _ (parts : Parts) (group : Group) (box : List (List Bool)) where
   decided_test : (test : Test) → Decided (TestDecided parts group box test)
-  decided_test test =
-      let Entry : Type 0 = EntryDecided box (entry_node test) in
-      let Attrs : Type 0 = All (λ place. IsDecided box (length parts.candidates + place)) (test_attrs parts group test) in
-      let Edges : Type 0 = All (λ e. looks_at group test e ≡ true → IsDecided box (edge_decision parts e)) (places parts) in
-      decided_like (Entry × Attrs × Edges) (TestDecided parts group box test)
+  decided_test test = decided_as _ _
+      (triple_decided _ _ _ (decided_entry box (entry_node test))
+      (decided_all (λ place. IsDecided box (length parts.candidates + place)) (test_attrs parts group test) (λ place. decided_decided box (length parts.candidates + place)))
+      (decided_all (λ e. looks_at group test e ≡ true → IsDecided box (edge_decision parts e)) (places parts) (λ e. decided_from _ _ (decided_true (looks_at group test e)) (decided_decided box (edge_decision parts e)))))
       (λ all. record { entry = all.0; attrs = all.1; edges = all.2 })
       (λ is. (is.entry, is.attrs, is.edges))
-      (triple_decided Entry Attrs Edges (decided_entry box (entry_node test))
-      (decided_all _ (test_attrs parts group test) (λ place. decided_decided box (length parts.candidates + place)))
-      (decided_all _ (places parts) (λ e. decided_from _ _ (decided_true (looks_at group test e)) (decided_decided box (edge_decision parts e)))))
 
   -- a test holds as soon as it is decided
-  Fine : Test → Type 0
+  abbrev Fine : Test → Type 0
   Fine test = TestDecided parts group box test → TestPasses parts group box test
 
   passes_or_not : (test : Test) → Decided (TestPasses parts group box test)
   passes_or_not test = decided_passes (nodes parts) group test (entry_value box (entry_node test)) (map (λ place. value_in box (length parts.candidates + place)) (test_attrs parts group test)) (filter (λ e. looks_at group test e && has box (edge_decision parts e) 0) (places parts))
 
   decided_fine : (test : Test) → Decided (Fine test)
-  unfolding Fine
   decided_fine test = decided_from (TestDecided parts group box test) (TestPasses parts group box test) (decided_test test) (passes_or_not test)
 
-  AllFine : Type 0
+  abbrev AllFine : Type 0
   AllFine = (test : Test) → IsTest parts group test → Fine test
 
   all_fine : Decided AllFine
-  unfolding AllFine
   all_fine = decided_like (Each group.truths (nodes parts) (label_count parts (first_dim group)) Fine group.principle) AllFine
       (each_tested group.truths (nodes parts) (label_count parts (first_dim group)) Fine group.principle)
       (tested_each group.truths (nodes parts) (label_count parts (first_dim group)) Fine group.principle)
       (decided_tests group.truths (nodes parts) (label_count parts (first_dim group)) Fine decided_fine group.principle)
 
   fine_closed : AllFine → FailsTest parts group box → ⊥
-  unfolding AllFine Fine
   fine_closed fine failing = failing.fails (fine failing.test failing.is failing.decided)
 
   closed_fine : (FailsTest parts group box → ⊥) → AllFine
-  unfolding AllFine Fine
   closed_fine none test tested decided = elim (passes_or_not test) [
     | inl passes ↦ passes
     | inr fails ↦ absurd (none (record { test = test; is = tested; decided = decided; fails = fails }))
   ]
 
-  KeepsAll : Type 0
+  abbrev KeepsAll : Type 0
   KeepsAll = (d v : ℕ) → Has box d v → TakesBy group.principle parts group box d v → ⊥
 
   keeps_or_not : Decided KeepsAll
-  unfolding KeepsAll
   keeps_or_not = decided_everywhere box (λ d v. TakesBy group.principle parts group box d v → ⊥) (λ d v. decided_not _ (decided_by parts group box d v group.principle))
 
   closed_from : AllFine × KeepsAll → IsClosedFor parts group box
-  unfolding KeepsAll
   closed_from both d v has takes = elim takes [ inl failing ↦ fine_closed both.0 failing | inr by ↦ both.1 d v has by ]
 
   closed_into : IsProblem parts → IsBox (shape parts) box → IsClosedFor parts group box → AllFine × KeepsAll
-  unfolding KeepsAll
   closed_into problem is closed = (closed_fine (none_fails parts group box problem is closed), λ d v has by. closed d v has (inr by))
 
   pub decided_closed_for : IsProblem parts → IsBox (shape parts) box → Decided (IsClosedFor parts group box)
@@ -152,18 +141,16 @@ decided_agrees [] (x ∷ p) = inr (λ none. none)
 decided_agrees (row ∷ box) (x ∷ p) = decided_both _ _ (decided_row row x) (decided_agrees box p)
 
 module _ (parts : Parts) (problem : IsProblem parts) where
-  BoxedBy : List ℕ → List (List Bool) → Type 0
+  abbrev BoxedBy : List ℕ → List (List Bool) → Type 0
   BoxedBy p box = IsBox (shape parts) box × IsClosed parts box × Agrees box p
 
   decided_boxed_by : (p : List ℕ) (box : List (List Bool)) → Decided (BoxedBy p box)
-  unfolding BoxedBy
   decided_boxed_by p box = elim (decided_box (shape parts) box) [
     | inl is ↦ triple_decided _ _ _ (inl is) (decided_closed parts box problem is) (decided_agrees box p)
     | inr not_is ↦ inr (λ by. not_is by.0)
   ]
 
   pub boxed_decided : (p : List ℕ) → Decided (Boxed parts p)
-  unfolding BoxedBy
   boxed_decided p = decided_like (Any (BoxedBy p) (all_boxes (shape parts))) (Boxed parts p)
       (λ some. (let found = contained (BoxedBy p) (all_boxes (shape parts)) some in record { box = found.0; is = found.2.0; closed = found.2.1; agrees = found.2.2 }))
       (λ boxed. any_of (BoxedBy p) (all_boxes (shape parts)) boxed.box (subst (λ sizes. Contains (all_boxes sizes) boxed.box) boxed.is.sizes (box_contained boxed.box)) (boxed.is, boxed.closed, boxed.agrees))

@@ -1,8 +1,9 @@
 -- A test that is decided in a box and fails is decided in each box that lies in it, and fails there.
-use Rattle.std.proofs.Common.{◌≡◌, ℕ, ◌+◌, ◌<◌, zero, suc, Bool, true, false, ◌&&◌, List, [], ◌∷◌, length, map, refl, sym, ap, ap₂, ◌∙◌, arith, subst, Option, Some, None}
+use Rattle.xdg_problem.proofs.Ordered.{map_alike}
+use Rattle.std.proofs.Common.{◌≡◌, ℕ, ◌+◌, ◌<◌, zero, suc, Bool, true, false, ◌&&◌, List, [], ◌∷◌, length, map, refl, sym, ap, ◌∙◌, arith, subst, Option, Some, None}
 use Rattle.std.specs.Prelude.{filter, Contains, All, slice_index_or}
 use Rattle.std.proofs.lemmas.Bool.{false≢true}
-use Rattle.std.proofs.lemmas.List.Elements.{All-nil, All-cons, All-head, All-tail, All-weaker, All-contains, All-contains_itself}
+use Rattle.std.proofs.lemmas.List.Elements.{All-weaker, All-contains, All-contains_itself}
 use Rattle.xdg_problem.specs.declared.analysis.Edge.{Edge}
 use Rattle.xdg_problem.specs.declared.parts.Group.{Group}
 use Rattle.xdg_problem.specs.declared.parts.Parts.{Parts}
@@ -13,10 +14,10 @@ use Rattle.xdg_problem.specs.Tests.{Test, IsTest, looks_at, entry_node, test_att
 use Rattle.xdg_problem.specs.Vectors.{attr_sizes, shape}
 use Rattle.xdg_problem.proofs.AttrPlaces.{AreWithin, each_within}
 use Rattle.xdg_problem.proofs.EachTest.{each_tested, IsNode, each_node}
-use Rattle.xdg_problem.proofs.FilterFacts.{filter_alike}
 use Rattle.xdg_problem.proofs.Shortening.{passes_like}
 use Rattle.xdg_problem.specs.Boxes.{Has, IsBox, LiesIn, edge_decision, entry_decision}
 use Rattle.xdg_rules.specs.Rules.{has, IsDecided, first_true, value_in, EntryDecided, entry_value, FailsTest}
+use Rattle.xdg_rules.proofs.Keeping.{filter_on}
 use Rattle.xdg_rules.proofs.Sizes.{edge_within, node_within, attr_place_within}
 use Rattle.xdg_facts.proofs.Truths.{same_flag, same_and}
 
@@ -67,19 +68,13 @@ module _ (parts : Parts) (small large : List (List Bool)) (problem : IsProblem p
   AttrDecided box place = IsDecided box (length parts.candidates + place)
 
   attrs_small : (attrs : List ℕ) → All Within attrs → All (AttrDecided large) attrs → All (AttrDecided small) attrs
-  attrs_small [] within decided = All-nil (AttrDecided small)
-  attrs_small (place ∷ attrs) within decided = All-cons (AttrDecided small) place attrs
-      (decided_small (length parts.candidates + place) (attr_place_within parts place (All-head Within place attrs within)) (All-head (AttrDecided large) place attrs decided))
-      (attrs_small attrs (All-tail Within place attrs within) (All-tail (AttrDecided large) place attrs decided))
+  attrs_small attrs within decided k d l = decided_small _ (attr_place_within parts _ (within k d l)) (decided k d l)
 
   abbrev value_of : List (List Bool) → ℕ → ℕ
   value_of box place = value_in box (length parts.candidates + place)
 
   attrs_same : (attrs : List ℕ) → All Within attrs → All (AttrDecided large) attrs → map (value_of small) attrs ≡ map (value_of large) attrs
-  attrs_same [] within decided = refl
-  attrs_same (place ∷ attrs) within decided = ap₂ (λ z zs. z ∷ zs)
-      (same_value (length parts.candidates + place) (attr_place_within parts place (All-head Within place attrs within)) (All-head (AttrDecided large) place attrs decided))
-      (attrs_same attrs (All-tail Within place attrs within) (All-tail (AttrDecided large) place attrs decided))
+  attrs_same attrs within decided = map_alike (value_of small) (value_of large) attrs (λ k d l. same_value _ (attr_place_within parts _ (within k d l)) (decided k d l))
 
   module _ (group : Group) (test : Test) where
     abbrev EdgeDecided : List (List Bool) → Edge → Type 0
@@ -92,8 +87,8 @@ module _ (parts : Parts) (small large : List (List Bool)) (problem : IsProblem p
     seen box e = looks_at group test e && has box (edge_decision parts e) 0
 
     edges_same : All (EdgeDecided large) (places parts) → filter (seen small) (places parts) ≡ filter (seen large) (places parts)
-    edges_same decided = filter_alike (seen small) (seen large) (places parts)
-        (All-weaker (Contains (places parts)) (λ e. seen small e ≡ seen large e) (λ e c. same_and (looks_at group test e) (has small (edge_decision parts e) 0) (has large (edge_decision parts e) 0) (λ looks. same_has (edge_decision parts e) (edge_within parts e c) (All-contains (EdgeDecided large) (places parts) e decided c looks) 0)) (places parts) (All-contains_itself (places parts)))
+    edges_same decided = filter_on (seen small) (seen large) (places parts) (λ e c. same_and (looks_at group test e) (has small (edge_decision parts e) 0) (has large (edge_decision parts e) 0)
+        (λ looks. same_has (edge_decision parts e) (edge_within parts e c) (All-contains (EdgeDecided large) (places parts) e decided c looks) 0))
 
   pub fails_test : (group : Group) → IsGroup parts group → FailsTest parts group large → FailsTest parts group small
   fails_test group group_is failing =

@@ -62,30 +62,26 @@ passing_sizes test first (size ∷ sizes) = ap₂ (λ n ns. n ∷ ns) (length-ma
 
 module _ (parts : Parts) (problem : IsProblem parts) (box : List (List Bool)) where
   -- a closed box that lies in the box
-  Inside : List (List Bool) → Type 0
+  abbrev Inside : List (List Bool) → Type 0
   Inside small = IsBox (shape parts) small × IsClosed parts small × LiesIn small box
 
   decided_inside : (small : List (List Bool)) → Decided (Inside small)
-  unfolding Inside
   decided_inside small = elim (decided_box (shape parts) small) [
     | inl is ↦ triple_decided _ _ _ (inl is) (decided_closed parts small problem is) (decided_everywhere small (λ d v. Has box d v) (λ d v. decided_has box d v))
     | inr not_is ↦ inr (λ inside. not_is inside.0)
   ]
 
   -- one of them has the value
-  Held : ℕ → ℕ → Type 0
+  abbrev Held : ℕ → ℕ → Type 0
   Held d v = Any (λ small. Inside small × Has small d v) (all_boxes (shape parts))
 
   decided_held : (d v : ℕ) → Decided (Held d v)
-  unfolding Held
   decided_held d v = decided_any (λ small. Inside small × Has small d v) (all_boxes (shape parts)) (λ small. decided_both _ _ (decided_inside small) (decided_has small d v))
 
   held_by : (d v : ℕ) → Held d v → (small : List (List Bool)) × Inside small × Has small d v
-  unfolding Held
   held_by d v held = (let found = contained (λ small. Inside small × Has small d v) (all_boxes (shape parts)) held in (found.0, found.2.0, found.2.1))
 
   by_held : (small : List (List Bool)) (d v : ℕ) → Inside small → Has small d v → Held d v
-  unfolding Held Inside
   by_held small d v inside has = any_of (λ s. Inside s × Has s d v) (all_boxes (shape parts)) small (subst (λ sizes. Contains (all_boxes sizes) small) inside.0.sizes (box_contained small)) (inside, has)
 
   test : ℕ → ℕ → Bool
@@ -99,20 +95,19 @@ module _ (parts : Parts) (problem : IsProblem parts) (box : List (List Bool)) wh
   most_held d v has = flag_holds (decided_held d v) (subst (λ n. test n v ≡ true) (omega arith) (passing_has test 0 (shape parts) d v has))
 
   inside_lies : (small : List (List Bool)) → Inside small → LiesIn small most
-  unfolding most test Inside
+  unfolding most test
   inside_lies small inside d v has = has_passing test 0 (shape parts) d v
       (subst (λ sizes. v < slice_index sizes d) inside.0.sizes (within_sizes small d v has))
       (subst (λ n. test n v ≡ true) (omega arith) (holds_flag (decided_held d v) (by_held small d v inside has)))
 
   most_closed : IsClosed parts most
-  unfolding Inside
   most_closed k g l d v has takes =
       let held = held_by d v (most_held d v has) in
       monotone parts _ held.0 most problem (problem.groups k g l) held.1.0 (inside_lies held.0 held.1) (held.1.1 k g l) d v takes held.2
 
   -- where one closed box lies in the box, the values of all of them make the greatest
   most_greatest : (small : List (List Bool)) → Inside small → IsGreatestClosed parts box most
-  unfolding most Inside
+  unfolding most
   most_greatest small inside = record {
     is = record {
       sizes = passing_sizes test 0 (shape parts);
@@ -124,7 +119,6 @@ module _ (parts : Parts) (problem : IsProblem parts) (box : List (List Bool)) wh
   }
 
   pub greatest_closed : ((inside : List (List Bool)) × IsGreatestClosed parts box inside) ⊎ HasNoClosed parts box
-  unfolding Inside
   greatest_closed = elim (decided_any Inside (all_boxes (shape parts)) decided_inside) [
     | inl some ↦ (let found = contained Inside (all_boxes (shape parts)) some in inl (most, most_greatest found.0 found.2))
     | inr none ↦ inr (λ small is closed lies. none (any_of Inside (all_boxes (shape parts)) small (subst (λ sizes. Contains (all_boxes sizes) small) is.sizes (box_contained small)) (is, closed, lies)))

@@ -1,7 +1,6 @@
 -- The least cost of what remains: no cost of what remains is less, and one is as little.
 use Rattle.std.proofs.Common.{◌≡◌, ℕ, ◌<◌, ◌≤◌, ◌⊎◌, inl, inr, zero, suc, Bool, true, false, cond, Option, Some, None, refl, sym, ap, ◌∙◌, arith, subst}
 use Rattle.std.proofs.lemmas.Bool.{cases_eq, cases_lt, false≢true}
-use Prim.Native.Nat.{min}
 use Rattle.xdg_rules.specs.Bounds.{with_least, least_below, or_nothing}
 
 -- there is a least cost, and it is at most this

@@ -35,50 +35,29 @@ module _ (parts : Parts) (group : Group) (small large : List (List Bool)) (probl
   KeepsBy principle = (d v : ℕ) → Has small d v → TakesBy principle parts group small d v → ⊥
 
   for_root : (d v : ℕ) → (TakesForRoot parts group small d v → ⊥) → TakesForRoot parts group large d v → ⊥
-  for_root d v keeps taken = elim taken [
-    | inl found ↦ root_found parts group small large is lies d v (λ r. keeps (inl r)) (λ r. keeps (inr (inl r))) found
-    | inr more ↦ elim more [
-      | inl none ↦ keeps (inr (inl (no_root parts group small large is lies none)))
-      | inr rest ↦ elim rest [
-        | inl only ↦ only_mother parts group small large is lies d v (λ r. keeps (inr (inr (inl r)))) (λ r. keeps (inr (inr (inr r)))) only
-        | inr two ↦ keeps (inr (inr (inr (two_roots parts group small large is lies two))))
-      ]
-    ]
-  ]
+  for_root d v keeps (inl found) = root_found parts group small large is lies d v (λ r. keeps (inl r)) (λ r. keeps (inr (inl r))) found
+  for_root d v keeps (inr (inl none)) = keeps (inr (inl (no_root parts group small large is lies none)))
+  for_root d v keeps (inr (inr (inl only))) = only_mother parts group small large is lies d v (λ r. keeps (inr (inr (inl r)))) (λ r. keeps (inr (inr (inr r)))) only
+  for_root d v keeps (inr (inr (inr two))) = keeps (inr (inr (inr (two_roots parts group small large is lies two))))
 
   way_less : (linking : Option Linking) (d v : ℕ) → TakesLinked linking parts group large d v → TakesLinked linking parts group small d v
   way_less None d v taken = absurd taken
   way_less (Some way) d v taken = linking_reach parts group small large is lies way d v taken
 
   taken_by : (principle : Principle) → group.principle ≡ principle → KeepsBy principle → (d v : ℕ) → Has small d v → TakesBy principle parts group large d v → ⊥
-  taken_by principles.Tree same keeps d v has taken = elim taken [
-    | inl mother ↦ keeps d v has (inl (one_mother parts group small large is lies d v mother))
-    | inr rest ↦ elim rest [
-      | inl root ↦ for_root d v (λ r. keeps d v has (inr (inl r))) root
-      | inr cycle ↦ keeps d v has (inr (inr (no_cycle parts group small large is lies d v cycle)))
-    ]
-  ]
-  taken_by principles.Dag same keeps d v has taken = elim taken [
-    | inl cycle ↦ keeps d v has (inl (no_cycle parts group small large is lies d v cycle))
-    | inr rest ↦ elim rest [
-      | inl root ↦ for_root d v (λ r. keeps d v has (inr (inl (root.0, r)))) root.1
-      | inr label ↦ keeps d v has (inr (inr (label.0, one_label parts group small large is lies d v label.1)))
-    ]
-  ]
-  taken_by principles.Valency same keeps d v has taken = elim taken [
-    | inl entry ↦ keeps d v has (inl (valency_entry parts group small large is lies d v entry))
-    | inr rest ↦ elim rest [
-      | inl full ↦ valency_full parts group small large problem is lies (λ e c there entry. keeps e c there (inl entry)) d v (λ r. keeps d v has (inr (inl r))) full
-      | inr needed ↦ valency_needed parts group small large problem is lies (λ e c there entry. keeps e c there (inl entry)) d v (λ r. keeps d v has (inr (inr r))) needed
-    ]
-  ]
-  taken_by principles.Order same keeps d v has taken = elim taken [
-    | inl daughters ↦ keeps d v has (inl (daughter_order parts group small large is lies d v daughters))
-    | inr rest ↦ elim rest [
-      | inl about ↦ keeps d v has (inr (inl (about_head parts group small large is lies d v (attr_decided parts group group_is 0 (subst (λ p. 0 < attr_arguments p) (sym same) (omega arith))) about)))
-      | inr head ↦ keeps d v has (inr (inr (of_head parts group small large is lies d v head)))
-    ]
-  ]
+  taken_by principles.Tree same keeps d v has (inl mother) = keeps d v has (inl (one_mother parts group small large is lies d v mother))
+  taken_by principles.Tree same keeps d v has (inr (inl root)) = for_root d v (λ r. keeps d v has (inr (inl r))) root
+  taken_by principles.Tree same keeps d v has (inr (inr cycle)) = keeps d v has (inr (inr (no_cycle parts group small large is lies d v cycle)))
+  taken_by principles.Dag same keeps d v has (inl cycle) = keeps d v has (inl (no_cycle parts group small large is lies d v cycle))
+  taken_by principles.Dag same keeps d v has (inr (inl root)) = for_root d v (λ r. keeps d v has (inr (inl (root.0, r)))) root.1
+  taken_by principles.Dag same keeps d v has (inr (inr label)) = keeps d v has (inr (inr (label.0, one_label parts group small large is lies d v label.1)))
+  taken_by principles.Valency same keeps d v has (inl entry) = keeps d v has (inl (valency_entry parts group small large is lies d v entry))
+  taken_by principles.Valency same keeps d v has (inr (inl full)) = valency_full parts group small large problem is lies (λ e c there entry. keeps e c there (inl entry)) d v (λ r. keeps d v has (inr (inl r))) full
+  taken_by principles.Valency same keeps d v has (inr (inr needed)) = valency_needed parts group small large problem is lies (λ e c there entry. keeps e c there (inl entry)) d v (λ r. keeps d v has (inr (inr r))) needed
+  taken_by principles.Order same keeps d v has (inl daughters) = keeps d v has (inl (daughter_order parts group small large is lies d v daughters))
+  taken_by principles.Order same keeps d v has (inr (inl about)) = keeps d v has (inr (inl
+      (about_head parts group small large is lies d v (attr_decided parts group group_is 0 (subst (λ p. 0 < attr_arguments p) (sym same) (omega arith))) about)))
+  taken_by principles.Order same keeps d v has (inr (inr head)) = keeps d v has (inr (inr (of_head parts group small large is lies d v head)))
   taken_by principles.Projectivity same keeps d v has taken = keeps d v has (projectivity_reach parts group small large is lies d v taken)
   taken_by principles.Agr same keeps d v has taken = keeps d v has (agr_values parts group small large is lies d v taken)
   taken_by principles.Agreement same keeps d v has taken = keeps d v has (agreement_values parts group small large is lies d v taken)
@@ -87,10 +66,8 @@ module _ (parts : Parts) (group : Group) (small large : List (List Bool)) (probl
   taken_by principles.Barriers same keeps d v has taken = keeps d v has (barriers_reach parts group small large is lies d v taken)
   taken_by principles.LinkingNotDaughter same keeps d v has taken = keeps d v has (linking_not_daughter parts group small large is lies d v taken)
   taken_by (principles.Rule formula) same keeps d v has taken = keeps d v has (narrower parts small large is lies (claim formula) false unbound taken)
-  taken_by (principles.Bound costs bound) same keeps d v has taken = elim taken [
-    | inl reached ↦ keeps d v has (inl (let more = cost_more parts costs small large problem is lies in omega (arith, reached, more)))
-    | inr place ↦ bound_kept parts costs small large problem is lies bound d v (λ reached. keeps d v has (inl reached)) (λ rule. keeps d v has (inr rule)) has place
-  ]
+  taken_by (principles.Bound costs bound) same keeps d v has (inl reached) = keeps d v has (inl (let more = cost_more parts costs small large problem is lies in omega (arith, reached, more)))
+  taken_by (principles.Bound costs bound) same keeps d v has (inr place) = bound_kept parts costs small large problem is lies bound d v (λ reached. keeps d v has (inl reached)) (λ rule. keeps d v has (inr rule)) has place
   taken_by principle same keeps d v has taken = keeps d v has (way_less (linking_of principle) d v taken)
 
   pub monotone : IsClosedFor parts group small → (d v : ℕ) → Takes parts group large d v → Has small d v → ⊥

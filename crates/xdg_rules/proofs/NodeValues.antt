@@ -1,5 +1,5 @@
 -- Where a node's values stand among the decisions of a problem, and its values of attributes in a whole vector.
-use Rattle.std.proofs.Common.{◌≡◌, ℕ, ◌+◌, ◌<◌, Bool, List, length, take, drop, sym, ◌∙◌, subst}
+use Rattle.std.proofs.Common.{◌≡◌, ◌↔◌, ℕ, ◌+◌, ◌<◌, Bool, List, length, take, drop, sym, ◌∙◌, subst}
 use Rattle.std.specs.Prelude.{slice_index}
 use Rattle.std.proofs.lemmas.List.{get_or-take, get_or-drop}
 use Rattle.xdg_problem.specs.declared.parts.Parts.{Parts}
@@ -29,6 +29,12 @@ module _ (parts : Parts) (dim node attr : ℕ) (known : dim < length parts.dims)
     value_same : slice_index x (length parts.candidates + place) ≡ slice_index attrs place
     value_same = sym (get_or-take (length (attr_sizes (nodes parts) parts.dims)) (drop (length parts.candidates) x) place 0 place_within ∙ get_or-drop (length parts.candidates) x place 0)
 
-    -- in a box that agrees with a whole vector the value of an attribute there remains
+    -- in a box that agrees with a whole vector the value of an attribute there remains, and no other
+    value_at : (v : ℕ) → Has box (attr_decision parts dim node attr) v ↔ (v ≡ slice_index x (length parts.candidates + place))
+    value_at = at parts box x agrees (attr_decision parts dim node attr) (subst (λ n. attr_decision parts dim node attr < n) (sym whole) attr_decided)
+
     pub attr_remains : Has box (attr_decision parts dim node attr) (slice_index attrs place)
-    attr_remains = (at parts box x agrees (attr_decision parts dim node attr) (subst (λ n. attr_decision parts dim node attr < n) (sym whole) attr_decided) (slice_index attrs place)).1 (sym value_same)
+    attr_remains = (value_at (slice_index attrs place)).1 (sym value_same)
+
+    pub attr_only : (v : ℕ) → Has box (attr_decision parts dim node attr) v → v ≡ slice_index attrs place
+    attr_only v remains = (value_at v).0 remains ∙ value_same

@@ -5,7 +5,6 @@ use Rattle.xdg_problem.specs.declared.analysis.Edge.{Edge}
 use Rattle.xdg_problem.specs.declared.conditions.Condition.{Condition}
 use Rattle.xdg_problem.specs.declared.conditions.Condition.TheVariants as conditions
 use Rattle.xdg_problem.specs.declared.parts.Group.{Group}
-use Rattle.xdg_problem.specs.declared.parts.Linking.TheVariants as linkings
 use Rattle.xdg_problem.specs.declared.parts.Parts.{Parts}
 use Rattle.xdg_problem.specs.declared.parts.Principle.{Principle}
 use Rattle.xdg_problem.specs.declared.parts.Principle.TheVariants as principles
@@ -25,7 +24,7 @@ use Rattle.xdg_rules.proofs.Whole.{whole_fits}
 use Rattle.xdg_rules.proofs.SoundTree.{Kept, one_mother, for_root, no_cycle, one_label, valency_entry, valency_full, valency_needed}
 use Rattle.xdg_rules.proofs.SoundValues.{agr_values, agreement_values, government_values, daughter_order, about_head, of_head}
 use Rattle.xdg_rules.proofs.SoundPaths.{projectivity_reach, climbing_reach, barriers_reach, linking_reach, linking_not_daughter}
-use Rattle.xdg_problem.specs.Principles.{attr_arguments, conditions_for}
+use Rattle.xdg_problem.specs.Principles.{attr_arguments, conditions_for, linking_of, way_in}
 
 module _ (parts : Parts) (group : Group) (group_is : IsGroup parts group) (box : List (List Bool)) (x : List ℕ) (problem : IsProblem parts) (is : IsBox (shape parts) box) (whole : length x ≡ length (shape parts)) (agrees : Agrees box x) where
   abbrev Holds : Condition → Type 0
@@ -49,38 +48,30 @@ module _ (parts : Parts) (group : Group) (group_is : IsGroup parts group) (box :
       let kept = (three_kept Holds conditions.Cycle conditions.Roots conditions.Mothers).1 all in
       elim taken [
         | inl mother ↦ one_mother parts group box x problem is whole agrees kept.2 d v has mother
-        | inr rest ↦ elim rest [
-          | inl root ↦ for_root parts group box x problem is whole agrees kept.1 d v has root
-          | inr cycle ↦ no_cycle parts group box x problem is whole agrees kept.0 d v has cycle
-        ]
+        | inr (inl root) ↦ for_root parts group box x problem is whole agrees kept.1 d v has root
+        | inr (inr cycle) ↦ no_cycle parts group box x problem is whole agrees kept.0 d v has cycle
       ]
   keeps_by principles.Dag same all d v has taken =
       let kept = (chosen_kept Holds (truth_of group.truths 0) (truth_of group.truths 1) conditions.Cycle conditions.Roots conditions.Pair).1 all in
       elim taken [
         | inl cycle ↦ no_cycle parts group box x problem is whole agrees kept.0 d v has cycle
-        | inr rest ↦ elim rest [
-          | inl root ↦ for_root parts group box x problem is whole agrees (kept.1 root.0) d v has root.1
-          | inr label ↦ one_label parts group box x problem is whole agrees (kept.2 label.0) d v has label.1
-        ]
+        | inr (inl root) ↦ for_root parts group box x problem is whole agrees (kept.1 root.0) d v has root.1
+        | inr (inr label) ↦ one_label parts group box x problem is whole agrees (kept.2 label.0) d v has label.1
       ]
   keeps_by principles.Valency same all d v has taken =
       let kept = (two_kept Holds conditions.InCount conditions.OutCount).1 all in
       elim taken [
         | inl entry ↦ valency_entry parts group box x problem is whole agrees kept.0 kept.1 d v has entry
-        | inr rest ↦ elim rest [
-          | inl full ↦ valency_full parts group box x problem is whole agrees d v has full
-          | inr needed ↦ valency_needed parts group box x problem is whole agrees d v has needed
-        ]
+        | inr (inl full) ↦ valency_full parts group box x problem is whole agrees d v has full
+        | inr (inr needed) ↦ valency_needed parts group box x problem is whole agrees d v has needed
       ]
   keeps_by principles.Order same all d v has taken =
       let kept = (one_kept Holds conditions.Order).1 all in
       let known = takes_attrs principles.Order 0 same (omega arith) in
       elim taken [
         | inl daughters ↦ daughter_order parts group group_is box x problem is whole agrees kept d v has daughters
-        | inr rest ↦ elim rest [
-          | inl about ↦ about_head parts group group_is box x problem is whole agrees known kept d v has about
-          | inr head ↦ of_head parts group group_is box x problem is whole agrees known kept d v has head
-        ]
+        | inr (inl about) ↦ about_head parts group group_is box x problem is whole agrees known kept d v has about
+        | inr (inr head) ↦ of_head parts group group_is box x problem is whole agrees known kept d v has head
       ]
   keeps_by principles.Projectivity same all d v has taken = projectivity_reach parts group box x problem is whole agrees ((one_kept Holds conditions.Between).1 all) d v has taken
   keeps_by principles.Agr same all d v has taken = agr_values parts group group_is box x problem is whole agrees (takes_attrs principles.Agr 0 same (omega arith)) ((one_kept Holds conditions.Agr).1 all) d v has taken
@@ -88,16 +79,12 @@ module _ (parts : Parts) (group : Group) (group_is : IsGroup parts group) (box :
   keeps_by principles.Government same all d v has taken = government_values parts group group_is box x problem is whole agrees (takes_attrs principles.Government 0 same (omega arith)) ((one_kept Holds conditions.Govern).1 all) d v has taken
   keeps_by principles.Climbing same all d v has taken = climbing_reach parts group box x problem is whole agrees ((one_kept Holds conditions.Below).1 all) d v has taken
   keeps_by principles.Barriers same all d v has taken = barriers_reach parts group box x problem is whole agrees ((one_kept Holds conditions.Blocked).1 all) d v has taken
-  keeps_by principles.LinkingEnd same all d v has taken = linking_reach parts group box x problem is whole agrees principles.LinkingEnd linkings.End same (λ e asks. asks) ((one_kept Holds conditions.Link).1 all) d v has taken
-  keeps_by principles.LinkingDaughter same all d v has taken = linking_reach parts group box x problem is whole agrees principles.LinkingDaughter linkings.Daughter same (λ e asks. asks) ((one_kept Holds conditions.Link).1 all) d v has taken
-  keeps_by principles.LinkingMother same all d v has taken = linking_reach parts group box x problem is whole agrees principles.LinkingMother linkings.Mother same (λ e asks. asks) ((one_kept Holds conditions.Link).1 all) d v has taken
-  keeps_by principles.LinkingBelowStart same all d v has taken = linking_reach parts group box x problem is whole agrees principles.LinkingBelowStart linkings.BelowStart same (λ e asks. asks) ((one_kept Holds conditions.Link).1 all) d v has taken
-  keeps_by principles.LinkingAboveStart same all d v has taken = linking_reach parts group box x problem is whole agrees principles.LinkingAboveStart linkings.AboveStart same (λ e asks. asks) ((one_kept Holds conditions.Link).1 all) d v has taken
-  keeps_by principles.LinkingSisters same all d v has taken = linking_reach parts group box x problem is whole agrees principles.LinkingSisters linkings.Sisters same (λ e asks. asks) ((one_kept Holds conditions.Link).1 all) d v has taken
   keeps_by principles.LinkingNotDaughter same all d v has taken = linking_not_daughter parts group box x problem is whole agrees same ((one_kept Holds conditions.Link).1 all) d v has taken
   keeps_by (principles.Rule formula) same all d v has taken = rule_takes_none parts group box x problem is whole agrees formula (subst (λ p. IsSuited p parts) same group_is.suits) (subst (λ p. AsksWhole p parts candidates attrs edges) same ((one_kept Holds conditions.Rule).1 all [] refl)) taken
   keeps_by (principles.Bound costs bound) same all d v has taken = bound_takes_none parts group box x problem is whole agrees costs bound (subst (λ p. AsksWhole p parts candidates attrs edges) same ((one_kept Holds conditions.Bound).1 all [] refl)) d v has taken
-  keeps_by principle same all d v has taken = absurd taken
+  keeps_by principles.Graph same all d v has taken = absurd taken
+  keeps_by principles.Entries same all d v has taken = absurd taken
+  keeps_by principle same all d v has taken = linking_reach parts group box x problem is whole agrees principle (way_in (linking_of principle)) same (λ e asks. asks) ((one_kept Holds conditions.Link).1 all) d v has taken
 
   -- no test fails, where the relation holds
   passes_tests : Relation parts group (analysis_of parts x) → FailsTest parts group box → ⊥
@@ -108,10 +95,8 @@ module _ (parts : Parts) (group : Group) (group_is : IsGroup parts group) (box :
       failing.fails ((holds_passes parts box x agrees group failing.test stands).0 (live.tests failing.test failing.is stands))
 
   pub relation_closed : Relation parts group (analysis_of parts x) → IsClosedFor parts group box
-  relation_closed relation d v has taken = elim taken [
-    | inl failing ↦ passes_tests relation failing
-    | inr by ↦ keeps_by group.principle refl relation d v has by
-  ]
+  relation_closed relation d v has (inl failing) = passes_tests relation failing
+  relation_closed relation d v has (inr by) = keeps_by group.principle refl relation d v has by
 
   pub closed_relation : IsClosedFor parts group box → Relation parts group (analysis_of parts x)
   closed_relation closed = (use_live parts x problem (whole_fits parts box x is agrees) whole group group_is).0 (closed_live_for parts box x problem is agrees group group_is closed)

@@ -1,5 +1,5 @@
 -- In a box that agrees with a whole vector, what the box makes a claim is the truth that the vector's analysis has.
-use Rattle.std.proofs.Common.{◌≡◌, ℕ, inl, inr, Bool, true, false, List, length, sym, subst, refl, ap, ◌∙◌}
+use Rattle.std.proofs.Common.{◌≡◌, ℕ, inl, inr, Bool, true, false, List, length, sym, subst, ap, ◌∙◌}
 use Rattle.std.specs.Prelude.{Contains, slice_index, ◌==◌}
 use Rattle.std.proofs.lemmas.Bool.{eqb-true}
 use Rattle.xdg_problem.specs.declared.analysis.Edge.{Edge}
@@ -7,23 +7,19 @@ use Rattle.xdg_problem.specs.declared.parts.Parts.{Parts}
 use Rattle.xdg_problem.specs.Arguments.{attr_place}
 use Rattle.xdg_problem.specs.Boxes.{IsBox, Agrees}
 use Rattle.xdg_problem.specs.Paths.{edges_on, IsDaughterBy, Above}
-use Rattle.xdg_problem.specs.Places.{edge, nodes}
+use Rattle.xdg_problem.specs.Places.{edge}
 use Rattle.xdg_problem.specs.Problems.{IsProblem}
 use Rattle.xdg_problem.specs.Vectors.{shape, entry_places, entries_at, edges_in, analysis_of}
 use Rattle.xdg_problem.proofs.FilterFacts.{filter_contained}
 use Rattle.xdg_problem.proofs.DecidingPaths.{contained}
-use Rattle.xdg_problem.proofs.Looking.{any_of}
-use Rattle.xdg_rules.proofs.Whole.{may_on, must_on, entry_has}
+use Rattle.xdg_rules.proofs.Whole.{daughter_by, may_on, must_on, entry_has}
 use Rattle.xdg_problem.specs.Claims.{Claim, negation, conjunction, disjunction, every, some, joined, above, left, same, valued, fitting, Claims, none, claim_then, IsOf, EachIsOf}
 use Rattle.xdg_problem.specs.Truths.{bound, IsTrueIn, EachTrueOf, SomeTrueOf, HasTruth, AreNodes}
 use Rattle.xdg_rules.specs.Worths.{Makes, MakesEach, MakesSome}
 use Rattle.xdg_problem.proofs.Bindings.{bound_nodes}
 use Rattle.xdg_rules.proofs.NodeValues.{attr_remains}
 
--- an edge among those of a dimension joins its nodes, and where an edge joins nodes it is that edge
-edge_joins : (edges : List Edge) (dim u l v : ℕ) → Contains (edges_on dim edges) (edge dim u l v) → IsDaughterBy (edges_on dim edges) u l v
-edge_joins edges dim u l v stands = any_of (λ e. (e.mother.0 ≡ u) × (e.label.0 ≡ l) × (e.daughter.0 ≡ v)) (edges_on dim edges) (edge dim u l v) stands (refl, refl, refl)
-
+-- where an edge of a dimension joins nodes it is that edge
 joining_edge : (edges : List Edge) (dim u l v : ℕ) → IsDaughterBy (edges_on dim edges) u l v → Contains (edges_on dim edges) (edge dim u l v)
 joining_edge edges dim u l v by =
     let found = contained (λ e. (e.mother.0 ≡ u) × (e.label.0 ≡ l) × (e.daughter.0 ≡ v)) (edges_on dim edges) by in
@@ -68,7 +64,8 @@ module _ (parts : Parts) (box : List (List Bool)) (x : List ℕ) (problem : IsPr
     sound (every name c) false b suits nodes_are makes = λ all. sound c false (bound b name makes.0) suits (bound_nodes parts b name makes.0 nodes_are makes.1) makes.2 (all makes.0 makes.1)
     sound (some name c) true b suits nodes_are makes = (makes.0, makes.1, sound c true (bound b name makes.0) suits (bound_nodes parts b name makes.0 nodes_are makes.1) makes.2)
     sound (some name c) false b suits nodes_are makes = λ found. sound c false (bound b name found.0) suits (bound_nodes parts b name found.0 nodes_are found.1) (makes found.0 found.1) found.2
-    sound (joined dim mother label daughter) true b suits nodes_are must = edge_joins edges dim (b mother) label (b daughter) (subst (λ es. Contains es (edge dim (b mother) label (b daughter))) (must_on parts box x problem is whole agrees dim) must)
+    sound (joined dim mother label daughter) true b suits nodes_are must = daughter_by (edges_on dim edges) (edge dim (b mother) label (b daughter))
+        (subst (λ es. Contains es (edge dim (b mother) label (b daughter))) (must_on parts box x problem is whole agrees dim) must)
     sound (joined dim mother label daughter) false b suits nodes_are apart = λ by. apart (subst (λ es. Contains es (edge dim (b mother) label (b daughter))) (sym (may_on parts box x problem is whole agrees dim)) (joining_edge edges dim (b mother) label (b daughter) by))
     sound (above dim upper lower) true b suits nodes_are path = subst (λ es. Above es (b upper) (b lower)) (must_on parts box x problem is whole agrees dim) path
     sound (above dim upper lower) false b suits nodes_are apart = λ path. apart (subst (λ es. Above es (b upper) (b lower)) (sym (may_on parts box x problem is whole agrees dim)) path)
@@ -85,17 +82,13 @@ module _ (parts : Parts) (box : List (List Bool)) (x : List ℕ) (problem : IsPr
 
     some_true : (cs : Claims) (b : ℕ → ℕ) → EachIsOf parts cs → AreNodes parts b → MakesSome parts box cs true b → SomeTrue cs b
     some_true none b suits nodes_are makes = makes
-    some_true (claim_then c cs) b suits nodes_are makes = elim makes [
-      | inl here ↦ inl (sound c true b suits.0 nodes_are here)
-      | inr later ↦ inr (some_true cs b suits.1 nodes_are later)
-    ]
+    some_true (claim_then c cs) b suits nodes_are (inl here) = inl (sound c true b suits.0 nodes_are here)
+    some_true (claim_then c cs) b suits nodes_are (inr later) = inr (some_true cs b suits.1 nodes_are later)
 
     each_false : (cs : Claims) (b : ℕ → ℕ) → EachIsOf parts cs → AreNodes parts b → MakesEach parts box cs false b → SomeTrue cs b → ⊥
     each_false none b suits nodes_are makes found = found
-    each_false (claim_then c cs) b suits nodes_are makes found = elim found [
-      | inl here ↦ sound c false b suits.0 nodes_are makes.0 here
-      | inr later ↦ each_false cs b suits.1 nodes_are makes.1 later
-    ]
+    each_false (claim_then c cs) b suits nodes_are makes (inl here) = sound c false b suits.0 nodes_are makes.0 here
+    each_false (claim_then c cs) b suits nodes_are makes (inr later) = each_false cs b suits.1 nodes_are makes.1 later
 
     some_false : (cs : Claims) (b : ℕ → ℕ) → EachIsOf parts cs → AreNodes parts b → MakesSome parts box cs false b → EachTrue cs b → ⊥
     some_false none b suits nodes_are makes all = makes

@@ -1,7 +1,7 @@
 -- In a box that agrees with a whole vector the rules of paths and links take nothing that remains, if the conditions hold.
-use Rattle.std.proofs.Common.{◌≡◌, ℕ, ◌<◌, ◌⊎◌, inl, inr, Bool, List, [], ◌∷◌, ◌++◌, length, refl, sym, ◌∙◌, arith, subst, Some}
+use Rattle.std.proofs.Common.{◌≡◌, ℕ, ◌<◌, ◌⊎◌, inl, inr, Bool, List, [], ◌∷◌, length, refl, sym, arith, subst, Some}
 use Rattle.std.specs.Prelude.{Contains, All, slice_index, ◌==◌}
-use Rattle.std.proofs.lemmas.List.Elements.{All-nil, All-cons, All-append, All-filter, All-weaker}
+use Rattle.std.proofs.lemmas.List.Elements.{All-nil, All-cons, All-push, All-filter, All-weaker}
 use Rattle.xdg_problem.specs.declared.analysis.Edge.{Edge}
 use Rattle.xdg_problem.specs.declared.conditions.Condition.{Condition}
 use Rattle.xdg_problem.specs.declared.conditions.Condition.TheVariants as conditions
@@ -14,23 +14,20 @@ use Rattle.xdg_problem.specs.Analyses.{IsPlace}
 use Rattle.xdg_problem.specs.Arguments.{first_dim, second_dim}
 use Rattle.xdg_problem.specs.Asking.{IsLinked, AsksLink, AsksBy}
 use Rattle.xdg_problem.specs.Features.{set_row, map_row}
-use Rattle.xdg_problem.specs.Paths.{edges_on, IsDaughter, IsDaughterBy, Leads, Above, AboveByLast}
+use Rattle.xdg_problem.specs.Paths.{edges_on, IsDaughter, Above, AboveByLast}
 use Rattle.xdg_problem.specs.Places.{nodes, places}
 use Rattle.xdg_problem.specs.Problems.{IsProblem}
 use Rattle.xdg_problem.specs.Vectors.{shape, entry_places, entries_at, edges_in}
 use Rattle.xdg_problem.proofs.Looking.{any_of}
 use Rattle.xdg_problem.proofs.PlaceOrder.{is_place}
+use Rattle.xdg_problem.proofs.Walks.{above_edge, leads_append}
 use Rattle.xdg_problem.proofs.TreeTests.{above_within}
 use Rattle.xdg_problem.proofs.VectorFacts.{analysis_fits}
 use Rattle.xdg_problem.specs.Boxes.{Has, IsBox, Agrees}
-use Rattle.xdg_rules.specs.Rules.{may_edges, must_edges, ProjectivityReach, ClimbingReach, BarriersReach, LinkingReach, LinkingNotDaughter}
+use Rattle.xdg_rules.specs.Rules.{may_edges, ProjectivityReach, ClimbingReach, BarriersReach, LinkingReach, LinkingNotDaughter}
 use Rattle.xdg_rules.proofs.Counting.{label_on}
 use Rattle.xdg_rules.proofs.SoundTree.{Kept}
-use Rattle.xdg_rules.proofs.Whole.{whole_fits, may_on, must_on, present, entry_has}
-
-leads_on : (u : ℕ) (path : List Edge) (v : ℕ) (e : Edge) → Leads u path v → e.mother.0 ≡ v → Leads u (path ++ e ∷ []) e.daughter.0
-leads_on u [] v e leads from = (from ∙ sym leads, refl)
-leads_on u (f ∷ path) v e leads from = (leads.0, leads_on f.daughter.0 path v e leads.1 from)
+use Rattle.xdg_rules.proofs.Whole.{whole_fits, may_on, must_on, must_stands, daughter_by, present, entry_has}
 
 -- a path up to an edge, and the edge
 above_by_last : (edges : List Edge) (labels : List ℕ) (w : ℕ) (e : Edge) → Contains edges e → Contains labels e.label.0 → (w ≡ e.mother.0) ⊎ Above edges w e.mother.0 → AboveByLast edges w labels e.daughter.0
@@ -45,8 +42,8 @@ above_by_last edges labels w e stands label (inr over) = record {
   front = over.path;
   last = e;
   label = label;
-  along = All-append (Contains edges) over.path (e ∷ []) over.along (All-cons (Contains edges) e [] stands (All-nil (Contains edges)));
-  leads = leads_on w over.path e.mother.0 e over.leads refl;
+  along = All-push (Contains edges) over.path e over.along stands;
+  leads = leads_append over.path (e ∷ []) w e.mother.0 e.daughter.0 over.leads (refl, refl);
 }
 
 module _ (parts : Parts) (group : Group) (box : List (List Bool)) (x : List ℕ) (problem : IsProblem parts) (is : IsBox (shape parts) box) (whole : length x ≡ length (shape parts)) (agrees : Agrees box x) where
@@ -65,20 +62,11 @@ module _ (parts : Parts) (group : Group) (box : List (List Bool)) (x : List ℕ)
   abbrev entry : ℕ → ℕ
   entry node = slice_index (entry_places parts.candidates (entries_at parts.candidates x)) node
 
-  must_stands : (dim : ℕ) (e : Edge) → Contains (must_edges parts box dim) e → Contains (on dim) e
-  must_stands dim e must = subst (λ es. Contains es e) (must_on parts box x problem is whole agrees dim) must
-
   may_above : (dim u v : ℕ) → (Above (may_edges parts box dim) u v → ⊥) → Above (on dim) u v → ⊥
   may_above dim u v = subst (λ es. Above es u v → ⊥) (may_on parts box x problem is whole agrees dim)
 
-  one_edge : (dim : ℕ) (e : Edge) → Contains (on dim) e → Above (on dim) e.mother.0 e.daughter.0
-  one_edge dim e stands = record { path = e ∷ []; some = omega arith; along = All-cons (Contains (on dim)) e [] stands (All-nil (Contains (on dim))); leads = (refl, refl) }
-
   daughter : (dim : ℕ) (e : Edge) → Contains (on dim) e → IsDaughter (on dim) e.mother.0 e.daughter.0
   daughter dim e stands = any_of (λ f. (f.mother.0 ≡ e.mother.0) × (f.daughter.0 ≡ e.daughter.0)) (on dim) e stands (refl, refl)
-
-  daughter_by : (dim : ℕ) (e : Edge) → Contains (on dim) e → IsDaughterBy (on dim) e.mother.0 e.label.0 e.daughter.0
-  daughter_by dim e stands = any_of (λ f. (f.mother.0 ≡ e.mother.0) × (f.label.0 ≡ e.label.0) × (f.daughter.0 ≡ e.daughter.0)) (on dim) e stands (refl, refl, refl)
 
   pub projectivity_reach : Holds conditions.Between → (d v : ℕ) → Has box d v → ProjectivityReach parts group box d v → ⊥
   projectivity_reach kept d v has rule =
@@ -93,7 +81,7 @@ module _ (parts : Parts) (group : Group) (box : List (List Bool)) (x : List ℕ)
       let u : ℕ = rule.place.mother.0 in
       let w : ℕ = rule.place.daughter.0 in
       let stands = present parts box x problem is whole agrees one rule.place d v rule.is rule.says has in
-      may_above two u w rule.apart (kept (u ∷ w ∷ []) (place.mother, (place.daughter, tt)) (one_edge one rule.place stands))
+      may_above two u w rule.apart (kept (u ∷ w ∷ []) (place.mother, (place.daughter, tt)) (above_edge (on one) rule.place stands))
 
   mothers_within : (dim : ℕ) → All (λ e. e.mother.0 < nodes parts) (on dim)
   mothers_within dim = All-filter (λ e. e.dim.0 == dim) (λ e. e.mother.0 < nodes parts) (edges_in parts x)
@@ -116,7 +104,7 @@ module _ (parts : Parts) (group : Group) (box : List (List Bool)) (x : List ℕ)
   asks_link : Holds conditions.Link → (e : Edge) → Contains (places parts) e → e.dim.0 ≡ one → Contains (on one) e → AsksLink group.principle group (entry e.mother.0) (on two) e.mother.0 e.label.0 e.daughter.0
   asks_link kept e placed is_on stands =
       let place = is_place parts e placed in
-      kept (e.mother.0 ∷ e.label.0 ∷ e.daughter.0 ∷ []) (place.mother, (label_on parts one e place is_on, (place.daughter, tt))) (daughter_by one e stands)
+      kept (e.mother.0 ∷ e.label.0 ∷ e.daughter.0 ∷ []) (place.mother, (label_on parts one e place is_on, (place.daughter, tt))) (daughter_by (on one) e stands)
 
   pub linking_reach : (principle : Principle) (way : Linking) → group.principle ≡ principle
       → ((e : Edge) → AsksLink principle group (entry e.mother.0) (on two) e.mother.0 e.label.0 e.daughter.0 → AsksBy (Some way) (on two) e.mother.0 (map_row group e.mother.0 (entry e.mother.0) e.label.0) e.daughter.0)
@@ -140,6 +128,6 @@ module _ (parts : Parts) (group : Group) (box : List (List Bool)) (x : List ℕ)
       let apart : Contains (on one) rule.place → IsDaughter (on two) u w → ⊥ = λ stands. subst (λ p. AsksLink p group (entry u) (on two) u rule.place.label.0 w) same (asks_link kept rule.place rule.is.0 rule.is.1 stands) keeps in
       let joined : Contains (on two) rule.other → IsDaughter (on two) u w = λ stands. subst (λ k. IsDaughter (on two) k w) (sym rule.mother) (subst (λ k. IsDaughter (on two) rule.other.mother.0 k) (sym rule.daughter) (daughter two rule.other stands)) in
       elim rule.one [
-        | inl first ↦ apart (present parts box x problem is whole agrees one rule.place d v rule.is first.0 has) (joined (must_stands two rule.other first.1))
-        | inr second ↦ apart (must_stands one rule.place second.1) (joined (present parts box x problem is whole agrees two rule.other d v rule.other_is second.0 has))
+        | inl first ↦ apart (present parts box x problem is whole agrees one rule.place d v rule.is first.0 has) (joined (must_stands parts box x problem is whole agrees two rule.other first.1))
+        | inr second ↦ apart (must_stands parts box x problem is whole agrees one rule.place second.1) (joined (present parts box x problem is whole agrees two rule.other d v rule.other_is second.0 has))
       ]

@@ -2,7 +2,6 @@
 use Rattle.std.proofs.Common.{◌≡◌, ℕ, ◌≤◌, inl, inr, Bool, ◌&&◌, List, [], ◌∷◌, length, refl, sym, ap, ◌∙◌, arith, subst}
 use Rattle.std.specs.Prelude.{Contains, ◌==◌}
 use Rattle.std.proofs.lemmas.Bool.{and_from, eq-eqb}
-use Rattle.std.proofs.lemmas.List.Elements.{All-cons}
 use Rattle.xdg_problem.specs.declared.analysis.Edge.{Edge}
 use Rattle.xdg_problem.specs.declared.conditions.Condition.{Condition}
 use Rattle.xdg_problem.specs.declared.conditions.Condition.TheVariants as conditions
@@ -15,22 +14,18 @@ use Rattle.xdg_problem.specs.Places.{nodes}
 use Rattle.xdg_problem.specs.Problems.{IsProblem}
 use Rattle.xdg_problem.specs.Relations.{IsKept}
 use Rattle.xdg_problem.specs.Vectors.{shape, entry_places, entries_at, edges_in, analysis_of}
+use Rattle.xdg_problem.proofs.Walks.{above_edge, above_trans}
 use Rattle.xdg_problem.proofs.Ordered.{contains_head}
 use Rattle.xdg_problem.proofs.PlaceOrder.{is_place}
 use Rattle.xdg_problem.specs.Boxes.{Has, IsBox, Agrees}
 use Rattle.xdg_rules.specs.Rules.{may_edges, must_edges, HasNoneWithin, ValencyEntry, ValencyFull, ValencyNeeded, OneMother, RootFound, HasNoRoot, HasTwoRoots, TakesForRoot, NoCycle, OneLabel}
 use Rattle.xdg_rules.proofs.Among.{root_contained, root_free}
 use Rattle.xdg_rules.proofs.Keeping.{counts_two}
-use Rattle.xdg_rules.proofs.Whole.{may_on, must_on, present, absent, entry_is}
+use Rattle.xdg_rules.proofs.Whole.{may_on, must_on, must_stands, present, absent, entry_is}
 
 -- an edge, and a path on from it
 pub above_after : (edges : List Edge) (e : Edge) (v : ℕ) → Contains edges e → Above edges e.daughter.0 v → Above edges e.mother.0 v
-above_after edges e v c above = record {
-  path = e ∷ above.path;
-  some = omega arith;
-  along = All-cons (Contains edges) e above.path c above.along;
-  leads = (refl, above.leads);
-}
+above_after edges e v c above = above_trans edges e.mother.0 e.daughter.0 v (above_edge edges e c) above
 
 -- a number between two equal counts
 none_at : (cardinality : List ℕ) (count least most : ℕ) → least ≡ count → most ≡ count → HasNoneWithin cardinality least most → Contains cardinality count → ⊥
@@ -46,17 +41,15 @@ module _ (parts : Parts) (group : Group) (box : List (List Bool)) (x : List ℕ)
   abbrev pub Kept : Condition → Type 0
   Kept condition = IsKept parts group (entry_places parts.candidates (entries_at parts.candidates x)) (analysis_of parts x).attrs (edges_in parts x) condition
 
-  -- what must be is an edge of the analysis, and what is an edge may be and must be
-  must_stands : (e : Edge) → Contains (must_edges parts box one) e → Contains (on one) e
-  must_stands e must = subst (λ es. Contains es e) (must_on parts box x problem is whole agrees one) must
-
+  -- what is an edge must be
   stands_must : (e : Edge) → Contains (on one) e → Contains (must_edges parts box one) e
   stands_must e stands = subst (λ es. Contains es e) (sym (must_on parts box x problem is whole agrees one)) stands
 
   pub one_mother : Kept conditions.Mothers → (d v : ℕ) → Has box d v → OneMother parts group box d v → ⊥
   one_mother kept d v has rule =
       let w : ℕ = rule.place.daughter.0 in
-      let two = counts_two (λ e. e.daughter.0 == w) rule.place rule.other (on one) (present parts box x problem is whole agrees one rule.place d v rule.is rule.says has) (must_stands rule.other rule.must) rule.differs (eq-eqb w w refl) (eq-eqb rule.other.daughter.0 w (sym rule.both)) in
+      let two = counts_two (λ e. e.daughter.0 == w) rule.place rule.other (on one) (present parts box x problem is whole agrees one rule.place d v rule.is rule.says has)
+      (must_stands parts box x problem is whole agrees one rule.other rule.must) rule.differs (eq-eqb w w refl) (eq-eqb rule.other.daughter.0 w (sym rule.both)) in
       let most : mothers (on one) w ≤ 1 = kept (w ∷ []) ((is_place parts rule.place rule.is.0).daughter, tt) in
       omega (arith, two, most)
 
@@ -81,16 +74,10 @@ module _ (parts : Parts) (group : Group) (box : List (List Bool)) (x : List ℕ)
       omega (arith, count, same, two)
 
   pub for_root : Kept conditions.Roots → (d v : ℕ) → Has box d v → TakesForRoot parts group box d v → ⊥
-  for_root kept d v has taken = elim taken [
-    | inl found ↦ root_found d v has found
-    | inr more ↦ elim more [
-      | inl none ↦ no_root kept none
-      | inr rest ↦ elim rest [
-        | inl only ↦ absent parts box x problem is whole agrees one only.place d v only.may only.says has
-        | inr two ↦ two_roots kept two
-      ]
-    ]
-  ]
+  for_root kept d v has (inl found) = root_found d v has found
+  for_root kept d v has (inr (inl none)) = no_root kept none
+  for_root kept d v has (inr (inr (inl only))) = absent parts box x problem is whole agrees one only.place d v only.may only.says has
+  for_root kept d v has (inr (inr (inr two))) = two_roots kept two
 
   pub no_cycle : Kept conditions.Cycle → (d v : ℕ) → Has box d v → NoCycle parts group box d v → ⊥
   no_cycle kept d v has rule =
@@ -102,7 +89,8 @@ module _ (parts : Parts) (group : Group) (box : List (List Bool)) (x : List ℕ)
   one_label kept d v has rule =
       let u : ℕ = rule.place.mother.0 in
       let w : ℕ = rule.place.daughter.0 in
-      let two = counts_two (λ e. (e.mother.0 == u) && (e.daughter.0 == w)) rule.place rule.other (on one) (present parts box x problem is whole agrees one rule.place d v rule.is rule.says has) (must_stands rule.other rule.must) rule.differs
+      let two = counts_two (λ e. (e.mother.0 == u) && (e.daughter.0 == w)) rule.place rule.other (on one) (present parts box x problem is whole agrees one rule.place d v rule.is rule.says has)
+      (must_stands parts box x problem is whole agrees one rule.other rule.must) rule.differs
       (and_from (rule.place.mother.0 == u) (rule.place.daughter.0 == w) (eq-eqb u u refl) (eq-eqb w w refl))
       (and_from (rule.other.mother.0 == u) (rule.other.daughter.0 == w) (eq-eqb rule.other.mother.0 u (sym rule.mother)) (eq-eqb rule.other.daughter.0 w (sym rule.daughter))) in
       let place = is_place parts rule.place rule.is.0 in

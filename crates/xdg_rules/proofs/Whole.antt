@@ -1,40 +1,39 @@
 -- A box that agrees with a whole vector: its entries, values and edges are those of the analysis.
-use Rattle.std.proofs.Common.{◌≡◌, ℕ, ◌+◌, ◌<◌, Bool, true, false, ◌&&◌, List, length, take, drop, refl, sym, ap, ◌∙◌, arith, subst}
-use Rattle.std.specs.Prelude.{Contains, not, slice_index, ◌==◌}
+use Rattle.std.proofs.Common.{◌≡◌, ℕ, ◌<◌, Bool, true, false, ◌&&◌, List, length, refl, sym, ap, ◌∙◌, arith, subst}
+use Rattle.std.specs.Prelude.{filter, Contains, not, slice_index, ◌==◌}
 use Rattle.std.proofs.lemmas.Bool.{false_from_ne_true}
-use Rattle.std.proofs.lemmas.List.{get_or-take, get_or-drop}
-use Rattle.std.proofs.lemmas.List.Elements.{All-weaker, All-contains_itself}
 use Rattle.xdg_facts.specs.Fits.{Fits}
 use Rattle.xdg_problem.specs.declared.analysis.Edge.{Edge}
 use Rattle.xdg_problem.specs.declared.parts.Group.{Group}
 use Rattle.xdg_problem.specs.declared.parts.Parts.{Parts}
-use Rattle.xdg_problem.specs.Arguments.{first_dim, attr_of, attr_place}
-use Rattle.xdg_problem.specs.Paths.{edges_on}
+use Rattle.xdg_problem.specs.Arguments.{first_dim, attr_count, attr_of, attr_place}
+use Rattle.xdg_problem.specs.Paths.{edges_on, IsDaughterBy}
 use Rattle.xdg_problem.specs.Places.{nodes, places}
 use Rattle.xdg_problem.specs.Problems.{IsProblem, IsGroup}
-use Rattle.xdg_problem.specs.Vectors.{attr_sizes, shape, entry_places, entries_at, edges_in}
-use Rattle.xdg_problem.proofs.AttrPlaces.{attr_within, attr_dim_within}
-use Rattle.xdg_problem.proofs.FilterFacts.{filter_both, filter_alike}
+use Rattle.xdg_problem.specs.Vectors.{shape, entry_places, entries_at, edges_in, analysis_of}
+use Rattle.xdg_problem.proofs.AttrPlaces.{attr_dim_within}
+use Rattle.xdg_problem.proofs.FilterFacts.{filter_both}
 use Rattle.xdg_problem.proofs.WholeTests.{entry_same}
 use Rattle.xdg_problem.specs.Boxes.{Has, IsBox, Agrees, edge_decision, entry_decision}
 use Rattle.xdg_rules.specs.Rules.{has, may_edges, must_edges, SaysPresent, SaysAbsent, IsPlaceOn, attr_of_node}
-use Rattle.xdg_rules.proofs.Sizes.{edge_within, node_within, attr_place_within}
-use Rattle.xdg_rules.proofs.Agreeing.{agrees_fits, says_present, edges_present, at, present_at}
-use Rattle.xdg_rules.proofs.Shrinking.{may_be, must_be, may_of, may_is}
+use Rattle.xdg_rules.proofs.Sizes.{edge_within, node_within}
+use Rattle.xdg_rules.proofs.Agreeing.{agrees_fits, says_present, edges_present, at, present_at, swapped}
+use Rattle.xdg_rules.proofs.Keeping.{filter_on}
+use Rattle.xdg_rules.proofs.NodeValues.{attr_only, attr_remains}
+use Rattle.xdg_problem.proofs.Looking.{any_of}
+use Rattle.xdg_rules.proofs.Shrinking.{may_of, may_is}
 use Rattle.xdg_problem.specs.Principles.{attr_arguments}
 
 pub whole_fits : (parts : Parts) (box : List (List Bool)) (x : List ℕ) → IsBox (shape parts) box → Agrees box x → Fits (shape parts) x
 whole_fits parts box x is agrees = subst (λ sizes. Fits sizes x) is.sizes (agrees_fits box x agrees)
 
-turned : (a b c : Bool) → b ≡ c → (b && a) ≡ (a && c)
-turned true true c same = same
-turned true false c same = same
-turned false true c same = refl
-turned false false c same = refl
+-- an edge of a list joins its nodes
+pub daughter_by : (edges : List Edge) (e : Edge) → Contains edges e → IsDaughterBy edges e.mother.0 e.label.0 e.daughter.0
+daughter_by edges e stands = any_of (λ f. (f.mother.0 ≡ e.mother.0) × (f.label.0 ≡ e.label.0) × (f.daughter.0 ≡ e.daughter.0)) edges e stands (refl, refl, refl)
 
-turned_both : (a b c d : Bool) → b ≡ c → (c ≡ true → d ≡ false) → (b && a) ≡ (a && (c && not d))
-turned_both a b true d same none = (let off : d ≡ false = none refl in rw (same, off) (turned a true true refl))
-turned_both a b false d same none = rw same (turned a false false refl)
+turned : (a b c : Bool) → a ≡ b → (b ≡ true → c ≡ false) → a ≡ (b && not c)
+turned a true c same none = (let off : c ≡ false = none refl in rw off same)
+turned a false c same none = same
 
 module _ (parts : Parts) (box : List (List Bool)) (x : List ℕ) (problem : IsProblem parts) (is : IsBox (shape parts) box) (whole : length x ≡ length (shape parts)) (agrees : Agrees box x) where
   abbrev candidates : List ℕ
@@ -54,24 +53,28 @@ module _ (parts : Parts) (box : List (List Bool)) (x : List ℕ) (problem : IsPr
       let one_is = (at parts box x agrees (edge_decision parts e) l 1).0 absent in
       omega (arith, zero_is, one_is)
 
-  -- the edges that may be, and those that must be, are the edges of the analysis
-  pub may_on : (dim : ℕ) → may_edges parts box dim ≡ edges_on dim edges
-  may_on dim = sym (ap (edges_on dim) (edges_present parts x)
+  -- the vector says of a place whether its edge may be, and whether it must be
+  present_may : (e : Edge) → Contains (places parts) e → says_present x (edge_decision parts e) ≡ has box (edge_decision parts e) 0
+  present_may e c = present_at parts box x agrees (edge_decision parts e) (within_whole (edge_decision parts e) (edge_within parts e c))
+
+  pub present_must : (e : Edge) → Contains (places parts) e → says_present x (edge_decision parts e) ≡ (has box (edge_decision parts e) 0 && not (has box (edge_decision parts e) 1))
+  present_must e c = turned (says_present x (edge_decision parts e)) (has box (edge_decision parts e) 0) (has box (edge_decision parts e) 1) (present_may e c)
+      (λ present. false_from_ne_true (has box (edge_decision parts e) 1) (not_both e c present))
+
+  -- so the edges that may be, and those that must be, are the edges of the analysis
+  on_is : (dim : ℕ) (holds : Edge → Bool) → ((e : Edge) → Contains (places parts) e → says_present x (edge_decision parts e) ≡ holds e) → filter (λ e. (e.dim.0 == dim) && holds e) (places parts) ≡ edges_on dim edges
+  on_is dim holds same = sym (ap (edges_on dim) (edges_present parts x)
       ∙ filter_both (λ e. e.dim.0 == dim) (λ e. says_present x (edge_decision parts e)) (places parts)
-      ∙ filter_alike (λ e. says_present x (edge_decision parts e) && (e.dim.0 == dim)) (may_be parts box dim) (places parts)
-      (All-weaker (Contains (places parts)) (λ e. (says_present x (edge_decision parts e) && (e.dim.0 == dim)) ≡ may_be parts box dim e)
-      (λ e c. turned (e.dim.0 == dim) (says_present x (edge_decision parts e)) (has box (edge_decision parts e) 0) (present_at parts box x agrees (edge_decision parts e) (within_whole (edge_decision parts e) (edge_within parts e c))))
-      (places parts) (All-contains_itself (places parts))))
+      ∙ filter_on (λ e. says_present x (edge_decision parts e) && (e.dim.0 == dim)) (λ e. (e.dim.0 == dim) && holds e) (places parts) (λ e c. swapped (says_present x (edge_decision parts e)) (e.dim.0 == dim) (holds e) (λ on. same e c)))
+
+  pub may_on : (dim : ℕ) → may_edges parts box dim ≡ edges_on dim edges
+  may_on dim = on_is dim (λ e. has box (edge_decision parts e) 0) present_may
 
   pub must_on : (dim : ℕ) → must_edges parts box dim ≡ edges_on dim edges
-  must_on dim = sym (ap (edges_on dim) (edges_present parts x)
-      ∙ filter_both (λ e. e.dim.0 == dim) (λ e. says_present x (edge_decision parts e)) (places parts)
-      ∙ filter_alike (λ e. says_present x (edge_decision parts e) && (e.dim.0 == dim)) (must_be parts box dim) (places parts)
-      (All-weaker (Contains (places parts)) (λ e. (says_present x (edge_decision parts e) && (e.dim.0 == dim)) ≡ must_be parts box dim e)
-      (λ e c. turned_both (e.dim.0 == dim) (says_present x (edge_decision parts e)) (has box (edge_decision parts e) 0) (has box (edge_decision parts e) 1)
-      (present_at parts box x agrees (edge_decision parts e) (within_whole (edge_decision parts e) (edge_within parts e c)))
-      (λ present. false_from_ne_true (has box (edge_decision parts e) 1) (not_both e c present)))
-      (places parts) (All-contains_itself (places parts))))
+  must_on dim = on_is dim (λ e. has box (edge_decision parts e) 0 && not (has box (edge_decision parts e) 1)) present_must
+
+  pub must_stands : (dim : ℕ) (e : Edge) → Contains (must_edges parts box dim) e → Contains (edges_on dim edges) e
+  must_stands dim e must = subst (λ es. Contains es e) (must_on dim) must
 
   -- where the presence of an edge remains it is present
   pub present : (dim : ℕ) (e : Edge) (d v : ℕ) → IsPlaceOn parts dim e → SaysPresent parts e d v → Has box d v → Contains (edges_on dim edges) e
@@ -93,25 +96,16 @@ module _ (parts : Parts) (box : List (List Bool)) (x : List ℕ) (problem : IsPr
   pub entry_has : (node : ℕ) → node < nodes parts → Has box (entry_decision node) (slice_index candidates node)
   entry_has node within = (at parts box x agrees (entry_decision node) (within_whole (entry_decision node) (node_within parts node problem within)) (slice_index candidates node)).1 (sym (entry_same parts x problem (whole_fits parts box x is agrees) whole node within))
 
-  abbrev attrs : List ℕ
-  attrs = take (length (attr_sizes (nodes parts) parts.dims)) (drop (length parts.candidates) x)
-
   module _ (group : Group) (group_is : IsGroup parts group) (argument : ℕ) (known : argument < attr_arguments group.principle) (node : ℕ) (within : node < nodes parts) where
-    abbrev place : ℕ
-    place = attr_place parts (first_dim group) node (attr_of group argument)
+    known_dim : first_dim group < length parts.dims
+    known_dim = attr_dim_within parts group group_is argument known
 
-    place_within : place < length (attr_sizes (nodes parts) parts.dims)
-    place_within = (let count = group_is.attrs_count in attr_within parts (first_dim group) node (attr_of group argument) (attr_dim_within parts group group_is argument known) within (group_is.attrs argument (record { 0 = 0 }) (omega (arith, known, count))))
-
-    stands : attr_of_node parts group argument node < length x
-    stands = within_whole (length parts.candidates + place) (attr_place_within parts place place_within)
-
-    value_same : slice_index x (length parts.candidates + place) ≡ slice_index attrs place
-    value_same = sym (get_or-take (length (attr_sizes (nodes parts) parts.dims)) (drop (length parts.candidates) x) place 0 place_within ∙ get_or-drop (length parts.candidates) x place 0)
+    has_attr : attr_of group argument < attr_count parts (first_dim group)
+    has_attr = (let count = group_is.attrs_count in group_is.attrs argument (record { 0 = 0 }) (omega (arith, known, count)))
 
     -- the value of an attribute is the one that remains
-    pub attr_is : (v : ℕ) → Has box (attr_of_node parts group argument node) v → v ≡ slice_index attrs place
-    attr_is v remains = (at parts box x agrees (attr_of_node parts group argument node) stands v).0 remains ∙ value_same
+    pub attr_is : (v : ℕ) → Has box (attr_of_node parts group argument node) v → v ≡ slice_index (analysis_of parts x).attrs (attr_place parts (first_dim group) node (attr_of group argument))
+    attr_is = attr_only parts (first_dim group) node (attr_of group argument) known_dim within has_attr box x whole agrees
 
-    pub attr_has : Has box (attr_of_node parts group argument node) (slice_index attrs place)
-    attr_has = (at parts box x agrees (attr_of_node parts group argument node) stands (slice_index attrs place)).1 (sym value_same)
+    pub attr_has : Has box (attr_of_node parts group argument node) (slice_index (analysis_of parts x).attrs (attr_place parts (first_dim group) node (attr_of group argument)))
+    attr_has = attr_remains parts (first_dim group) node (attr_of group argument) known_dim within has_attr box x whole agrees
