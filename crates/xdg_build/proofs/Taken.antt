@@ -60,16 +60,19 @@ two_valencies labels shared rows (f ∷ g ∷ []) long h =
 two_valencies labels shared rows (f ∷ g ∷ k ∷ feats) long h = absurd h.1.1
 
 pub taken : (p : Principle) (parts : Parts) (group : Group) (labels : Which → List (List ℕ)) (shared : Shape) (feats : List Feat) → Sizes p parts group labels shared → FitAll labels shared (feature_typings p) feats → AreFeatures p parts group feats
+taken principles.Graph parts group labels shared feats sizes h = none labels shared feats h
+taken (principles.Rule formula) parts group labels shared feats sizes h = none labels shared feats h
+taken (principles.Bound costs bound) parts group labels shared feats sizes h = none labels shared feats h
+taken principles.Entries parts group labels shared feats sizes h = none labels shared feats h
+taken principles.Tree parts group labels shared feats sizes h = none labels shared feats h
+taken principles.Projectivity parts group labels shared feats sizes h = none labels shared feats h
+taken principles.Dag parts group labels shared feats sizes h = none labels shared feats h
+taken principles.Order parts group labels shared feats sizes h = none labels shared feats h
+taken principles.Climbing parts group labels shared feats sizes h = none labels shared feats h
 taken principles.Valency parts group labels shared feats sizes h = two_valencies labels shared (label_count parts (first_dim group)) feats sizes.first h
 taken principles.Agr parts group labels shared feats sizes h = one_set labels shared w.First e.Shared (value_count parts (first_dim group) (attr_of group 0)) feats (sizes.values tt) h
 taken principles.Agreement parts group labels shared feats sizes h = one_set labels shared w.First (e.Labels w.First) (label_count parts (first_dim group)) feats sizes.first h
 taken principles.Government parts group labels shared feats sizes h = one_map labels shared w.First e.Shared (label_count parts (first_dim group)) (value_count parts (first_dim group) (attr_of group 0)) feats sizes.first (sizes.values tt) h
 taken principles.Barriers parts group labels shared feats sizes h = one_set labels shared w.Second (e.Labels w.Second) (label_count parts (second_dim group)) feats (sizes.second (omega arith)) h
 taken principles.LinkingNotDaughter parts group labels shared feats sizes h = one_set labels shared w.Third (e.Labels w.First) (label_count parts (first_dim group)) feats sizes.first h
-taken principles.LinkingEnd parts group labels shared feats sizes h = one_map labels shared w.Third (e.Labels w.Second) (label_count parts (first_dim group)) (label_count parts (second_dim group)) feats sizes.first (sizes.second (omega arith)) h
-taken principles.LinkingDaughter parts group labels shared feats sizes h = one_map labels shared w.Third (e.Labels w.Second) (label_count parts (first_dim group)) (label_count parts (second_dim group)) feats sizes.first (sizes.second (omega arith)) h
-taken principles.LinkingMother parts group labels shared feats sizes h = one_map labels shared w.Third (e.Labels w.Second) (label_count parts (first_dim group)) (label_count parts (second_dim group)) feats sizes.first (sizes.second (omega arith)) h
-taken principles.LinkingBelowStart parts group labels shared feats sizes h = one_map labels shared w.Third (e.Labels w.Second) (label_count parts (first_dim group)) (label_count parts (second_dim group)) feats sizes.first (sizes.second (omega arith)) h
-taken principles.LinkingAboveStart parts group labels shared feats sizes h = one_map labels shared w.Third (e.Labels w.Second) (label_count parts (first_dim group)) (label_count parts (second_dim group)) feats sizes.first (sizes.second (omega arith)) h
-taken principles.LinkingSisters parts group labels shared feats sizes h = one_map labels shared w.Third (e.Labels w.Second) (label_count parts (first_dim group)) (label_count parts (second_dim group)) feats sizes.first (sizes.second (omega arith)) h
-taken p parts group labels shared feats sizes h = none labels shared feats h
+taken p parts group labels shared feats sizes h = one_map labels shared w.Third (e.Labels w.Second) (label_count parts (first_dim group)) (label_count parts (second_dim group)) feats sizes.first (sizes.second (omega arith)) h

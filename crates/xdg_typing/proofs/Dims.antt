@@ -45,9 +45,8 @@ module _ (names : Naming) where
 
   dims_append : (ds es : List Dimension) (ms ns : List DimType) → AreDims names ds ms → AreDims names es ns → AreDims names (ds ++ es) (ms ++ ns)
   dims_append [] es [] ns h k = k
-  dims_append [] es (m ∷ ms) ns h k = absurd h
-  dims_append (d ∷ ds) es [] ns h k = absurd h
   dims_append (d ∷ ds) es (m ∷ ms) ns h k = (h.0, dims_append ds es ms ns h.1 k)
+  dims_append _ es _ ns h k = absurd h
 
   pub dims_more : (ss : List Statement) (i : ℕ) (s : Statement) (all made next : List DimType) → i < length ss → s ≡ get_or ss i s → AreDims names (dimension s.kind) made → next ≡ all ++ made
       → AreDims names (dimensions (take i ss)) all → AreDims names (dimensions (take (i + 1) ss)) next

@@ -39,11 +39,10 @@ one_dim names dim a b h k =
 
 one_list : (names : List ℕ → Shape) (dims : List Dimension) (xs ys : List DimType) → AreDims names dims xs → AreDims names dims ys → xs ≡ ys
 one_list names [] [] [] h k = refl
-one_list names [] [] (y ∷ ys) h k = absurd k
 one_list names [] (x ∷ xs) ys h k = absurd h
 one_list names (dim ∷ dims) [] ys h k = absurd h
-one_list names (dim ∷ dims) (x ∷ xs) [] h k = absurd k
 one_list names (dim ∷ dims) (x ∷ xs) (y ∷ ys) h k = ap₂ (λ z zs. z ∷ zs) (one_dim names dim x y h.0 k.0) (one_list names dims xs ys h.1 k.1)
+one_list names _ _ _ h k = absurd k
 
 -- ---- the places of the used ones
 
@@ -63,16 +62,15 @@ one_place o j k e f = cc
 
 one_used : (dims : List DimType) → AllDiffer (names_in dims) → (names : List Name) (js ks : List ℕ) → AreUsed dims names js → AreUsed dims names ks → js ≡ ks
 one_used dims apart [] [] [] h u = refl
-one_used dims apart [] [] (k ∷ ks) h u = absurd u
 one_used dims apart [] (j ∷ js) ks h u = absurd h
 one_used dims apart (name ∷ names) [] ks h u = absurd h
-one_used dims apart (name ∷ names) (j ∷ js) [] h u = absurd u
 one_used dims apart (name ∷ names) (j ∷ js) (k ∷ ks) h u =
     ap₂ (λ z zs. z ∷ zs)
     (one_place (place_of (names_in dims) name.text) j k
     (placed dims apart name.text j h.0.0 h.0.1.0 h.0.1.1.0 h.0.1.1.1)
     (placed dims apart name.text k u.0.0 u.0.1.0 u.0.1.1.0 u.0.1.1.1))
     (one_used dims apart names js ks h.1 u.1)
+one_used dims apart _ _ _ h u = absurd u
 
 -- ---- the table
 

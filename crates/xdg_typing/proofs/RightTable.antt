@@ -244,17 +244,14 @@ module _ (statements : List Statement) (names : Naming) (right : AreRight statem
 
   keep_dims : (ds : List Dimension) (made : List DimType) → ((d : Dimension) → In ds d → In (dimensions statements) d) → AreDims names ds made → KeepDims made
   keep_dims [] [] h are = tt
-  keep_dims [] (one ∷ made) h are = absurd are
-  keep_dims (d ∷ ds) [] h are = absurd are
   keep_dims (d ∷ ds) (one ∷ made) h are = (keeps_dim d one (h d (inl refl)) are.0, keep_dims ds made (λ e i. h e (inr i)) are.1)
+  keep_dims _ _ h are = absurd are
 
 -- ---- names and places
 
 -- the name of a dimension whose place is there is among the names
 named_there : (dims : List DimType) (names : List Name) (ks : List ℕ) (k : ℕ) (dim : DimType) → AreUsed dims names ks → In ks k → get_or dims k dim ≡ dim → In (texts names) dim.name
 named_there dims [] [] k dim are h at = absurd h
-named_there dims [] (j ∷ ks) k dim are h at = absurd are
-named_there dims (name ∷ names) [] k dim are h at = absurd are
 named_there dims (name ∷ names) (j ∷ ks) k dim are h at = elim h [
   | inl e ↦ (
       let other = are.0.0 in
@@ -264,21 +261,20 @@ named_there dims (name ∷ names) (j ∷ ks) k dim are h at = elim h [
       )
   | inr l ↦ inr (named_there dims names ks k dim are.1 l at)
 ]
+named_there dims _ _ k dim are h at = absurd are
 
 are_places : (dims : List DimType) (names : List Name) (ks : List ℕ) → AreUsed dims names ks → Differ (texts names) → ArePlaces (length dims) ks
 are_places dims [] [] are differ = tt
-are_places dims [] (k ∷ ks) are differ = absurd are
-are_places dims (name ∷ names) [] are differ = absurd are
 are_places dims (name ∷ names) (k ∷ ks) are differ = (
   (are.0.1.0, λ h. differ.0 (subst (In (texts names)) are.0.1.1.1 (named_there dims names ks k are.0.0 are.1 h are.0.1.1.0))),
   are_places dims names ks are.1 differ.1,
 )
+are_places dims _ _ are differ = absurd are
 
 as_many : (dims : List DimType) (names : List Name) (ks : List ℕ) → AreUsed dims names ks → length ks ≡ length names
 as_many dims [] [] are = refl
-as_many dims [] (k ∷ ks) are = absurd are
-as_many dims (name ∷ names) [] are = absurd are
 as_many dims (name ∷ names) (k ∷ ks) are = let e = as_many dims names ks are.1 in omega (arith, e)
+as_many dims _ _ are = absurd are
 
 one_place : (s : Statement) → length (map (λ (name : Name). s.span.start) (used_name s.kind)) ≡ length (used_name s.kind)
 one_place s = length-map (used_name s.kind) (λ name. s.span.start)

@@ -7,7 +7,8 @@ use Rattle.xdg_typing.proofs.dimensions.attributes.Goals as goal
 
 pub resolve_attributes-requires : goal.resolve_attributes-requires
 resolve_attributes-requires c =
-    given_room c.args.definitions.now.names _ attrs_type attrs_less c.args.parts.now c.in-Some.ty.now c.head.result.now.kind c.in-Rec.fields c.as_slice.result.now 16777216 c.in-Some.ensures (λ names knows. c.head.ensures names knows) c.in-Rec.is c.as_slice.ensures c.requires
+    given_room c.args.definitions.now.names _ attrs_type attrs_less c.args.parts.now
+    c.in-Some.ty.now c.head.result.now.kind c.in-Rec.fields c.as_slice.result.now 16777216 c.in-Some.ensures (λ names knows. c.head.ensures names knows) c.in-Rec.is c.as_slice.ensures c.requires
 
 pub returns-in-Rec : goal.returns-in-Rec
 returns-in-Rec c = λ names knows.
