@@ -1,11 +1,12 @@
 -- What the atoms of a rule say, and the atoms of a formula that are made of them.
+use Rattle.xdg_build.proofs.Planned.{kept_at, attribute_right}
 use Rattle.std.proofs.Common.{◌≡◌, ◌↔◌, ℕ, zero, suc, ◌<◌, true, List, [], ◌∷◌, length, get_or, sym, ap, ◌∙◌, subst, arith}
 use Rattle.std.specs.Prelude.{◌==◌, Any, Contains, Some, slice_get, slice_index}
 use Rattle.std.proofs.lemmas.Bool.{eqb-true}
 use Rattle.std.proofs.lemmas.List.Elements.{All-contains, All-filter, filter_passes}
 use Rattle.xdg_ast.specs.declared.names.Name.{Name}
 use Rattle.xdg_ast.specs.Grammar.{Term}
-use Rattle.xdg_domain.specs.Shapes.{Shape, count, shape, IsSmall}
+use Rattle.xdg_domain.specs.Shapes.{count, shape}
 use Rattle.xdg_domain.specs.declared.types.Ty.{Ty}
 use Rattle.xdg_packed.specs.Lexicon.{Lexicon}
 use Rattle.xdg_problem.specs.declared.analysis.Analysis.{Analysis}
@@ -19,14 +20,13 @@ use Rattle.xdg_problem.specs.Paths.{edges_on, Above}
 use Rattle.xdg_problem.specs.Places.{nodes}
 use Rattle.xdg_problem.proofs.PlacePlans.{plan_read}
 use Rattle.xdg_terms.specs.Means.{IsAt}
-use Rattle.xdg_types.specs.declared.table.DimType.{DimType}
-use Rattle.xdg_types.specs.Table.{Table, IsTable, KeepsDim, KeepDims, AreAttributes, Typed, typed, firsts}
+use Rattle.xdg_types.specs.Table.{Table, IsTable, KeepsDim, typed, firsts}
 use Rattle.xdg_build.specs.Grammars.{Grammar}
 use Rattle.xdg_build.specs.Readings.{dimension, edges_in, label_text, value_of, value_number, value_texts}
 use Rattle.xdg_build.proofs.Conditions.{any_same}
 use Rattle.xdg_build.proofs.FeatureRows.{same_number}
 use Rattle.xdg_formula.specs.Written as w
-use Rattle.xdg_formula.specs.Tables.{no_dim, used_dims}
+use Rattle.xdg_formula.specs.Tables.{used_dims}
 use Rattle.xdg_build.specs.Places.{IsDimAt, IsTypeAt}
 use Rattle.xdg_build.specs.Problems.{IsFor}
 use Rattle.xdg_build.specs.Says.{Says, Agree}
@@ -37,16 +37,6 @@ use Rattle.xdg_facts.proofs.In.{differ_once}
 use Rattle.xdg_terms.proofs.Meant.{one_place}
 
 -- ---- what the table keeps
-
-pub keeps_at : (dims : List DimType) (k : ℕ) → KeepDims dims → k < length dims → KeepsDim (get_or dims k no_dim)
-keeps_at [] k keeps l = absurd (omega (arith, l))
-keeps_at (dim ∷ dims) zero keeps l = keeps.0
-keeps_at (dim ∷ dims) (suc k) keeps l = keeps_at dims k keeps.1 (omega (arith, l))
-
-pub attribute_at : (all : Typed) (i : ℕ) (name : List ℕ) (type : Shape) → AreAttributes all → slice_get all i ≡ Some (name, type) → IsSmall type
-attribute_at [] i name type are h = absurd (cc)
-attribute_at (one ∷ more) zero name type are h = (let e : one ≡ (name, type) = cc in subst (λ (attr : List ℕ × Shape). IsSmall attr.1) e are.0.0)
-attribute_at (one ∷ more) (suc i) name type are h = attribute_at more i name type are.1 h
 
 pub typed_at : (all : List (List ℕ × Ty)) (i : ℕ) (name : List ℕ) (type : Ty) → slice_get all i ≡ Some (name, type) → slice_get (typed all) i ≡ Some (name, shape type)
 typed_at [] i name type h = absurd (cc)
@@ -96,7 +86,7 @@ module _ (table : Table) (lexicon : Lexicon) (parts : Parts) (is : IsTable table
     known = (let l = at.within in omega (arith, l, dims_long table lexicon parts is for_it))
 
     kept : (a : Analysis) → KeepsDim (dimension g k)
-    kept a = keeps_at table.dims k is.dims (below_of (length table.dims) table.used k is.used (is_called table lexicon is (nodes parts) a dim.text d at).0)
+    kept a = kept_at table.dims k is.dims (below_of (length table.dims) table.used k is.used (is_called table lexicon is (nodes parts) a dim.text d at).0)
 
     -- ---- paths
 
@@ -175,7 +165,7 @@ module _ (table : Table) (lexicon : Lexicon) (parts : Parts) (is : IsTable table
                     let place : h.1 ≡ i = differ_once (firsts (dimension g k).attrs) h.1 i attribute.text (kept a).attrs (subst (λ j. slice_get (firsts (dimension g j).attrs) h.1 ≡ Some attribute.text) one h.3) (first_at (dimension g k).attrs i attribute.text type stands.stands) in
                     let value_is : value_of g (nodes parts) a k (b node.text) (Some i) ≡ constants_of value =
                     subst (λ p. value_of g (nodes parts) a k (b node.text) (Some p) ≡ constants_of value) place (subst (λ j. value_of g (nodes parts) a j (b node.text) (Some h.1) ≡ constants_of value) one h.4) in
-                    read ∙ same_number (shape type) (value_number g (nodes parts) a k (b node.text) i) n (attribute_at (typed (dimension g k).attrs) i attribute.text (shape type) (kept a).attributes (typed_at (dimension g k).attrs i attribute.text type stands.stands)) small within
+                    read ∙ same_number (shape type) (value_number g (nodes parts) a k (b node.text) i) n (attribute_right (typed (dimension g k).attrs) i attribute.text (shape type) (kept a).attributes (typed_at (dimension g k).attrs i attribute.text type stands.stands)).0 small within
                     (ap (λ s. value_texts s (value_number g (nodes parts) a k (b node.text) i)) (sym types) ∙ value_is ∙ sym texts),
               );
         }

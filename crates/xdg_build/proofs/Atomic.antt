@@ -1,4 +1,5 @@
 -- The atoms that are made of atoms with which nothing is wrong.
+use Rattle.xdg_build.proofs.Planned.{kept_at, attribute_right}
 use Rattle.std.proofs.Common.{◌≡◌, ℕ, Bool, true, List, [], length, get_or, Some, sym, ap, ◌∙◌, subst}
 use Rattle.std.specs.Prelude.{slice_get}
 use Rattle.std.proofs.lemmas.Option.{get_or_from_slice_get}
@@ -29,7 +30,7 @@ use Rattle.xdg_build.specs.Places.{IsDimAt, IsNumberOf, IsPlaceOf, IsTypeAt, nam
 use Rattle.xdg_build.specs.Problems.{IsFor}
 use Rattle.xdg_build.specs.Says.{IsMade, Says}
 use Rattle.xdg_build.specs.Tables.{table_of}
-use Rattle.xdg_build.proofs.AtomLaws.{keeps_at, attribute_at, typed_at, says_above, says_edge, says_attr}
+use Rattle.xdg_build.proofs.AtomLaws.{typed_at, says_above, says_edge, says_attr}
 use Rattle.xdg_build.proofs.FeatLaws.{says_feat}
 use Rattle.xdg_build.proofs.Standing.{dim_at}
 use Rattle.xdg_build.proofs.Rightly.{IsEdgeRight, IsAttrRight, IsFeatRight}
@@ -50,7 +51,7 @@ module _ (table : Table) (lexicon : Lexicon) (is : IsTable table) (dim : Name) (
   pub type_kept : KeepsDim type
   type_kept =
       subst KeepsDim (sym type_is)
-      (keeps_at table.dims (among_all table lexicon is d) is.dims (below_of (length table.dims) table.used (among_all table lexicon is d) is.used (is_called table lexicon is 0 (record { entries = []; attrs = []; edges = [] }) dim.text d at).0))
+      (kept_at table.dims (among_all table lexicon is d) is.dims (below_of (length table.dims) table.used (among_all table lexicon is d) is.used (is_called table lexicon is 0 (record { entries = []; attrs = []; edges = [] }) dim.text d at).0))
 
   -- what is found under its name is this dimension
   pub found_is : (found : DimType) → dim_named (used_dims table) dim.text ≡ Some found → found ≡ type
@@ -67,7 +68,7 @@ module _ (table : Table) (lexicon : Lexicon) (is : IsTable table) (dim : Name) (
   attribute_there scope node attribute value right = subst (λ (one : DimType). type_named one.attrs attribute.text ≡ Some right.type) (found_is right.found right.there) right.typed_as
 
   pub attribute_small : (i : ℕ) (name : List ℕ) (ty : Ty) → slice_get type.attrs i ≡ Some (name, ty) → IsSmall (shape ty)
-  attribute_small i name ty stands = attribute_at (typed type.attrs) i name (shape ty) type_kept.attributes (typed_at type.attrs i name ty stands)
+  attribute_small i name ty stands = (attribute_right (typed type.attrs) i name (shape ty) type_kept.attributes (typed_at type.attrs i name ty stands)).0
 
   -- ---- features
 

@@ -17,7 +17,7 @@ use Rattle.xdg_build.specs.Problems.{IsFor}
 use Rattle.xdg_build.specs.Places.{IsPlaceOf, IsTypeAt, names_at}
 use Rattle.xdg_build.proofs.Atomic.{attribute_there, attribute_small, feature_there, type_kept}
 use Rattle.xdg_build.proofs.AtomLaws.{typed_at}
-use Rattle.xdg_build.proofs.FeatLaws.{feature_at}
+use Rattle.xdg_build.proofs.Planned.{feature_right}
 use Rattle.xdg_build.proofs.Rightly.{IsAttrRight, IsFeatRight}
 use Rattle.xdg_build.proofs.Standing.{dim_below, type_found}
 use Rattle.xdg_facts.proofs.Options.{some_same}
@@ -90,7 +90,7 @@ module _ (table : Table) (lexicon : Lexicon) (is : IsTable table) (dim : Name) (
           members = members;
           small = member_small (shape one.1) right.of members
               (subst (λ (ty : Ty). IsType (shape ty)) (sym here)
-              (feature_at (typed type.fields) i attribute.text (shape found.0) (type_kept table lexicon is dim d place type there).features (typed_at type.fields i attribute.text found.0 (ap (λ ts. slice_get ts i) (sym same) ∙ found.1.stands))));
+              (feature_right (typed type.fields) i attribute.text (shape found.0) (type_kept table lexicon is dim d place type there).features (typed_at type.fields i attribute.text found.0 (ap (λ ts. slice_get ts i) (sym same) ∙ found.1.stands))));
           right = right.right;
           stands = subst (IsTypeAt all attribute.text i) (sym here) found.1;
         }

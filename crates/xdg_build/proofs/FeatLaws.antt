@@ -1,4 +1,5 @@
 -- What an atom about a feature says, and the table of candidates that is made of it.
+use Rattle.xdg_build.proofs.Planned.{kept_at, feature_right}
 use Rattle.std.proofs.Common.{◌≡◌, ◌↔◌, ℕ, zero, suc, ◌<◌, true, false, Bool, List, [], ◌∷◌, length, get_or, map, refl, sym, ap, ◌∙◌, subst, arith}
 use Rattle.std.specs.Prelude.{All, Contains, MatchOption, Some, slice_get, slice_index, slice_index_or}
 use Rattle.std.proofs.lemmas.List.{get_or-map, get_or_default, length-map}
@@ -7,7 +8,7 @@ use Rattle.std.proofs.lemmas.Option.{get_or_from_slice_get, slice_get-get_or}
 use Rattle.xdg_ast.specs.declared.names.Name.{Name}
 use Rattle.xdg_ast.specs.Grammar.{Term}
 use Rattle.xdg_base.specs.declared.ids.EntryNo.{EntryNo}
-use Rattle.xdg_domain.specs.Shapes.{Shape, count, shape, text, IsType}
+use Rattle.xdg_domain.specs.Shapes.{Shape, count, shape, text}
 use Rattle.xdg_domain.specs.Valencies.{said_at}
 use Rattle.xdg_domain.specs.declared.types.Ty.{Ty}
 use Rattle.xdg_domain.specs.declared.values.Value.{out-Value}
@@ -25,7 +26,7 @@ use Rattle.xdg_problem.proofs.EntryPlaces.{entry_back, place_within}
 use Rattle.xdg_terms.specs.Means.{IsAt}
 use Rattle.xdg_types.specs.Table as tables
 use Rattle.xdg_facts.specs.Membership.{In}
-use Rattle.xdg_types.specs.Table.{Table, AreFeatures, Typed, KeepsDim, typed, firsts}
+use Rattle.xdg_types.specs.Table.{Table, KeepsDim, typed, firsts}
 use Rattle.xdg_build.specs.Grammars.{Grammar}
 use Rattle.xdg_build.proofs.Said.{entry_at as entry_right_at}
 use Rattle.xdg_build.specs.Readings.{OnFeature, dimension, said_for, record_for, type_at, value_texts}
@@ -38,14 +39,9 @@ use Rattle.xdg_build.specs.Says.{Says}
 use Rattle.xdg_build.specs.Tables.{entry_says, table_of}
 use Rattle.xdg_build.specs.Truths.{IsOrHas, constants_of}
 use Rattle.xdg_build.proofs.Used.{among_all, used_within, is_called, one_called, below_of}
-use Rattle.xdg_build.proofs.AtomLaws.{first_at, stands_for, node_below, keeps_at, typed_at}
+use Rattle.xdg_build.proofs.AtomLaws.{first_at, stands_for, node_below, typed_at}
 use Rattle.xdg_build.proofs.Featured.{said_says, said_field}
 use Rattle.xdg_facts.proofs.In.{differ_once}
-
-pub feature_at : (all : Typed) (i : ℕ) (name : List ℕ) (type : Shape) → AreFeatures all → slice_get all i ≡ Some (name, type) → IsType type
-feature_at [] i name type are h = absurd (cc)
-feature_at (one ∷ more) zero name type are h = (let e : one ≡ (name, type) = cc in subst (λ (field : List ℕ × Shape). IsType field.1) e are.0)
-feature_at (one ∷ more) (suc i) name type are h = feature_at more i name type are.1 h
 
 -- ---- the candidate of a node
 
@@ -72,7 +68,7 @@ module _ (table : Table) (lexicon : Lexicon) (parts : Parts) (problem : IsProble
     used_k = (is_called table lexicon is (nodes parts) (record { entries = []; attrs = []; edges = [] }) dim.text d at).0
 
     kept : KeepsDim (dimension g k)
-    kept = keeps_at table.dims k is.dims (below_of (length table.dims) table.used k is.used used_k)
+    kept = kept_at table.dims k is.dims (below_of (length table.dims) table.used k is.used used_k)
 
     -- the records of entries for the dimension
     record_is : (entry : Entry) → length entry ≡ length table.used → record_for table.used entry k ≡ get_or entry d []
@@ -110,7 +106,7 @@ module _ (table : Table) (lexicon : Lexicon) (parts : Parts) (problem : IsProble
           let entry : Entry = get_or lexicon.entries e [] in
           let whole : IsWhole (dimension g k) (get_or entry d []) = whole_at e l in
           let said = said_says (shape type) of (said_at (get_or entry d []) i) n (constants_of value) members
-          (feature_at (typed (dimension g k).fields) i feature.text (shape type) kept.features (typed_at (dimension g k).fields i feature.text type stands.stands))
+          (feature_right (typed (dimension g k).fields) i feature.text (shape type) kept.features (typed_at (dimension g k).fields i feature.text type stands.stands))
           (λ x h. said_field (dimension g k) (get_or entry d []) i feature.text (shape type) x whole (typed_at (dimension g k).fields i feature.text type stands.stands) h) within texts in
           let read : said_for g a k v i ≡ said_at (get_or entry d []) i = ap (λ m. said_at m i) (record_is entry (entry_right_at table lexicon.entries e for_it.entries l).count) in (
             λ h. subst (λ s. MatchOption (said_for g a k v i) ⊥ (λ x. IsOrHas s (out-Value x) (constants_of value))) (sym type_right)

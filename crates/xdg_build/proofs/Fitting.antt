@@ -47,16 +47,12 @@ module _ (g : Grammar) where
   candidate_of word entry h = stands_numbered (words_of g.lexicon) word.text entry (subst (λ n. entry.0 < n) (sym as_many) h.0) (word_at entry.0 h.0 ∙ h.1)
 
   entries_of : (words : List SentenceWord) (entries : List EntryNo) → HasCandidates (candidates_of g words) entries → AllZip (IsEntryOf g) words entries
-  entries_of [] [] h = h
-  entries_of [] (entry ∷ entries) h = h
-  entries_of (word ∷ words) [] h = h
   entries_of (word ∷ words) (entry ∷ entries) h = (entry_of word entry h.0, entries_of words entries h.1)
+  entries_of _ _ h = h
 
   are_candidates_of : (words : List SentenceWord) (entries : List EntryNo) → AllZip (IsEntryOf g) words entries → HasCandidates (candidates_of g words) entries
-  are_candidates_of [] [] h = h
-  are_candidates_of [] (entry ∷ entries) h = h
-  are_candidates_of (word ∷ words) [] h = h
   are_candidates_of (word ∷ words) (entry ∷ entries) h = (candidate_of word entry h.0, are_candidates_of words entries h.1)
+  are_candidates_of _ _ h = h
 
 -- ---- attributes
 

@@ -1,6 +1,7 @@
 -- What formulas say, form by form.
-use Rattle.std.proofs.Common.{◌≡◌, ◌↔◌, ◌⊎◌, inl, inr, ℕ, zero, suc, ◌<◌, ◌+◌, ◌%◌, Bool, true, false, cond, List, [], ◌∷◌, ◌++◌, length, get_or, refl, sym, ap, ◌∙◌, subst, arith}
-use Rattle.std.specs.Prelude.{◌==◌, ◌||◌, Contains, bytes_eq}
+use Rattle.xdg_facts.proofs.Truths.{none_or}
+use Rattle.std.proofs.Common.{◌≡◌, ◌↔◌, ◌⊎◌, inl, inr, ℕ, zero, suc, ◌<◌, ◌+◌, ◌%◌, true, false, cond, List, [], ◌∷◌, ◌++◌, length, get_or, refl, sym, ap, ◌∙◌, subst, arith}
+use Rattle.std.specs.Prelude.{◌==◌, Contains, bytes_eq}
 use Rattle.std.proofs.lemmas.Bool.{cases_eq, eq-eqb, ne_eqb}
 use Rattle.std.proofs.lemmas.List.{get_or_append_left, get_or-append-add, length-append}
 use Rattle.std.proofs.lemmas.Slice.Eq.{bytes_eq-Decides}
@@ -11,7 +12,7 @@ use Rattle.xdg_problem.specs.declared.parts.Parts.{Parts}
 use Rattle.xdg_problem.specs.Analyses.{IsAnalysis}
 use Rattle.xdg_problem.specs.Claims.{Claim, negation, conjunction, disjunction, every, some, Claims, none, claim_then, EachIsOf, IsBound, EachIsBound}
 use Rattle.xdg_problem.specs.Places.{nodes}
-use Rattle.xdg_problem.specs.Truths.{bound, IsTrueIn}
+use Rattle.xdg_problem.specs.Truths.{bound}
 use Rattle.xdg_problem.specs.Truths as t
 use Rattle.xdg_problem.specs.Vectors.{entry_places}
 use Rattle.xdg_problem.proofs.DecidingTruths.{decided_claim}
@@ -22,14 +23,6 @@ use Rattle.xdg_build.specs.Says.{Says, Agree}
 use Rattle.xdg_build.specs.Signs.{denies}
 use Rattle.xdg_build.specs.Truths.{Binding, Denied, bind, IsTrue, EachTrue, SomeTrue}
 use Rattle.xdg_names.specs.Texts.{has_text}
-
-first_no : (a b : Bool) → (a || b) ≡ false → a ≡ false
-first_no true b h = absurd (cc)
-first_no false b h = refl
-
-second_no : (a b : Bool) → (a || b) ≡ false → b ≡ false
-second_no true b h = absurd (cc)
-second_no false b h = h
 
 -- ---- signs
 
@@ -127,8 +120,8 @@ module _ (table : Table) (lexicon : Lexicon) (parts : Parts) where
     -- another name of the scope stays what it was
     other : (names : List (List ℕ)) (i : ℕ) → has_text names name.text ≡ false → i < length names → bytes_eq (get_or names i []) name.text ≡ false
     other [] i missing l = absurd (omega (arith, l))
-    other (x ∷ names) zero missing l = first_no (bytes_eq x name.text) (has_text names name.text) missing
-    other (x ∷ names) (suc i) missing l = other names i (second_no (bytes_eq x name.text) (has_text names name.text) missing) (omega (arith, l))
+    other (x ∷ names) zero missing l = (none_or (bytes_eq x name.text) (has_text names name.text) missing).0
+    other (x ∷ names) (suc i) missing l = other names i (none_or (bytes_eq x name.text) (has_text names name.text) missing).1 (omega (arith, l))
 
     inside : (b : Binding) (numbered : ℕ → ℕ) (v : ℕ) → v < nodes parts → Agree (nodes parts) scope b numbered → Agree (nodes parts) (scope ++ name.text ∷ []) (bind b name.text v) (bound numbered n v)
     inside b numbered v within agree i l = elim (cases_eq i (length scope)) [

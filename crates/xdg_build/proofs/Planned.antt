@@ -1,17 +1,18 @@
 -- The compiled dimensions are dimensions of a problem.
-use Rattle.std.proofs.Common.{◌≡◌, ℕ, ◌<◌, ◌≤◌, zero, suc, List, [], ◌∷◌, length, get_or, map, refl, sym, ap, ◌∙◌, subst, inl, inr, arith, All}
-use Rattle.std.specs.Prelude.{◌≢◌}
+use Rattle.xdg_facts.proofs.In.{in_get}
+use Rattle.std.proofs.Common.{◌≡◌, ℕ, ◌<◌, ◌≤◌, zero, suc, List, [], ◌∷◌, length, get_or, map, refl, sym, ap, ◌∙◌, subst, arith, All, Some}
+use Rattle.std.specs.Prelude.{◌≢◌, slice_get}
 use Rattle.std.specs.List.{AllPairs, range_with_len}
 use Rattle.std.proofs.lemmas.List.{get_or-map, length-map}
 use Rattle.std.proofs.lemmas.List.Elements.{All-nil, All-cons, All-map}
 use Rattle.std.proofs.lemmas.List.FromFn.{length-map-range_with_len, get_or-map-range_with_len}
 use Rattle.xdg_domain.specs.declared.types.Ty.{Ty}
-use Rattle.xdg_domain.specs.Shapes.{Shape, domain, tuple, count, shape, IsSmall}
+use Rattle.xdg_domain.specs.Shapes.{Shape, domain, tuple, count, shape, IsSmall, IsType}
 use Rattle.xdg_problem.specs.declared.parts.AttrPlan.{AttrPlan}
 use Rattle.xdg_problem.specs.declared.parts.DimPlan.{DimPlan}
 use Rattle.xdg_problem.specs.Problems.{HasConstant, IsAttr, IsDim}
 use Rattle.xdg_types.specs.declared.table.DimType.{DimType}
-use Rattle.xdg_types.specs.Table.{Typed, typed, firsts, AreAttributes, KeepsDim, KeepDims, ArePlaces, IsTable}
+use Rattle.xdg_types.specs.Table.{Typed, typed, firsts, AreAttributes, KeepsDim, KeepDims, ArePlaces, IsTable, AreFeatures}
 use Rattle.xdg_build.specs.Grammars.{Grammar, no_dim}
 use Rattle.xdg_build.specs.Plans.{shown_as, attr_plan, attr_plans, dim_plan, plan_at, plans}
 use Rattle.xdg_build.proofs.Different.{differ_by, differ_all, same_tuple, some_text}
@@ -78,20 +79,25 @@ module _ (g : Grammar) where
         attrs = are_attrs (typed dim.attrs) h.attributes;
       }
 
+pub feature_right : (all : Typed) (f : ℕ) (name : List ℕ) (type : Shape) → AreFeatures all → slice_get all f ≡ Some (name, type) → IsType type
+feature_right [] f name type h stands = absurd cc
+feature_right (one ∷ all) zero name type h stands = (let same : one ≡ (name, type) = cc in subst (λ (x : List ℕ × Shape). IsType x.1) same h.0)
+feature_right (one ∷ all) (suc f) name type h stands = feature_right all f name type h.1 stands
+
+pub attribute_right : (all : Typed) (i : ℕ) (name : List ℕ) (type : Shape) → AreAttributes all → slice_get all i ≡ Some (name, type) → IsSmall type × (0 < count type)
+attribute_right [] i name type h stands = absurd cc
+attribute_right (one ∷ all) zero name type h stands = (let same : one ≡ (name, type) = cc in subst (λ (x : List ℕ × Shape). IsSmall x.1 × (0 < count x.1)) same h.0)
+attribute_right (one ∷ all) (suc i) name type h stands = attribute_right all i name type h.1 stands
+
 pub kept_at : (dims : List DimType) (k : ℕ) → KeepDims dims → k < length dims → KeepsDim (get_or dims k no_dim)
 kept_at [] k h within = absurd (omega (arith, within))
 kept_at (dim ∷ dims) zero h within = h.0
 kept_at (dim ∷ dims) (suc k) h within = kept_at dims k h.1 (omega (arith, within))
 
-has_place : (ks : List ℕ) (i d : ℕ) → i < length ks → In ks (get_or ks i d)
-has_place [] i d within = absurd (omega (arith, within))
-has_place (k ∷ ks) zero d within = inl refl
-has_place (k ∷ ks) (suc i) d within = inr (has_place ks i d (omega (arith, within)))
-
 places_differ : (bound : ℕ) (ks : List ℕ) (i j d : ℕ) → ArePlaces bound ks → i < j → j < length ks → get_or ks i d ≢ get_or ks j d
 places_differ bound [] i j d h before within e = omega (arith, within)
 places_differ bound (k ∷ ks) i zero d h before within e = omega (arith, before)
-places_differ bound (k ∷ ks) zero (suc j) d h before within e = h.0.1 (subst (In ks) (sym e) (has_place ks j d (omega (arith, within))))
+places_differ bound (k ∷ ks) zero (suc j) d h before within e = h.0.1 (subst (In ks) (sym e) (in_get ks j d (omega (arith, within))))
 places_differ bound (k ∷ ks) (suc i) (suc j) d h before within e = places_differ bound ks i j d h.1 (omega (arith, before)) (omega (arith, within)) e
 
 module _ (g : Grammar) (right : IsTable g.table) where

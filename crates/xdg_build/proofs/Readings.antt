@@ -53,7 +53,7 @@ place_is bound (j ∷ used) (suc i) k h within is =
 used_is : (used : List ℕ) (k : ℕ) → In used k → get_or used (place_in used k) 0 ≡ k
 used_is used k has = get_or_from_slice_get used (place_in used k) k 0 (used_at used k has)
 
-filter_same : (p q : Edge → Bool) (es : List Edge) → ((e : Edge) → Contains es e → p e ≡ q e) → filter p es ≡ filter q es
+pub filter_same : (p q : Edge → Bool) (es : List Edge) → ((e : Edge) → Contains es e → p e ≡ q e) → filter p es ≡ filter q es
 filter_same p q [] h = refl
 filter_same p q (e ∷ es) h = ap₂ (λ (b : Bool) (more : List Edge). cond b (e ∷ more) more) (h e (0, omega arith, refl)) (filter_same p q es (λ f is. h f (later f is)))
   where

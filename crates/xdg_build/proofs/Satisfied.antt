@@ -462,7 +462,8 @@ module _ (g : Grammar) (words : List SentenceWord) (a : Analysis) (u : Principle
       let s_same : IsSame shape s = element_right (IsElementOf (labels_at g.table u) shape elements.Shared) y.2.type y.2.wanted in
       one (Agrees g words a u) conditions.Agr
       (kept.agr_same (compiled g words) G cs a.attrs a.edges (λ v. InSet g words a u d (codes "Agrs") v (attribute g words a u d (codes "Agr") v)) (λ v node.
-      let has = set_has g words a u h q named nth.First (some_dim g words a u h q named) refl (y.0 ∷ []) (ap (flat_map features_in) same) 0 y.0 (omega arith) refl (codes "Agrs") (argument_is g words a u h q named args (codes "Agrs") same) elements.Shared y.2 v node in
+      let has = set_has g words a u h q named nth.First (some_dim g words a u h q named) refl (y.0 ∷ []) (ap (flat_map features_in) same)
+      0 y.0 (omega arith) refl (codes "Agrs") (argument_is g words a u h q named args (codes "Agrs") same) elements.Shared y.2 v node in
       let m : ℕ = value_number g (length words) a d v x.0 in
       let texts = text_is g words a u h q named (typings.One elements.Shared) x.0 x.2 (codes "Agr") v (argument_is g words a u h q named args (codes "Agr") same) ∙ shared_texts shape x.2.type s m x.2.wanted s_same in
       let below : m < count s = subst (λ k. m < k) (shared_count shape x.2.type s x.2.wanted s_same) (number_below g words a u h q named (typings.One elements.Shared) x.0 x.2 v node) in
@@ -489,8 +490,10 @@ module _ (g : Grammar) (words : List SentenceWord) (a : Analysis) (u : Principle
       (λ f. InSet g words a u d (codes "Agree") f.mother.0 (label_text g d f.label.0 ∷ []) → attribute g words a u d (codes "Agr1") f.mother.0 ≡ attribute g words a u d (codes "Agr2") f.daughter.0) within (λ f is.
       let node = within.mother f is in
       let below_node = within.daughter f is in
-      let has = set_has g words a u h q named nth.First (some_dim g words a u h q named) refl (z.0 ∷ []) (ap (flat_map features_in) same) 0 z.0 (omega arith) refl (codes "Agree") (argument_is g words a u h q named args (codes "Agree") same) (elements.Labels nth.First) z.2 f.mother.0 node in
-      let member = label_is (labels_at g.table u) shape nth.First (InSet g words a u d (codes "Agree") f.mother.0) s (set_row G f.mother.0 (slice_index cs f.mother.0)) (dimension g d).labels f.label.0 has s_is labels_are (within.label f is) in
+      let has = set_has g words a u h q named nth.First (some_dim g words a u h q named) refl (z.0 ∷ []) (ap (flat_map features_in) same)
+      0 z.0 (omega arith) refl (codes "Agree") (argument_is g words a u h q named args (codes "Agree") same) (elements.Labels nth.First) z.2 f.mother.0 node in
+      let member = label_is (labels_at g.table u) shape nth.First (InSet g words a u d (codes "Agree") f.mother.0) s (set_row G f.mother.0 (slice_index cs f.mother.0))
+      (dimension g d).labels f.label.0 has s_is labels_are (within.label f is) in
       let m : ℕ = value_number g (length words) a d f.mother.0 x.0 in
       let k : ℕ = value_number g (length words) a d f.daughter.0 y.0 in
       let one_text = text_is g words a u h q named (typings.One elements.Shared) x.0 x.2 (codes "Agr1") f.mother.0 (argument_is g words a u h q named args (codes "Agr1") same) in
@@ -523,12 +526,14 @@ module _ (g : Grammar) (words : List SentenceWord) (a : Analysis) (u : Principle
       (λ f. (some : List (List ℕ)) → InMap g words a u d (codes "Govern") f.mother.0 (label_text g d f.label.0) some → InMap g words a u d (codes "Govern") f.mother.0 (label_text g d f.label.0) (attribute g words a u d (codes "Agr") f.daughter.0)) within (λ f is.
       let row : List ℕ = map_row G f.mother.0 (slice_index cs f.mother.0) f.label.0 in
       let M : List (List ℕ) → Type 0 = InMap g words a u d (codes "Govern") f.mother.0 (label_text g d f.label.0) in
-      let has = map_has g words a u h q named nth.First (some_dim g words a u h q named) refl (y.0 ∷ []) (ap (flat_map features_in) same) 0 y.0 (omega arith) refl (codes "Govern") (argument_is g words a u h q named args (codes "Govern") same) labels_are f.label.0 f.mother.0 (within.label f is) (within.mother f is) elements.Shared y.2 parts.0 parts.1 parts.2 in
+      let has = map_has g words a u h q named nth.First (some_dim g words a u h q named) refl (y.0 ∷ []) (ap (flat_map features_in) same)
+      0 y.0 (omega arith) refl (codes "Govern") (argument_is g words a u h q named args (codes "Govern") same) labels_are f.label.0 f.mother.0 (within.label f is) (within.mother f is) elements.Shared y.2 parts.0 parts.1 parts.2 in
       let m : ℕ = value_number g (length words) a d f.daughter.0 x.0 in
       let texts = text_is g words a u h q named (typings.One elements.Shared) x.0 x.2 (codes "Agr") f.daughter.0 (argument_is g words a u h q named args (codes "Agr") same) ∙ shared_texts shape x.2.type s m x.2.wanted s_same in
       let below : m < count s = subst (λ k. m < k) (shared_count shape x.2.type s x.2.wanted s_same) (number_below g words a u h q named (typings.One elements.Shared) x.0 x.2 f.daughter.0 (within.daughter f is)) in
       map_asks g words a u h q named M s row (M (attribute g words a u d (codes "Agr") f.daughter.0)) (Contains row (kept.value (compiled g words) G cs a.attrs a.edges f.daughter.0 0)) has
-      (subst (λ k. M (attribute g words a u d (codes "Agr") f.daughter.0) ↔ Contains row k) (sym (value_is g words a u h q named 0 x.0 f.daughter.0 (attr_is 0 args same))) (member_is M s row (attribute g words a u d (codes "Agr") f.daughter.0) m has below texts))))
+      (subst (λ k. M (attribute g words a u d (codes "Agr") f.daughter.0) ↔ Contains row k) (sym (value_is g words a u h q named 0 x.0 f.daughter.0 (attr_is 0 args same)))
+      (member_is M s row (attribute g words a u d (codes "Agr") f.daughter.0) m has below texts))))
 
   order_same : Same principles.Order
   order_same named =
@@ -596,7 +601,8 @@ module _ (g : Grammar) (words : List SentenceWord) (a : Analysis) (u : Principle
       one (Blocked g words a u) conditions.Blocked
       (kept.blocked_at (compiled g words) G cs a.attrs a.edges F1 F2 M1 (first_is g words a u h q named) (second_is g words a u h q named two) (labels_count g words a u h q named)
       (λ v f. InSet g words a u d (codes "Blocks") v (label_text g d f.label.0 ∷ [])) (λ v node f is.
-      let has = set_has g words a u h q named nth.Second two refl (x.0 ∷ []) (ap (flat_map features_in) same) 0 x.0 (omega arith) refl (codes "Blocks") (argument_is g words a u h q named args (codes "Blocks") same) (elements.Labels nth.Second) x.2 v node in
+      let has = set_has g words a u h q named nth.Second two refl (x.0 ∷ []) (ap (flat_map features_in) same)
+      0 x.0 (omega arith) refl (codes "Blocks") (argument_is g words a u h q named args (codes "Blocks") same) (elements.Labels nth.Second) x.2 v node in
       label_is (labels_at g.table u) shape nth.Second (InSet g words a u d (codes "Blocks") v) s (set_row G v (slice_index cs v)) (dimension g d).labels f.label.0 has s_is labels_are (within.label f is)))
 
   -- ---- linking
@@ -630,8 +636,10 @@ module _ (g : Grammar) (words : List SentenceWord) (a : Analysis) (u : Principle
       let c : ℕ = slice_index cs f.mother.0 in
       let row : List ℕ = map_row G f.mother.0 c f.label.0 in
       let M : List (List ℕ) → Type 0 = InMap g words a u (D3 g words a u) (codes "Link") f.mother.0 (label_text g d f.label.0) in
-      let has = map_has g words a u h q named nth.Third three third (x.0 ∷ []) (ap (flat_map features_in) same) 0 x.0 (omega arith) refl (codes "Link") under labels_are f.label.0 f.mother.0 (within.label f is) (within.mother f is) (elements.Labels nth.Second) x.2 parts.0 parts.1 parts.2 in
-      let each : (k : Edge) → Contains F2 k → IsLink g words a u f k ↔ Contains row k.label.0 = λ k on. label_is (labels_at g.table u) shape nth.Second M s row (dimension g (D2 g words a u)).labels k.label.0 has s_is second_are (within2.label k on) in
+      let has = map_has g words a u h q named nth.Third three third (x.0 ∷ []) (ap (flat_map features_in) same)
+      0 x.0 (omega arith) refl (codes "Link") under labels_are f.label.0 f.mother.0 (within.label f is) (within.mother f is) (elements.Labels nth.Second) x.2 parts.0 parts.1 parts.2 in
+      let each : (k : Edge) → Contains F2 k → IsLink g words a u f k ↔ Contains row k.label.0 = λ k on. label_is (labels_at g.table u) shape nth.Second M s row
+      (dimension g (D2 g words a u)).labels k.label.0 has s_is second_are (within2.label k on) in
       let mapped = map_asks g words a u h q named M s row (P f) (IsLinked way F2 f.mother.0 row f.daughter.0) has (linked f row each) in
       let asked = asks c f.mother.0 f.label.0 f.daughter.0 in (
         λ p. asked.1 (mapped.0 p),
@@ -657,8 +665,10 @@ module _ (g : Grammar) (words : List SentenceWord) (a : Analysis) (u : Principle
       one (Asks g words a u q) conditions.Link
       (kept.link_at (compiled g words) G cs a.attrs a.edges F1 F2 M1 (first_is g words a u h q named) (second_is g words a u h q named two) (labels_count g words a u h q named) q
       (λ f. InSet g words a u (D3 g words a u) (codes "Link") f.mother.0 (label_text g d f.label.0 ∷ []) → IsDaughter F2 f.mother.0 f.daughter.0 → ⊥) (called_is g words a u h q named) within (λ f is.
-      let has = set_has g words a u h q named nth.Third three refl (x.0 ∷ []) (ap (flat_map features_in) same) 0 x.0 (omega arith) refl (codes "Link") (argument_is g words a u h q named args (codes "Link") same) (elements.Labels nth.First) x.2 f.mother.0 (within.mother f is) in
-      let member = label_is (labels_at g.table u) shape nth.First (InSet g words a u (D3 g words a u) (codes "Link") f.mother.0) s (set_row G f.mother.0 (slice_index cs f.mother.0)) (dimension g d).labels f.label.0 has s_is labels_are (within.label f is) in (
+      let has = set_has g words a u h q named nth.Third three refl (x.0 ∷ []) (ap (flat_map features_in) same)
+      0 x.0 (omega arith) refl (codes "Link") (argument_is g words a u h q named args (codes "Link") same) (elements.Labels nth.First) x.2 f.mother.0 (within.mother f is) in
+      let member = label_is (labels_at g.table u) shape nth.First (InSet g words a u (D3 g words a u) (codes "Link") f.mother.0) s (set_row G f.mother.0 (slice_index cs f.mother.0))
+      (dimension g d).labels f.label.0 has s_is labels_are (within.label f is) in (
         λ p c. p (member.1 c),
         λ p i. p (member.0 i),
       )))

@@ -1,5 +1,6 @@
 -- A typed use in a used dimension: its dimensions, and what the entries of nodes say for its features.
-use Rattle.std.proofs.Common.{◌≡◌, ℕ, zero, suc, ◌<◌, ◌↔◌, true, List, [], ◌∷◌, length, get_or, map, sym, ap, ap₂, ◌∙◌, subst, arith}
+use Rattle.xdg_build.proofs.Planned.{kept_at, feature_right, attribute_right}
+use Rattle.std.proofs.Common.{◌≡◌, ℕ, ◌<◌, ◌↔◌, true, List, [], length, get_or, map, sym, ap, ap₂, ◌∙◌, subst}
 use Rattle.std.specs.Prelude.{Option, Some, MatchOption, slice_get, slice_index, flat_map}
 use Rattle.std.proofs.lemmas.List.{get_or-map}
 use Rattle.std.proofs.lemmas.Option.{slice_get_within, get_or_from_slice_get}
@@ -21,7 +22,7 @@ use Rattle.xdg_problem.specs.Analyses.{HasCandidates}
 use Rattle.xdg_problem.specs.Features.{row}
 use Rattle.xdg_problem.specs.Vectors.{entry_places}
 use Rattle.xdg_types.specs.declared.table.DimType.{DimType}
-use Rattle.xdg_types.specs.Table.{Typed, typed, IsTable, KeepsDim, KeepDims, AreFeatures, AreAttributes}
+use Rattle.xdg_types.specs.Table.{Typed, typed, IsTable, KeepsDim}
 use Rattle.xdg_packed.specs.Entries.{IsWhole, IsEntry, IsRightLexicon}
 use Rattle.xdg_principles.specs.declared.building.Arg.{Arg}
 use Rattle.xdg_principles.specs.declared.building.Arg.TheVariants as arg
@@ -45,21 +46,6 @@ use Rattle.xdg_problem.specs.Principles.{feature_dim}
 
 abbrev dim_id : ℕ → DimId
 dim_id n = record { 0 = n }
-
-feature_right : (all : Typed) (f : ℕ) (name : List ℕ) (type : Shape) → AreFeatures all → slice_get all f ≡ Some (name, type) → IsType type
-feature_right [] f name type h stands = absurd cc
-feature_right (one ∷ all) zero name type h stands = (let same : one ≡ (name, type) = cc in subst (λ (x : List ℕ × Shape). IsType x.1) same h.0)
-feature_right (one ∷ all) (suc f) name type h stands = feature_right all f name type h.1 stands
-
-attribute_right : (all : Typed) (i : ℕ) (name : List ℕ) (type : Shape) → AreAttributes all → slice_get all i ≡ Some (name, type) → IsSmall type × (0 < count type)
-attribute_right [] i name type h stands = absurd cc
-attribute_right (one ∷ all) zero name type h stands = (let same : one ≡ (name, type) = cc in subst (λ (x : List ℕ × Shape). IsSmall x.1 × (0 < count x.1)) same h.0)
-attribute_right (one ∷ all) (suc i) name type h stands = attribute_right all i name type h.1 stands
-
-kept_at : (dims : List DimType) (k : ℕ) → KeepDims dims → k < length dims → KeepsDim (get_or dims k no_dim)
-kept_at [] k h within = absurd (omega (arith, within))
-kept_at (dim ∷ dims) zero h within = h.0
-kept_at (dim ∷ dims) (suc k) h within = kept_at dims k h.1 (omega (arith, within))
 
 -- what a node's entry says for a feature: a value of its type, whole
 pub record IsTold (g : Grammar) (a : Analysis) (k v f : ℕ) (type : Shape) : Type 0 where

@@ -1,6 +1,6 @@
 -- The used dimensions of a grammar, by their places and their names, and the dimensions of a problem.
-use Rattle.std.proofs.Common.{◌≡◌, ℕ, zero, suc, ◌<◌, Bool, true, false, cond, inl, inr, List, [], ◌∷◌, length, get_or, map, Some, refl, sym, ap, ap₂, ◌∙◌, subst, arith}
-use Rattle.std.specs.Prelude.{◌==◌, Contains, bytes_eq, filter, if◌then◌else◌, slice_index_or}
+use Rattle.std.proofs.Common.{◌≡◌, ℕ, zero, suc, ◌<◌, Bool, true, false, inl, inr, List, [], ◌∷◌, length, get_or, map, Some, refl, sym, ap, ◌∙◌, subst, arith}
+use Rattle.std.specs.Prelude.{◌==◌, Contains, bytes_eq, if◌then◌else◌, slice_index_or}
 use Rattle.std.specs.List.{AllZip}
 use Rattle.std.proofs.lemmas.Bool.{cases_eq, eq-eqb, ne_eqb}
 use Rattle.std.proofs.lemmas.List.{get_or-map, length-map}
@@ -20,7 +20,7 @@ use Rattle.xdg_types.specs.Table.{Table, IsTable, ArePlaces, typed, dim_named}
 use Rattle.xdg_build.specs.Grammars.{Grammar}
 use Rattle.xdg_build.specs.Plans.{attr_plan}
 use Rattle.xdg_build.specs.Readings.{dimension, edges_in}
-use Rattle.xdg_build.proofs.Readings.{stands_at}
+use Rattle.xdg_build.proofs.Readings.{stands_at, filter_same}
 use Rattle.xdg_formula.specs.Tables.{no_dim, used_dims}
 use Rattle.xdg_packed.specs.Lexicon.{Lexicon}
 use Rattle.xdg_build.specs.Places.{IsDimAt}
@@ -119,13 +119,6 @@ module _ (table : Table) (lexicon : Lexicon) (parts : Parts) (is : IsTable table
   -- ---- edges
 
   module _ (a : Analysis) (fits : IsAnalysis parts a) where
-    filter_same : (p q : Edge → Bool) (es : List Edge) → ((e : Edge) → Contains es e → p e ≡ q e) → filter p es ≡ filter q es
-    filter_same p q [] same = refl
-    filter_same p q (e ∷ es) same = ap₂ (λ (b : Bool) (more : List Edge). cond b (e ∷ more) more) (same e (0, omega arith, refl)) (filter_same p q es (λ f stands. same f (later f stands)))
-      where
-        later : (f : Edge) → Contains es f → Contains (e ∷ es) f
-        later f stands = (let within : stands.0 < length es = stands.1 in (suc stands.0, omega (arith, within), stands.2))
-
     edge_dim : (e : Edge) → Contains a.edges e → e.dim.0 < length table.used
     edge_dim e stands = (let l : e.dim.0 < length parts.dims = dim_within parts e (All-contains (IsPlace parts) a.edges e fits.places stands) in omega (arith, l, dims_long, used_long table lexicon is))
 
