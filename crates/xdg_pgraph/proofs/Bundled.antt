@@ -31,14 +31,15 @@ none_by : (way : Way) (group : Group) (node label v : ℕ) (must may : List Edge
 none_by ways.Out group node label v must may none = inl none
 none_by ways.In group node label v must may none = inr none
 
-module _ (group : Group) (box : List (List Bool)) (node label : ℕ) (edges : List Edge) (e : Edge) (label_is : e.label.0 ≡ label) where
-  full_by : (way : Way) → near_node way e ≡ node → IsGreatest box node (numbers_of way group node label) (count_of way edges node label) → IsGreatest box e.mother.0 (λ c. out_row group e.mother.0 c e.label.0) (edges_out_of edges e.mother.0 e.label.0) ⊎ IsGreatest box e.daughter.0 (λ c. in_row group e.daughter.0 c e.label.0) (edges_into edges e.daughter.0 e.label.0)
-  full_by ways.Out near is = inl (subst (λ n. IsGreatest box n (λ c. out_row group n c e.label.0) (edges_out_of edges n e.label.0)) (sym near) (subst (λ l. IsGreatest box node (λ c. out_row group node c l) (edges_out_of edges node l)) (sym label_is) is))
-  full_by ways.In near is = inr (subst (λ n. IsGreatest box n (λ c. in_row group n c e.label.0) (edges_into edges n e.label.0)) (sym near) (subst (λ l. IsGreatest box node (λ c. in_row group node c l) (edges_into edges node l)) (sym label_is) is))
-
-  needed_by : (way : Way) → near_node way e ≡ node → IsLeast box node (numbers_of way group node label) (count_of way edges node label) → IsLeast box e.mother.0 (λ c. out_row group e.mother.0 c e.label.0) (edges_out_of edges e.mother.0 e.label.0) ⊎ IsLeast box e.daughter.0 (λ c. in_row group e.daughter.0 c e.label.0) (edges_into edges e.daughter.0 e.label.0)
-  needed_by ways.Out near is = inl (subst (λ n. IsLeast box n (λ c. out_row group n c e.label.0) (edges_out_of edges n e.label.0)) (sym near) (subst (λ l. IsLeast box node (λ c. out_row group node c l) (edges_out_of edges node l)) (sym label_is) is))
-  needed_by ways.In near is = inr (subst (λ n. IsLeast box n (λ c. in_row group n c e.label.0) (edges_into edges n e.label.0)) (sym near) (subst (λ l. IsLeast box node (λ c. in_row group node c l) (edges_into edges node l)) (sym label_is) is))
+-- what holds of the node of a bundle, its numbers and a count, told by the nodes of an edge
+by_way : (Q : ℕ → (ℕ → List ℕ) → ℕ → Type 0) (group : Group) (node label : ℕ) (edges : List Edge) (e : Edge) (way : Way) → near_node way e ≡ node → e.label.0 ≡ label → Q node (numbers_of way group node label) (count_of way edges node label)
+    → Q e.mother.0 (λ c. out_row group e.mother.0 c e.label.0) (edges_out_of edges e.mother.0 e.label.0) ⊎ Q e.daughter.0 (λ c. in_row group e.daughter.0 c e.label.0) (edges_into edges e.daughter.0 e.label.0)
+by_way Q group node label edges e ways.Out near label_is is =
+    inl (subst (λ n. Q n (λ c. out_row group n c e.label.0) (edges_out_of edges n e.label.0)) (sym near)
+    (subst (λ l. Q node (λ c. out_row group node c l) (edges_out_of edges node l)) (sym label_is) is))
+by_way Q group node label edges e ways.In near label_is is =
+    inr (subst (λ n. Q n (λ c. in_row group n c e.label.0) (edges_into edges n e.label.0)) (sym near)
+    (subst (λ l. Q node (λ c. in_row group node c l) (edges_into edges node l)) (sym label_is) is))
 
 module _ (group : Group) (principle : group.principle ≡ principles.Valency) (way : Way) (node label : ℕ) where
   by_valency : (parts : Parts) (box : List (List Bool)) (d v : ℕ) → TakesBy principles.Valency parts group box d v → Takes parts group box d v
@@ -50,13 +51,13 @@ module _ (group : Group) (principle : group.principle ≡ principles.Valency) (w
     is = which_place whichs.May parts box (first_dim group) f.place f.is.may.among;
     says = f.says;
     free = f.is.free;
-    full = full_by group box node label (must_edges parts box (first_dim group)) f.place f.is.may.label_is way f.is.may.near f.full;
+    full = by_way (IsGreatest box) group node label (must_edges parts box (first_dim group)) f.place way f.is.may.near f.is.may.label_is f.full;
   })))
   edge_takes parts box d v (inr f) = by_valency parts box d v (inr (inr (record {
     place = f.place;
     may = f.is.may.among;
     says = f.says;
-    needed = needed_by group box node label (may_edges parts box (first_dim group)) f.place f.is.may.label_is way f.is.may.near f.needed;
+    needed = by_way (IsLeast box) group node label (may_edges parts box (first_dim group)) f.place way f.is.may.near f.is.may.label_is f.needed;
   })))
 
   pub entry_takes : (parts : Parts) (box : List (List Bool)) (c : ℕ) → node < nodes parts → label < label_count parts (first_dim group) → HasNoneWithin (numbers_of way group node label c) (count_of way (must_edges parts box (first_dim group)) node label) (count_of way (may_edges parts box (first_dim group)) node label) → Takes parts group box (entry_decision node) c

@@ -1,5 +1,5 @@
 -- Where the rule of entries of valency takes nothing that remains no decided test of valency fails.
-use Rattle.std.proofs.Common.{◌≡◌, ℕ, ◌<◌, ◌≤◌, ◌+◌, ◌⊎◌, ◌&&◌, inl, inr, Bool, true, List, [], ◌∷◌, length, refl, sym, subst, arith}
+use Rattle.std.proofs.Common.{◌≡◌, ℕ, ◌<◌, ◌≤◌, ◌+◌, ◌⊎◌, ◌&&◌, inl, inr, Bool, true, List, [], ◌∷◌, length, refl, sym, ◌∙◌, subst, arith}
 use Rattle.std.specs.Prelude.{All, Contains, filter, nat_le, ◌==◌, count_by}
 use Rattle.std.proofs.lemmas.Bool.{and_parts, and_from, eq-eqb, eqb-true, le-leb, false_from_ne_true, cases_lt}
 use Rattle.std.proofs.lemmas.List.Elements.{All-contains}
@@ -79,6 +79,25 @@ module _ (parts : Parts) (group : Group) (box : List (List Bool)) where
       | inr none ↦ absurd (some none)
     ]
 
+  -- the test of a bundle, by its node, its label, and the other nodes up to one
+  bundle_counts : (near far : Edge → ℕ) (test : Test) (v l k : ℕ) → ((e : Edge) → looks_at group test e ≡ ((e.dim.0 == dim) && (near e == v) && (e.label.0 == l) && nat_le (far e) k)) → ((e : Edge) → IsPlace parts e → far e < nodes parts)
+      → All (λ e. looks_at group test e ≡ true → IsDecided box (edge_decision parts e)) (places parts) → (row : List ℕ)
+      → (HasNoneWithin row (count_by (λ e. (near e == v) && (e.label.0 == l)) (must_edges parts box dim)) (count_by (λ e. (near e == v) && (e.label.0 == l)) (may_edges parts box dim)) → ⊥)
+      → Counts (nodes parts) k row (length (filter (λ e. looks_at group test e && has box (edge_decision parts e) 0) (places parts)))
+  bundle_counts near far test v l k looks below decided = counts test (λ e. (near e == v) && (e.label.0 == l)) k
+      (λ e h.
+      let a = and_parts ((e.dim.0 == dim) && (near e == v) && (e.label.0 == l)) (nat_le (far e) k) (sym (looks e) ∙ h) in
+      let b = and_parts ((e.dim.0 == dim) && (near e == v)) (e.label.0 == l) a.0 in
+      let d = and_parts (e.dim.0 == dim) (near e == v) b.0 in
+      (eqb-true e.dim.0 dim d.0, and_from (near e == v) (e.label.0 == l) d.1 b.1))
+      (λ e place on h last.
+      let both = and_parts (near e == v) (e.label.0 == l) h in
+      let within = below e place in
+      looks e ∙ and_from ((e.dim.0 == dim) && (near e == v) && (e.label.0 == l)) (nat_le (far e) k)
+      (and_from ((e.dim.0 == dim) && (near e == v)) (e.label.0 == l) (and_from (e.dim.0 == dim) (near e == v) (eq-eqb e.dim.0 dim on) both.0) both.1)
+      (le-leb (far e) k (omega (arith, within, last))))
+      decided
+
   abbrev KeepsEntries : Type 0
   KeepsEntries = (d c : ℕ) → Has box d c → ValencyEntry parts group box d c → ⊥
 
@@ -89,19 +108,7 @@ module _ (parts : Parts) (group : Group) (box : List (List Bool)) where
       → TestPasses parts group box (out_count v l k)
   out_passes v l k within known decided keeps =
       let c : ℕ = value_in box (entry_decision v) in
-      counts (out_count v l k) (λ e. (e.mother.0 == v) && (e.label.0 == l)) k
-      (λ e h.
-      let a = and_parts ((e.dim.0 == dim) && (e.mother.0 == v) && (e.label.0 == l)) (nat_le e.daughter.0 k) h in
-      let b = and_parts ((e.dim.0 == dim) && (e.mother.0 == v)) (e.label.0 == l) a.0 in
-      let d = and_parts (e.dim.0 == dim) (e.mother.0 == v) b.0 in
-      (eqb-true e.dim.0 dim d.0, and_from (e.mother.0 == v) (e.label.0 == l) d.1 b.1))
-      (λ e place on h last.
-      let both = and_parts (e.mother.0 == v) (e.label.0 == l) h in
-      let below = place.daughter in
-      and_from ((e.dim.0 == dim) && (e.mother.0 == v) && (e.label.0 == l)) (nat_le e.daughter.0 k)
-      (and_from ((e.dim.0 == dim) && (e.mother.0 == v)) (e.label.0 == l) (and_from (e.dim.0 == dim) (e.mother.0 == v) (eq-eqb e.dim.0 dim on) both.0) both.1)
-      (le-leb e.daughter.0 k (omega (arith, below, last))))
-      decided.edges (out_row group v c l)
+      bundle_counts (λ e. e.mother.0) (λ e. e.daughter.0) (out_count v l k) v l k (λ e. refl) (λ e place. place.daughter) decided.edges (out_row group v c l)
       (λ none. keeps (entry_decision v) c (value_has (entry_decision v) decided.entry)
       (record { node = v; within = within; label = l; known = known; is = refl; none = inl none }))
 
@@ -109,19 +116,6 @@ module _ (parts : Parts) (group : Group) (box : List (List Bool)) where
       → TestPasses parts group box (in_count v l k)
   in_passes v l k within known decided keeps =
       let c : ℕ = value_in box (entry_decision v) in
-      counts (in_count v l k) (λ e. (e.daughter.0 == v) && (e.label.0 == l)) k
-      (λ e h.
-      let a = and_parts ((e.dim.0 == dim) && (e.daughter.0 == v) && (e.label.0 == l)) (nat_le e.mother.0 k) h in
-      let b = and_parts ((e.dim.0 == dim) && (e.daughter.0 == v)) (e.label.0 == l) a.0 in
-      let d = and_parts (e.dim.0 == dim) (e.daughter.0 == v) b.0 in
-      (eqb-true e.dim.0 dim d.0, and_from (e.daughter.0 == v) (e.label.0 == l) d.1 b.1))
-      (λ e place on h last.
-      let both = and_parts (e.daughter.0 == v) (e.label.0 == l) h in
-      let below = place.mother in
-      and_from ((e.dim.0 == dim) && (e.daughter.0 == v) && (e.label.0 == l)) (nat_le e.mother.0 k)
-      (and_from ((e.dim.0 == dim) && (e.daughter.0 == v)) (e.label.0 == l)
-      (and_from (e.dim.0 == dim) (e.daughter.0 == v) (eq-eqb e.dim.0 dim on) both.0) both.1)
-      (le-leb e.mother.0 k (omega (arith, below, last))))
-      decided.edges (in_row group v c l)
+      bundle_counts (λ e. e.daughter.0) (λ e. e.mother.0) (in_count v l k) v l k (λ e. refl) (λ e place. place.mother) decided.edges (in_row group v c l)
       (λ none. keeps (entry_decision v) c (value_has (entry_decision v) decided.entry)
       (record { node = v; within = within; label = l; known = known; is = refl; none = inr none }))

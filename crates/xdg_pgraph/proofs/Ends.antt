@@ -45,10 +45,6 @@ pub label_is : (way : Way) (dim node label other : ℕ) → (edge_to way dim nod
 label_is ways.Out dim node label other = refl
 label_is ways.In dim node label other = refl
 
-pub dim_is : (way : Way) (dim node label other : ℕ) → (edge_to way dim node label other).dim.0 ≡ dim
-dim_is ways.Out dim node label other = refl
-dim_is ways.In dim node label other = refl
-
 pub edge_told : (way : Way) (dim node label : ℕ) (e : Edge) → e.dim.0 ≡ dim → near_node way e ≡ node → e.label.0 ≡ label → e ≡ edge_to way dim node label (far_node way e)
 edge_told ways.Out dim node label e d n l = edge_equal e (edge dim node label e.daughter.0) d n l refl
 edge_told ways.In dim node label e d n l = edge_equal e (edge dim e.mother.0 label node) d refl l n

@@ -25,7 +25,7 @@ use Rattle.xdg_propcore.specs.Sweeps.{Sweeps}
 use Rattle.xdg_propcore.proofs.Sweeping.{sweeps_start}
 use Rattle.xdg_propcore.specs.Touching.{HasAll, HasTouched, InTable, MarksEdge}
 use Rattle.xdg_propcore.specs.declared.touched.Touched.{Touched}
-use Rattle.xdg_pgraph.specs.Bundles.{EdgeAt, IsBundleDone, IsWayDone, count_of, near_node, numbers_of}
+use Rattle.xdg_pgraph.specs.Bundles.{EdgeAt, IsBundleDone, IsOpen, IsWayDone, count_of, near_node, numbers_of}
 use Rattle.xdg_pgraph.proofs.CountsStay.{greatest_before, least_before}
 use Rattle.xdg_pgraph.proofs.EdgesStay.{both_same}
 use Rattle.xdg_pgraph.specs.Untouched.{AreOthersDone, IsTouched, side}
@@ -118,22 +118,22 @@ module _ (parts : Parts) (group : Group) (old new : List (List Bool)) (lies : Li
         | inr gone ↦ gone
       ]
 
+  open_before : (e : Edge) → IsOpen way parts new dim node label e → IsOpen way parts old dim node label e
+  open_before e is = record {
+    may = record { among = may_before e is.may.among; near = is.may.near; label_is = is.may.label_is };
+    free = λ c. is.free (must_after e is.may.near is.may.label_is c);
+  }
+
   edge_before : (d v : ℕ) → EdgeAt way parts group new node label d v → EdgeAt way parts group old node label d v
   edge_before d v (inl r) = inl (record {
     place = r.place;
-    is = record {
-      may = record { among = may_before r.place r.is.may.among; near = r.is.may.near; label_is = r.is.may.label_is };
-      free = λ c. r.is.free (must_after r.place r.is.may.near r.is.may.label_is c);
-    };
+    is = open_before r.place r.is;
     says = r.says;
     full = subst (λ n. IsGreatest old node (numbers_of way group node label) n) must_counts (greatest_before old new lies node entries_same (numbers_of way group node label) (count_of way (must_edges parts new dim) node label) r.full);
   })
   edge_before d v (inr r) = inr (record {
     place = r.place;
-    is = record {
-      may = record { among = may_before r.place r.is.may.among; near = r.is.may.near; label_is = r.is.may.label_is };
-      free = λ c. r.is.free (must_after r.place r.is.may.near r.is.may.label_is c);
-    };
+    is = open_before r.place r.is;
     says = r.says;
     needed = subst (λ n. IsLeast old node (numbers_of way group node label) n) may_counts (least_before old new lies node entries_same (numbers_of way group node label) (count_of way (may_edges parts new dim) node label) r.needed);
   })

@@ -93,9 +93,6 @@ module _ (plane : Plane) (far : List (List ℕ)) (p q r : Progress) (old mid new
   pub back_end : (v : ℕ) (left : List ℕ) → left ≡ [] → Clears (There (BacksBut far v left)) p old q mid → Clears (There (BacksInto far v)) p old q mid
   back_end v left is a = aims_same old.parts plane.dim.0 founds.More (BacksBut far v left) (BacksInto far v) p q old mid (λ e on x. x.0) (λ e on x. (x, λ h. no_member left e.mother.0 is h)) a
 
-  pub below_start : Clears (There (BacksBelow far 0)) p old p old
-  below_start = clears_none (There (BacksBelow far 0)) p old (λ d v a. (let l = a.aimed.1 in omega (arith, l)))
-
   pub below_more : (v : ℕ) → Clears (There (BacksBelow far v)) p old q mid → Clears (Aims mid.parts plane.dim.0 founds.More (BacksInto far v)) q mid r new → Clears (There (BacksBelow far (v + 1))) p old r new
   below_more v a b = aims_join old.parts plane.dim.0 founds.More (BacksBelow far v) (BacksInto far v) (BacksBelow far (v + 1)) p q r old mid new refl
       (λ e x. (x.0, (let l = x.1 in omega (arith, l))))
