@@ -144,9 +144,6 @@ bare_term-Const name = ap bare_term (sym (t.rolls-Const name)) ∙ fold-roll-Ter
 pub bare_term-Param : (name : Name) → bare_term (t.Param name) ≡ t.Param (bare_name name)
 bare_term-Param name = ap bare_term (sym (t.rolls-Param name)) ∙ fold-roll-TermKind ElemKind TermKind bare_elem_step bare_term_step (TermKind-F.Param name)
 
-pub bare_term-Number : (n : ℕ) → bare_term (t.Number n) ≡ t.Number n
-bare_term-Number n = ap bare_term (sym (t.rolls-Number n)) ∙ fold-roll-TermKind ElemKind TermKind bare_elem_step bare_term_step (TermKind-F.Number n)
-
 pub bare_term-Card : (card : Spanned CardKind) → bare_term (t.Card card) ≡ t.Card (bare_part bare_card card)
 bare_term-Card card = ap bare_term (sym (t.rolls-Card card)) ∙ fold-roll-TermKind ElemKind TermKind bare_elem_step bare_term_step (TermKind-F.Card card)
 

@@ -5,7 +5,6 @@ pub mod AgainKept
 pub mod AgainLevels
 pub mod AgainNames
 pub mod AgainPhrases
-pub mod AgainSame
 pub mod AgainTerms
 pub mod AgainTrees
 pub mod AgainTypes

@@ -9,7 +9,7 @@ use std::alloc::AllocError;
 use xdg_ast::{ExprKind, Kind, Params};
 
 /// Whether an expression stands in brackets in a conjunction.
-#[tactic(auto, using(crate::proofs::WrittenTerms::joined_steps))]
+#[tactic(auto, using(crate::proofs::WrittenTerms::expr_steps))]
 fn is_joined(params: &Params, expr: &ExprKind) -> bool
     ensures { result ≡ is_joined (expr_phrase params.now expr.now) }
 {
@@ -17,7 +17,7 @@ fn is_joined(params: &Params, expr: &ExprKind) -> bool
 }
 
 /// Whether an expression stands in brackets in a disjunction.
-#[tactic(auto, using(crate::proofs::WrittenTerms::disjoined_steps))]
+#[tactic(auto, using(crate::proofs::WrittenTerms::expr_steps))]
 fn is_disjoined(params: &Params, expr: &ExprKind) -> bool
     ensures { result ≡ is_disjoined (expr_phrase params.now expr.now) }
 {
@@ -26,7 +26,7 @@ fn is_disjoined(params: &Params, expr: &ExprKind) -> bool
 
 impl Printer {
     /// Adds an expression in the body of a class with these parameters.
-    #[tactic(auto, using(crate::proofs::WrittenTerms::put_expr_dim, crate::proofs::WrittenTerms::put_expr_use))]
+    #[tactic(auto, using(crate::proofs::WrittenTerms::expr_steps))]
     pub(crate) fn expr(&mut self, params: &Params, expr: &ExprKind) -> Result<(), AllocError>
         ensures { OnOk result (self.new ≡ put (expr_phrase params.now expr.now).words self.old) }
     {

@@ -9,7 +9,7 @@ use std::alloc::AllocError;
 use xdg_ast::{CardKind, ElemKind, GenKind, Kind, Pair, Params, Term, TermKind};
 
 /// Whether a generator stands in brackets in a conjunction.
-#[tactic(auto, using(crate::proofs::WrittenTerms::gen_const_joined, crate::proofs::WrittenTerms::gen_and_joined, crate::proofs::WrittenTerms::gen_or_joined))]
+#[tactic(auto, using(crate::proofs::WrittenTerms::gen_steps))]
 fn is_joined(generator: &GenKind) -> bool
     ensures { result ≡ is_joined (gen_phrase generator.now) }
 {
@@ -20,7 +20,7 @@ fn is_joined(generator: &GenKind) -> bool
 }
 
 /// Whether a generator stands in brackets in a disjunction.
-#[tactic(auto, using(crate::proofs::WrittenTerms::generator_steps))]
+#[tactic(auto, using(crate::proofs::WrittenTerms::gen_steps))]
 fn is_disjoined(generator: &GenKind) -> bool
     ensures { result ≡ is_disjoined (gen_phrase generator.now) }
 {
@@ -58,7 +58,7 @@ impl Printer {
     }
 
     /// Adds a generator.
-    #[tactic(auto, using(crate::proofs::WrittenTerms::put_gen_const))]
+    #[tactic(auto, using(crate::proofs::WrittenTerms::gen_steps))]
     fn generator(&mut self, generator: &GenKind) -> Result<(), AllocError>
         ensures { OnOk result (self.new ≡ put (gen_phrase generator.now).words self.old) }
     {
