@@ -1,9 +1,7 @@
 -- Where nothing is left to take the box is closed: no rule takes a value that remains, and no test is decided and fails.
 use Rattle.std.proofs.Common.{◌≡◌, ℕ, ◌<◌, ◌↔◌, ◌&&◌, inl, inr, Bool, true, List, [], get_or, refl, sym, ap, ◌∙◌, arith, subst}
-use Rattle.std.specs.Prelude.{Contains, filter, AllPairs}
+use Rattle.std.specs.Prelude.{Contains, filter}
 use Rattle.std.proofs.lemmas.Bool.{cases_Bool, false≢true}
-use Rattle.std.proofs.lemmas.List.{get_or_default, length-map}
-use Rattle.xdg_base.specs.declared.ids.LabelId.{LabelId}
 use Rattle.xdg_nodeset.specs.Tables.{In}
 use Rattle.xdg_problem.specs.declared.analysis.Edge.{Edge}
 use Rattle.xdg_problem.specs.declared.parts.Group.{Group}
@@ -23,9 +21,10 @@ use Rattle.xdg_rules.proofs.Shrinking.{may_exact, must_exact}
 use Rattle.xdg_graph.specs.Edges.{edge_labels}
 use Rattle.xdg_graph.proofs.Labelled.{label_below}
 use Rattle.xdg_porder.specs.Across.{AreNodesDone}
-use Rattle.xdg_porder.specs.Items.{AreMothersDone, IsNodeDone, IsPairDone, MayFollow, MustFollow, label_at}
+use Rattle.xdg_porder.specs.Items.{AreMothersDone, IsNodeDone, IsPairDone, MayFollow, MustFollow}
 use Rattle.xdg_porder.proofs.Pairing.{pairs_before}
-use Rattle.xdg_porder.proofs.Testing.{all_seen, daughters_pass}
+use Rattle.xdg_propcore.proofs.SeenEdges.{all_seen}
+use Rattle.xdg_porder.proofs.Testing.{all_pairs, daughters_pass}
 use Rattle.xdg_facts.specs.Rises.{has}
 
 module _ (parts : Parts) (group : Group) (box : List (List Bool)) (is : IsBox (shape parts) box) where
@@ -43,15 +42,8 @@ module _ (parts : Parts) (group : Group) (box : List (List Bool)) (is : IsBox (s
 
   -- ---- order
 
-  all_pairs : (u : ℕ) → IsNodeDone parts group u box → AllPairs (λ l m. IsPairDone parts group u l m box) (order_of group)
-  all_pairs u done i j d less within =
-      let c = length-map group.order (λ (label : LabelId). label.0) in
-      subst (λ l. IsPairDone parts group u l (get_or (order_of group) j d) box) (get_or_default (order_of group) i 0 d (omega (arith, less, within)))
-      (subst (λ m. IsPairDone parts group u (label_at group i) m box) (get_or_default (order_of group) j 0 d within)
-      (done i j less (omega (arith, within, c))))
-
   pair_done : (u l m : ℕ) → IsNodeDone parts group u box → ComesBefore (order_of group) l m → IsPairDone parts group u l m box
-  pair_done u l m done comes = pairs_before (λ a b. IsPairDone parts group u a b box) (order_of group) l m (all_pairs u done) comes
+  pair_done u l m done comes = pairs_before (λ a b. IsPairDone parts group u a b box) (order_of group) l m (all_pairs parts group box is u done) comes
 
   no_daughter : AreMothersDone parts group (nodes parts) box → (d v : ℕ) → Has box d v → DaughterOrder parts group box d v → ⊥
   no_daughter done d v remains rule =
@@ -143,5 +135,5 @@ module _ (parts : Parts) (group : Group) (box : List (List Bool)) (is : IsBox (s
       | inr rule ↦ (let r : ProjectivityReach parts group box d v = subst (λ p. TakesBy p parts group box d v) flat rule in r.apart (crossed r.place r.is (said r.place d v r.says remains) r.node r.between))
     ] where
       fine : (test : Test) → IsTestOf principles.Projectivity group.truths (nodes parts) (label_count parts (first_dim group)) test → TestDecided parts group box test → (TestPasses parts group box test → ⊥) → ⊥
-      fine (projective u v) test_is decided fails = fails (subst (λ es. Asks es u v) (sym (all_seen parts group box is (projective u v) (λ e on. on))) (passes u v))
+      fine (projective u v) test_is decided fails = fails (subst (λ es. Asks es u v) (sym (all_seen parts group box (projective u v) (first_dim group) (λ e on. on))) (passes u v))
       fine test test_is decided fails = absurd test_is

@@ -3,7 +3,6 @@ pub mod Bounding
 pub mod Following
 pub mod Removing
 pub mod Pairing
-pub mod Looping
 pub mod Siding
 pub mod Others
 pub mod Crossing

@@ -1,7 +1,7 @@
 -- What a test sees of a box in which all that it looks at is decided.
-use Rattle.std.proofs.Common.{◌≡◌, ℕ, ◌<◌, ◌+◌, ◌↔◌, ◌&&◌, ◌==◌, inl, inr, Bool, true, false, List, [], length, get_or, refl, sym, ap, ◌∙◌, arith, subst}
-use Rattle.std.specs.Prelude.{Contains, filter, AllPairs}
-use Rattle.std.proofs.lemmas.Bool.{cases_Bool, cases_lt, eq-eqb, eqb-true, false≢true, and_parts}
+use Rattle.std.proofs.Common.{◌≡◌, ℕ, ◌<◌, ◌+◌, ◌↔◌, inl, inr, Bool, true, false, List, [], length, get_or, refl, sym, ap, ◌∙◌, arith, subst}
+use Rattle.std.specs.Prelude.{Contains, AllPairs}
+use Rattle.std.proofs.lemmas.Bool.{cases_Bool, cases_lt, eq-eqb, eqb-true, false≢true}
 use Rattle.std.proofs.lemmas.List.{get_or_default, length-map}
 use Rattle.std.proofs.lemmas.List.Elements.{All-nil, All-cons, All-contains, All-contains_itself, All-weaker}
 use Rattle.xdg_base.specs.declared.ids.LabelId.{LabelId}
@@ -19,20 +19,17 @@ use Rattle.xdg_problem.specs.Paths.{Above, IsDaughterBy, edges_on}
 use Rattle.xdg_problem.specs.Places.{edge, nodes, places}
 use Rattle.xdg_problem.specs.Tests.{Test, IsTestOf, looks_at, ordered_daughters, ordered_yields}
 use Rattle.xdg_problem.specs.Vectors.{shape}
-use Rattle.xdg_problem.proofs.FilterFacts.{filter_both, filter_alike, filter_contained}
-use Rattle.xdg_problem.proofs.Looking.{on_same}
 use Rattle.xdg_problem.proofs.PlaceOrder.{is_place, place_is}
 use Rattle.xdg_rules.specs.Rules.{has, may_edges, FailsTest, IsDecided, IsPlaceOn, TestDecided, TestPasses, attr_of_node, value_in}
-use Rattle.xdg_rules.proofs.Failing.{value_is}
 use Rattle.xdg_rules.proofs.Shrinking.{may_exact}
 use Rattle.xdg_rules.proofs.Sizes.{edge_some, edge_values}
+use Rattle.xdg_propcore.proofs.SeenEdges.{all_seen, decided_must, only_value, seen, seen_at, value_has}
 use Rattle.xdg_graph.specs.declared.which.Which.TheVariants as whichs
 use Rattle.xdg_graph.specs.Edges.{edge_labels}
 use Rattle.xdg_graph.proofs.Edges.{stands_by}
 use Rattle.xdg_graph.proofs.Labelled.{label_below}
 use Rattle.xdg_porder.specs.Items.{IsNodeDone, IsPairDone, MayFollow, MayStand, MustFollow, MustStand, edge_to, label_at}
 use Rattle.xdg_porder.specs.Yields.{AreSettled, IsBrokenAt, StandsBelow}
-use Rattle.xdg_facts.proofs.Truths.{and_swap}
 
 module _ (parts : Parts) (group : Group) (box : List (List Bool)) (is : IsBox (shape parts) box) where
   abbrev one : ℕ
@@ -41,69 +38,34 @@ module _ (parts : Parts) (group : Group) (box : List (List Bool)) (is : IsBox (s
   abbrev may : List Edge
   may = may_edges parts box one
 
-  abbrev present : Edge → Bool
-  present e = has box (edge_decision parts e) 0
-
-  -- the edges that may be
-  abbrev all_may : List Edge
-  all_may = filter present (places parts)
-
-  -- those of them that a test looks at
-  abbrev seen : Test → List Edge
-  seen test = filter (λ e. looks_at group test e && present e) (places parts)
-
-  -- and those of the dimension
+  -- those of the dimension that a test looks at
   abbrev few : Test → List Edge
-  few test = edges_on one (seen test)
-
-  seen_is : (test : Test) → seen test ≡ filter (looks_at group test) all_may
-  seen_is test = filter_alike (λ e. looks_at group test e && present e) (λ e. present e && looks_at group test e) (places parts) (λ k d l. and_swap (looks_at group test _) (present _)) ∙ sym (filter_both (looks_at group test) present (places parts))
-
-  on_may : edges_on one all_may ≡ may
-  on_may = filter_both (λ e. e.dim.0 == one) present (places parts) ∙ filter_alike (λ e. present e && (e.dim.0 == one)) (λ e. (e.dim.0 == one) && present e) (places parts) (λ k d l. and_swap (present _) (_ == one))
-
-  pub all_seen : (test : Test) → ((e : Edge) → (e.dim.0 == one) ≡ true → looks_at group test e ≡ true) → few test ≡ may
-  all_seen test looks = ap (edges_on one) (seen_is test) ∙ on_same (looks_at group test) one all_may looks ∙ on_may
-
-  -- an edge that a test sees
-  seen_edge : (test : Test) (e : Edge) → Contains (few test) e → IsPlaceOn parts one e × (looks_at group test e ≡ true) × May parts box e
-  seen_edge test e c =
-      let in_dim = filter_contained (λ (f : Edge). f.dim.0 == one) (seen test) e c in
-      let in_places = filter_contained (λ (f : Edge). looks_at group test f && present f) (places parts) e in_dim.0 in
-      let two = and_parts (looks_at group test e) (present e) in_places.1 in
-      ((in_places.0, eqb-true e.dim.0 one in_dim.1), two.0, two.1)
-
-  -- a decided edge that may be must be
-  must_of : (e : Edge) → IsDecided box (edge_decision parts e) → May parts box e → Must parts box e
-  must_of e decided here absent = (let x = decided.2 0 here in let y = decided.2 1 absent in omega (arith, x, y))
+  few test = edges_on one (seen parts group box test)
 
   stands : (test : Test) (u l v : ℕ) → TestDecided parts group box test → IsDaughterBy (few test) u l v → MayFollow parts group box u l v × MustFollow parts group box u l v
-  stands test u l v decided (k, e, within, at, (m, b, d)) =
-      let (on, looks, here) = seen_edge test e (k, within, at) in
-      let must = must_of e (All-contains (λ e. looks_at group test e ≡ true → IsDecided box (edge_decision parts e)) (places parts) e decided.edges on.0 looks) here in
-      let at_dim : IsPlace parts (edge one e.mother.0 e.label.0 e.daughter.0) × May parts box (edge one e.mother.0 e.label.0 e.daughter.0) × Must parts box (edge one e.mother.0 e.label.0 e.daughter.0) = subst (λ i. IsPlace parts (edge i e.mother.0 e.label.0 e.daughter.0) × May parts box (edge i e.mother.0 e.label.0 e.daughter.0) × Must parts box (edge i e.mother.0 e.label.0 e.daughter.0)) on.1 (is_place parts e on.0, here, must) in
-      let all : IsPlace parts (edge one u l v) × May parts box (edge one u l v) × Must parts box (edge one u l v) =
-      subst (λ i. IsPlace parts (edge one i l v) × May parts box (edge one i l v) × Must parts box (edge one i l v)) m
-      (subst (λ i. IsPlace parts (edge one e.mother.0 i v) × May parts box (edge one e.mother.0 i v) × Must parts box (edge one e.mother.0 i v)) b
-      (subst (λ i. IsPlace parts (edge one e.mother.0 e.label.0 i) × May parts box (edge one e.mother.0 e.label.0 i) × Must parts box (edge one e.mother.0 e.label.0 i)) d at_dim)) in
-      ((all.0, all.1), (all.0, all.2))
+  stands test u l v decided follows =
+      let e : Edge = edge one u l v in
+      let (on, looks, here) = seen_at parts group box test one u l v follows in
+      let must = decided_must parts box e (All-contains (λ f. looks_at group test f ≡ true → IsDecided box (edge_decision parts f)) (places parts) e decided.edges on.0 looks) here in
+      ((is_place parts e on.0, here), (is_place parts e on.0, must))
 
   -- ---- own labels
 
   abbrev own_of : ℕ → ℕ
   own_of u = attr_of_node parts group 0 u
 
-  value_has : (d : ℕ) → IsDecided box d → Has box d (value_in box d)
-  value_has d decided = subst (Has box d) (sym (value_is box d decided)) decided.1
-
-  value_only : (d : ℕ) → IsDecided box d → (x : ℕ) → Has box d x → x ≡ value_in box d
-  value_only d decided x here = decided.2 x here ∙ sym (value_is box d decided)
-
   -- ---- an order
 
   -- what the test asks, of some edges
   abbrev Orders : List Edge → ℕ → Type 0
   Orders edges u = (x y : ℕ) → x < nodes parts → y < nodes parts → AllPairs (λ earlier later. IsInItem edges (truth_of group.truths 0 ≡ true) (value_in box (own_of u)) u earlier x → IsInItem edges (truth_of group.truths 0 ≡ true) (value_in box (own_of u)) u later y → x < y) (order_of group)
+
+  pub all_pairs : (u : ℕ) → IsNodeDone parts group u box → AllPairs (λ l m. IsPairDone parts group u l m box) (order_of group)
+  all_pairs u done i j d less within =
+      let c = length-map group.order (λ (label : LabelId). label.0) in
+      subst (λ l. IsPairDone parts group u l (get_or (order_of group) j d) box) (get_or_default (order_of group) i 0 d (omega (arith, less, within)))
+      (subst (λ m. IsPairDone parts group u (label_at group i) m box) (get_or_default (order_of group) j 0 d within)
+      (done i j less (omega (arith, within, c))))
 
   pub daughters_pass : (u : ℕ) → truth_of group.truths 0 ≡ false → TestDecided parts group box (ordered_daughters u) → IsNodeDone parts group u box → TestPasses parts group box (ordered_daughters u)
   daughters_pass u plain decided done = passes
@@ -116,7 +78,7 @@ module _ (parts : Parts) (group : Group) (box : List (List Bool)) (is : IsBox (s
 
       may_stand : (label x : ℕ) → IsInItem (few (ordered_daughters u)) (truth_of group.truths 0 ≡ true) (value_in box (own_of u)) u label x → MayStand parts group box u label x
       may_stand label x item = elim item [
-        | inl here ↦ inl (here.1, subst (Has box (own_of u)) (sym here.0) (value_has (own_of u) own))
+        | inl here ↦ inl (here.1, subst (Has box (own_of u)) (sym here.0) (value_has box (own_of u) own))
         | inr more ↦ elim more [
           | inl follows ↦ inr (stands (ordered_daughters u) u label x decided follows).0
           | inr below ↦ absurd (false≢true (sym plain ∙ below.0))
@@ -125,24 +87,17 @@ module _ (parts : Parts) (group : Group) (box : List (List Bool)) (is : IsBox (s
 
       must_stand : (label x : ℕ) → IsInItem (few (ordered_daughters u)) (truth_of group.truths 0 ≡ true) (value_in box (own_of u)) u label x → MustStand parts group box u label x
       must_stand label x item = elim item [
-        | inl here ↦ inl (here.1, (subst (Has box (own_of u)) (sym here.0) (value_has (own_of u) own), λ z there. value_only (own_of u) own z there ∙ sym here.0))
+        | inl here ↦ inl (here.1, (subst (Has box (own_of u)) (sym here.0) (value_has box (own_of u) own), λ z there. only_value box (own_of u) own z there ∙ sym here.0))
         | inr more ↦ elim more [
           | inl follows ↦ inr (stands (ordered_daughters u) u label x decided follows).1
           | inr below ↦ absurd (false≢true (sym plain ∙ below.0))
         ]
       ]
 
-      pair : (i j d : ℕ) → i < j → j < length (order_of group) → IsPairDone parts group u (get_or (order_of group) i d) (get_or (order_of group) j d) box
-      pair i j d less within =
-          let c = length-map group.order (λ (label : LabelId). label.0) in
-          subst (λ l. IsPairDone parts group u l (get_or (order_of group) j d) box) (get_or_default (order_of group) i 0 d (omega (arith, less, within)))
-          (subst (λ m. IsPairDone parts group u (label_at group i) m box) (get_or_default (order_of group) j 0 d within)
-          (done i j less (omega (arith, within, c))))
-
       passes : Orders (few (ordered_daughters u)) u
       passes x y xl yl i j d less within first second = elim (cases_lt x y) [
         | inl left ↦ left
-        | inr past ↦ absurd ((pair i j d less within).0 y x (may_stand (get_or (order_of group) j d) y second) (must_stand (get_or (order_of group) i d) x first) past)
+        | inr past ↦ absurd ((all_pairs u done i j d less within).0 y x (may_stand (get_or (order_of group) j d) y second) (must_stand (get_or (order_of group) i d) x first) past)
       ]
 
   -- ---- yields
@@ -151,7 +106,7 @@ module _ (parts : Parts) (group : Group) (box : List (List Bool)) (is : IsBox (s
     -- the items of a decided node
     item_below : (u label x : ℕ) → IsDecided box (own_of u) → IsInItem may (truth_of group.truths 0 ≡ true) (value_in box (own_of u)) u label x → StandsBelow parts group table box u label x
     item_below u label x own item = elim item [
-      | inl here ↦ inl (inl (here.1, subst (Has box (own_of u)) (sym here.0) (value_has (own_of u) own)))
+      | inl here ↦ inl (inl (here.1, subst (Has box (own_of u)) (sym here.0) (value_has box (own_of u) own)))
       | inr more ↦ elim more [
         | inl follows ↦ inl (inr ((stands_by whichs.May parts box one u label x is).0 follows))
         | inr (along, (v, follows, above)) ↦ inr (v, (stands_by whichs.May parts box one u label v is).0 follows, (exact v x).1 above)
@@ -161,7 +116,7 @@ module _ (parts : Parts) (group : Group) (box : List (List Bool)) (is : IsBox (s
     below_item : (u label x : ℕ) → truth_of group.truths 0 ≡ true → IsDecided box (own_of u) → StandsBelow parts group table box u label x → IsInItem may (truth_of group.truths 0 ≡ true) (value_in box (own_of u)) u label x
     below_item u label x along own below = elim below [
       | inl item ↦ elim item [
-        | inl here ↦ inl (value_only (own_of u) own label here.1, here.0)
+        | inl here ↦ inl (only_value box (own_of u) own label here.1, here.0)
         | inr follows ↦ inr (inl ((stands_by whichs.May parts box one u label x is).1 follows))
       ]
       | inr (v, follows, there) ↦ inr (inr (along, (v, (stands_by whichs.May parts box one u label v is).1 follows, (exact v x).0 there)))
@@ -182,7 +137,7 @@ module _ (parts : Parts) (group : Group) (box : List (List Bool)) (is : IsBox (s
 
     -- a test of yields sees all edges
     yields_seen : (u : ℕ) → few (ordered_yields u) ≡ may
-    yields_seen u = all_seen (ordered_yields u) (λ e on. on)
+    yields_seen u = all_seen parts group box (ordered_yields u) one (λ e on. on)
 
     -- in a box whose edges are settled each of them is decided
     settled_decided : AreSettled parts group box → (e : Edge) → IsPlaceOn parts one e → IsDecided box (edge_decision parts e)
@@ -193,7 +148,7 @@ module _ (parts : Parts) (group : Group) (box : List (List Bool)) (is : IsBox (s
         let must : May parts box e → Must parts box e = λ here. subst (λ i. Must parts box (edge i e.mother.0 e.label.0 e.daughter.0)) (sym on.1) (settled e.mother.0 place.mother e.label.0 (omega (arith, below, same)) e.daughter.0
         (subst (λ i. IsPlace parts (edge i e.mother.0 e.label.0 e.daughter.0)) on.1 place)
         (subst (λ i. May parts box (edge i e.mother.0 e.label.0 e.daughter.0)) on.1 here)) in
-        elim (cases_Bool (present e)) [
+        elim (cases_Bool (has box (edge_decision parts e) 0)) [
           | inl here ↦ (
             0,
             here,
@@ -268,5 +223,6 @@ module _ (parts : Parts) (group : Group) (box : List (List Bool)) (is : IsBox (s
     where
       settled : (test : Test) → IsTestOf principles.Order group.truths (nodes parts) (label_count parts one) test → TestDecided parts group box test → AreSettled parts group box
       settled (ordered_daughters u) test_is decided = absurd (false≢true (sym test_is.0 ∙ along))
-      settled (ordered_yields w) test_is decided = λ u ul label ll v place here. must_of (edge_to group u label v) (All-contains (λ e. looks_at group (ordered_yields w) e ≡ true → IsDecided box (edge_decision parts e)) (places parts) (edge_to group u label v) decided.edges (place_is parts (edge_to group u label v) place) (eq-eqb one one refl)) here
+      settled (ordered_yields w) test_is decided = λ u ul label ll v place here. decided_must parts box (edge_to group u label v)
+          (All-contains (λ e. looks_at group (ordered_yields w) e ≡ true → IsDecided box (edge_decision parts e)) (places parts) (edge_to group u label v) decided.edges (place_is parts (edge_to group u label v) place) (eq-eqb one one refl)) here
       settled test test_is decided = absurd test_is

@@ -3,23 +3,11 @@ use Rattle.xdg_problem.specs.Arguments.{first_dim}
 use Rattle.xdg_graph.specs.Edges.{edge_labels}
 use Rattle.xdg_porder.specs.Across.{IsLabelDone}
 use Rattle.xdg_porder.proofs.Crossing.{across_done, across_later, across_none, across_takes}
-use Rattle.xdg_porder.proofs.Looping.{below_first, below_next, below_end}
+use Rattle.xdg_propcore.proofs.Turns.{below_next, below_end}
 use Rattle.xdg_porder.proofs.across.take_across_node.Goals as goal
-
-pub set_at-requires : goal.set_at-requires
-set_at-requires c = (let l = c.requires.1 in let m = c.requires.0.ready.known.problem.most in omega (arith, l, m))
-
-pub crossed-across-requires : goal.crossed-across-requires
-crossed-across-requires c = (let l = c.requires.1 in let m = c.requires.0.ready.known.problem.most in omega (arith, l, m))
-
-pub loop-label-init : goal.loop-label-init
-loop-label-init c = below_first c.args.group.now (λ parts label. IsLabelDone parts c.args.group.now c.args.table.now c.args.u.0 label) c.args.pass.now c.args.store.now c.requires.0.ready.known
 
 pub returns-then-is_empty : goal.returns-then-is_empty
 returns-then-is_empty c = across_none c.args.group.now c.args.table.now c.args.u.0 c.args.store.now c.requires c.set_at.result c.crossed-across.result c.set_at.ensures c.crossed-across.ensures (c.is_empty.ensures.0 c.if-is_empty.true) c.args.pass.now
-
-pub may_follow-requires : goal.may_follow-requires
-may_follow-requires c = (across_later c.args.group.now c.args.table.now c.args.u.0 _ c.args.pass.now c.args.store.now c.loop-label.pass c.loop-label.store c.requires c.loop-label.invariant).1
 
 pub take_edges-requires-clause-ready : goal.take_edges-requires-clause-ready
 take_edges-requires-clause-ready c = (across_later c.args.group.now c.args.table.now c.args.u.0 _ c.args.pass.now c.args.store.now c.loop-label.pass c.loop-label.store c.requires c.loop-label.invariant).0.ready

@@ -4,12 +4,9 @@ use Rattle.xdg_problem.specs.declared.parts.Parts.{Parts}
 use Rattle.xdg_problem.specs.Places.{nodes}
 use Rattle.xdg_porder.specs.Items.{IsNodeDone}
 use Rattle.xdg_porder.proofs.Others.{node_skipped}
-use Rattle.xdg_porder.proofs.Looping.{below_first, below_next, below_end}
+use Rattle.xdg_propcore.proofs.Turns.{below_next, below_end}
 use Rattle.xdg_porder.proofs.Removing.{ready_later}
 use Rattle.xdg_porder.proofs.sides.take_nodes.Goals as goal
-
-pub loop-u-init : goal.loop-u-init
-loop-u-init c = below_first c.args.group.now (λ parts u. IsNodeDone parts c.args.group.now u) c.args.pass.now c.args.store.now c.requires.at.0.known
 
 pub take_node-requires : goal.take_node-requires
 take_node-requires c = ((ready_later c.args.group.now _ c.args.pass.now c.args.store.now c.loop-u.pass c.loop-u.store c.requires.at.0 c.loop-u.invariant, c.requires.at.1), subst (λ (parts : Parts). c.loop-u.u < nodes parts) (sym c.loop-u.invariant.goes.extends.same) (let l = c.loop-u-test.true in let e = c.node_count-u-end.ensures.size in omega (arith, l, e)))

@@ -7,6 +7,3 @@ take_failing-requires c = (ready_later c.args.group.now _ c.args.pass.now c.args
 
 pub returns : goal.returns
 returns c = order_ends c.args.group.now c.args.pass.now c.args.store.now c.take_nodes.new.pass c.take_nodes.new.store c.take_failing.new.pass c.take_failing.new.store c.requires.at c.take_nodes.ensures c.take_failing.ensures
-
-pub take_nodes-requires-clause-others : goal.take_nodes-requires-clause-others
-take_nodes-requires-clause-others c quiet = c.touched_since-touched.ensures
