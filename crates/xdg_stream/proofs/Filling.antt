@@ -8,50 +8,20 @@ use Rattle.xdg_problem.specs.declared.analysis.Edge.{Edge}
 use Rattle.xdg_problem.specs.declared.parts.Parts.{Parts}
 use Rattle.xdg_problem.specs.Places.{places}
 use Rattle.xdg_problem.specs.Vectors.{entries_at, chosen, edges_in, first_place}
-use Rattle.xdg_problem.proofs.Continued.{entries_same, chosen_whole}
+use Rattle.xdg_problem.proofs.Continued.{chosen_whole}
+use Rattle.xdg_stream.proofs.Zipped.{Zips}
 
 abbrev no_entry : EntryNo
 no_entry = record { 0 = 0 }
 
 -- ---- entries of a vector
 
-entries_one : (c : List EntryNo) (candidates : List (List EntryNo)) (x : ℕ) → entries_at (c ∷ candidates) (x ∷ []) ≡ slice_index_or c x no_entry ∷ []
-entries_one c [] x = refl
-entries_one c (d ∷ candidates) x = refl
-
-entries_push : (candidates : List (List EntryNo)) (p : List ℕ) (x : ℕ) (d : List EntryNo) → length p < length candidates → entries_at candidates (p ++ x ∷ []) ≡ entries_at candidates p ++ slice_index_or (slice_index_or candidates (length p) d) x no_entry ∷ []
-entries_push [] p x d l = absurd (omega (arith, l))
-entries_push (c ∷ candidates) [] x d l = entries_one c candidates x
-entries_push (c ∷ candidates) (a ∷ p) x d l = ap (λ xs. slice_index_or c a no_entry ∷ xs) (entries_push candidates p x d (omega (arith, l)))
-
-entries_few : (candidates : List (List EntryNo)) (p : List ℕ) → length (entries_at candidates p) ≤ length p
-entries_few [] p = omega arith
-entries_few (c ∷ candidates) [] = omega arith
-entries_few (c ∷ candidates) (a ∷ p) = let h = entries_few candidates p in omega (arith, h)
-
 pub entries_none : (candidates : List (List EntryNo)) → entries_at candidates [] ≡ []
 entries_none [] = refl
 entries_none (c ∷ candidates) = refl
 
-module _ (candidates : List (List EntryNo)) (numbers : List ℕ) (i : ℕ) (l : i < length numbers) where
-  taken : length (take i numbers) ≡ i
-  taken = length-take-le i numbers (omega (arith, l))
-
-  pub entries_turn : (items items' : List EntryNo) (c : List EntryNo) (x : ℕ) → items ≡ entries_at candidates (take i numbers) → i < length candidates → c ≡ get_or candidates i c → x ≡ get_or numbers i x → items' ≡ items ++ slice_index_or c x no_entry ∷ [] → items' ≡ entries_at candidates (take (i + 1) numbers)
-  entries_turn items items' c x so_far within is_c is_x grown =
-      let t = taken in
-      grown ∙ ap (λ z. z ++ slice_index_or c x no_entry ∷ []) so_far
-      ∙ ap (λ z. entries_at candidates (take i numbers) ++ slice_index_or z x no_entry ∷ []) (is_c ∙ ap (λ k. get_or candidates k c) (sym t))
-      ∙ sym (entries_push candidates (take i numbers) x c (omega (arith, t, within)))
-      ∙ ap (entries_at candidates) (ap (λ z. take i numbers ++ z ∷ []) is_x ∙ sym (take_more numbers i x l))
-
-  pub entries_rest : (items : List EntryNo) → items ≡ entries_at candidates (take i numbers) → length candidates ≤ i → items ≡ entries_at candidates numbers
-  entries_rest items so_far past =
-      let t = taken in
-      so_far ∙ sym (entries_same candidates (take i numbers) (drop i numbers) (omega (arith, t, past))) ∙ ap (entries_at candidates) (take-append-drop i numbers)
-
-  pub entries_room : (items : List EntryNo) (room : ℕ) → items ≡ entries_at candidates (take i numbers) → i < length candidates → length candidates ≤ room → length items < room
-  entries_room items room so_far within held = (let t = taken in let e = ap length so_far in let f = entries_few candidates (take i numbers) in omega (arith, t, e, f, within, held))
+pub entries_zip : Zips (List EntryNo) ℕ EntryNo (λ c x. slice_index_or c x no_entry) entries_at
+entries_zip = record { none = entries_none; past = λ ys. refl; both = λ c candidates x ys. refl }
 
 -- ---- edges of a vector
 

@@ -25,3 +25,4 @@ pub mod Written
 pub mod Streaming
 pub mod Reading
 pub mod Absent
+pub mod Zipped

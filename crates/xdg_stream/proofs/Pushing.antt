@@ -139,7 +139,9 @@ cut_levels parts history marks numbers d short (inl has) = inl (levels_cut parts
 cut_levels parts history marks numbers d short (inr none) = inr (ap (take (d + 1)) none.0 ∙ take_none (d + 1), ap (take d) none.1 ∙ take_none d, none.2)
 
 -- the last numbers go
-pub cut_front : (parts : Parts) (history : List (List (List Bool))) (edge_places : List Edge) (marks numbers marks' numbers' : List ℕ) (mark_room number_room mark_room' number_room' d : ℕ) → HasFront parts history edge_places marks numbers mark_room number_room → d ≤ length numbers → marks' ≡ take (d + 1) marks → numbers' ≡ take d numbers → mark_room ≡ mark_room' → number_room ≡ number_room' → HasFront parts history edge_places marks' numbers' mark_room' number_room'
+cut_front : (parts : Parts) (history : List (List (List Bool))) (edge_places : List Edge) (marks numbers marks' numbers' : List ℕ) (mark_room number_room mark_room' number_room' d : ℕ)
+    → HasFront parts history edge_places marks numbers mark_room number_room → d ≤ length numbers → marks' ≡ take
+    (d + 1) marks → numbers' ≡ take d numbers → mark_room ≡ mark_room' → number_room ≡ number_room' → HasFront parts history edge_places marks' numbers' mark_room' number_room'
 cut_front parts history edge_places marks numbers marks' numbers' mark_room number_room mark_room' number_room' d has short marks_are numbers_are same_marks same_numbers =
     let a = has.for_numbers in
     let b = has.for_marks in
@@ -151,7 +153,7 @@ cut_front parts history edge_places marks numbers marks' numbers' mark_room numb
     }
 
 -- a place among the marks is one among the numbers or right behind them
-pub mark_place : (parts : Parts) (history : List (List (List Bool))) (marks numbers : List ℕ) (d : ℕ) → AreLevels parts history marks numbers → d ≤ length marks - 1 → d ≤ length numbers
+mark_place : (parts : Parts) (history : List (List (List Bool))) (marks numbers : List ℕ) (d : ℕ) → AreLevels parts history marks numbers → d ≤ length marks - 1 → d ≤ length numbers
 mark_place parts history marks numbers d (inl has) l = (let c = has.count in omega (arith, c, l))
 mark_place parts history marks numbers d (inr none) l = (let c = ap length none.0 in omega (arith, c, l))
 
@@ -174,22 +176,44 @@ around numbers d some short =
     let e : d ≡ (d - 1) + 1 = omega (arith, some) in
     ap (λ k. take k numbers) e ∙ take_more numbers (d - 1) 0 (omega (arith, some, short))
 
--- back to a number in whose place a greater one may be boxed
-pub backs_some : (f : Fronted) (parts : Parts) (history : List (List (List Bool))) (marks numbers numbers' : List ℕ) (d v : ℕ) → record { parts = parts; numbers = numbers } ≡ f → AreLevels parts history marks numbers → d ≢ 0 → d ≤ length marks - 1 → ((k : ℕ) → d ≤ k → k < length marks → slice_index marks k ≡ slice_index marks d) → v ≡ slice_index numbers (d - 1) → numbers' ≡ take (d - 1) numbers → Backs (shape f.parts) (Boxed f.parts) f.numbers (Some v) numbers'
-backs_some f parts history marks numbers numbers' d v view levels some within same v_is cut =
-    let has = levels_there parts history marks numbers levels (λ z. (let c = z in omega (arith, c, within, some))) in
-    let short = mark_place parts history marks numbers d levels within in
-    let last = levels_last parts history marks numbers d short has same in
-    let front : numbers' ++ v ∷ [] ≡ take d numbers = ap₂ (λ a b. a ++ b ∷ []) cut v_is ∙ sym (around numbers d (omega (arith, some)) short) in
-    let joined : numbers ≡ numbers' ++ v ∷ drop d numbers = sym (take-append-drop d numbers) ∙ ap (λ z. z ++ drop d numbers) (sym front) ∙ append_assoc numbers' (v ∷ []) (drop d numbers) in
-    subst (λ z. Backs (shape z.parts) (Boxed z.parts) z.numbers (Some v) numbers') view (drop d numbers, joined, subst (λ z. AreLast (shape parts) (Boxed parts) z (drop d numbers)) (sym front) last)
-
 all_last : (parts : Parts) (history : List (List (List Bool))) (marks numbers : List ℕ) → AreLevels parts history marks numbers → ((k : ℕ) → 0 ≤ k → k < length marks → slice_index marks k ≡ slice_index marks 0) → AreLast (shape parts) (Boxed parts) [] numbers
 all_last parts history marks numbers (inl has) same = levels_last parts history marks numbers 0 (omega arith) has same
 all_last parts history marks numbers (inr none) same = subst (AreLast (shape parts) (Boxed parts) []) (sym none.1) tt
 
--- back to nothing
-pub backs_none : (f : Fronted) (parts : Parts) (history : List (List (List Bool))) (marks numbers numbers' : List ℕ) (d : ℕ) → record { parts = parts; numbers = numbers } ≡ f → AreLevels parts history marks numbers → d ≡ 0 → ((k : ℕ) → d ≤ k → k < length marks → slice_index marks k ≡ slice_index marks d) → numbers' ≡ [] → Backs (shape f.parts) (Boxed f.parts) f.numbers None numbers'
-backs_none f parts history marks numbers numbers' d view levels none same cut =
-    let first : (k : ℕ) → 0 ≤ k → k < length marks → slice_index marks k ≡ slice_index marks 0 = subst (λ i. (k : ℕ) → i ≤ k → k < length marks → slice_index marks k ≡ slice_index marks i) none same in
-    subst (λ z. Backs (shape z.parts) (Boxed z.parts) z.numbers None numbers') view (cut, all_last parts history marks numbers levels first)
+-- ---- back to a turn of the marks, as it is read
+
+module _ {f : Fronted} {parts : Parts} {history : List (List (List Bool))} {edge_places : List Edge} {marks numbers read : List ℕ} {mark_room number_room : ℕ}
+    (has : HasFront parts history edge_places marks numbers mark_room number_room) (view : record { parts = parts; numbers = numbers } ≡ f) (read_is : read ≡ marks)
+    (d : ℕ) (same_read : (k : ℕ) → d ≤ k → k < length read → slice_index read k ≡ slice_index read d) where
+  same : (k : ℕ) → d ≤ k → k < length marks → slice_index marks k ≡ slice_index marks d
+  same = subst (λ z. (k : ℕ) → d ≤ k → k < length z → slice_index z k ≡ slice_index z d) read_is same_read
+
+  module _ (some : d ≢ 0) (within_read : d ≤ length read - 1) where
+    within : d ≤ length marks - 1
+    within = subst (λ z. d ≤ length z - 1) read_is within_read
+
+    -- to a number in whose place a greater one may be boxed
+    pub backs_some : {numbers' : List ℕ} {v : ℕ} → v ≡ slice_index numbers (d - 1) → numbers' ≡ take (d - 1) numbers → Backs (shape f.parts) (Boxed f.parts) f.numbers (Some v) numbers'
+    backs_some {numbers'} {v} v_is cut =
+        let less = within in
+        let there = levels_there parts history marks numbers has.levels (λ z. (let c = z in omega (arith, c, less, some))) in
+        let short = mark_place parts history marks numbers d has.levels within in
+        let last = levels_last parts history marks numbers d short there same in
+        let front : numbers' ++ v ∷ [] ≡ take d numbers = ap₂ (λ a b. a ++ b ∷ []) cut v_is ∙ sym (around numbers d (omega (arith, some)) short) in
+        let joined : numbers ≡ numbers' ++ v ∷ drop d numbers = sym (take-append-drop d numbers) ∙ ap (λ z. z ++ drop d numbers) (sym front) ∙ append_assoc numbers' (v ∷ []) (drop d numbers) in
+        subst (λ z. Backs (shape z.parts) (Boxed z.parts) z.numbers (Some v) numbers') view (drop d numbers, joined, subst (λ z. AreLast (shape parts) (Boxed parts) z (drop d numbers)) (sym front) last)
+
+    -- the front without the last numbers
+    pub turned_front : {marks' numbers' : List ℕ} {mark_room' number_room' : ℕ} → marks' ≡ take d marks → numbers' ≡ take (d - 1) numbers → mark_room' ≡ mark_room → number_room' ≡ number_room
+        → HasFront parts history edge_places marks' numbers' mark_room' number_room'
+    turned_front {marks'} {numbers'} {mark_room'} {number_room'} marks_are numbers_are same_marks same_numbers =
+        let short = mark_place parts history marks numbers d has.levels within in
+        let next : d ≡ (d - 1) + 1 = omega (arith, some) in
+        cut_front parts history edge_places marks numbers marks' numbers' mark_room number_room mark_room' number_room' (d - 1) has (omega (arith, short)) (marks_are
+        ∙ ap (λ k. take k marks) next) numbers_are (sym same_marks) (sym same_numbers)
+
+  -- to nothing
+  pub backs_none : {numbers' : List ℕ} → d ≡ 0 → numbers' ≡ [] → Backs (shape f.parts) (Boxed f.parts) f.numbers None numbers'
+  backs_none {numbers'} none cut =
+      let first : (k : ℕ) → 0 ≤ k → k < length marks → slice_index marks k ≡ slice_index marks 0 = subst (λ i. (k : ℕ) → i ≤ k → k < length marks → slice_index marks k ≡ slice_index marks i) none same in
+      subst (λ z. Backs (shape z.parts) (Boxed z.parts) z.numbers None numbers') view (cut, all_last parts history marks numbers has.levels first)

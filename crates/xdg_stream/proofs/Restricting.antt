@@ -93,7 +93,7 @@ restrict_done old now changes.Emptied d v i size is past r = absurd (r.proper re
 
 -- ---- all that remain are other values of a block
 
-module _ (old now new : State) (made : Change) (d v i : ℕ) (m : RemovesAll changes.Emptied now new d (IsOther i v)) (r : Restricting old now made d v i) where
+module _ {old now new : State} {made : Change} {d v i : ℕ} (m : RemovesAll changes.Emptied now new d (IsOther i v)) (r : Restricting old now made d v i) where
   pub emptied_extends : Extends old new
   emptied_extends = extends_both old now new r.extends (removal_extends changes.Emptied now new d (IsOther i v) m)
 

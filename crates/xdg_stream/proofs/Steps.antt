@@ -11,10 +11,11 @@ use Rattle.xdg_facts.proofs.Fitting.{fits_push, fits_front, fits_last, fits_leng
 use Rattle.xdg_stream.specs.Problem.{SameProblem}
 use Rattle.xdg_stream.specs.Place.{place, Stands}
 use Rattle.xdg_stream.specs.Halts.{HaltsAt}
-use Rattle.xdg_stream.specs.Forced.{AreForced, AreLast}
+use Rattle.xdg_stream.specs.Forced.{AreForced, AreLast, Follows}
 use Rattle.xdg_stream.proofs.Measure.{ahead, ahead_refused, ahead_taken, ahead_back}
 use Rattle.xdg_stream.proofs.Following.{forced_same, forced_fits, forced_counts, passes_follow, finds_follow, ahead_follow, joined}
 use Rattle.xdg_stream.proofs.Backing.{last_same, passes_back, none_back}
+use Rattle.xdg_stream.proofs.Same.{same_then}
 use Rattle.xdg_stream.proofs.Passing.{Passes, passes_refused, passes_taken, finds_taken, spent_at, ended_at}
 
 pub stands_room : (shape : List ℕ) (P : List ℕ → Type 0) (later : List ℕ) (Q : List ℕ → Type 0) (numbers : List ℕ) → SameProblem shape P later Q → Stands shape P numbers → length numbers ≤ length later
@@ -25,9 +26,6 @@ in_range shape P later Q n v s h = subst (λ z. v < get_or z n 0) s.sizes h
 
 out_of_range : (shape : List ℕ) (P : List ℕ → Type 0) (later : List ℕ) (Q : List ℕ → Type 0) (n v : ℕ) → SameProblem shape P later Q → get_or later n 0 ≤ v → get_or shape n 0 ≤ v
 out_of_range shape P later Q n v s h = subst (λ z. get_or z n 0 ≤ v) s.sizes h
-
-pub push_range : (shape : List ℕ) (P : List ℕ → Type 0) (later : List ℕ) (Q : List ℕ → Type 0) (numbers : List ℕ) (v value : ℕ) → SameProblem shape P later Q → v ≡ value → v < get_or later (length numbers) 0 → value < get_or shape (length numbers) 0
-push_range shape P later Q numbers v value s e h = subst (λ i. i < get_or shape (length numbers) 0) e (in_range shape P later Q (length numbers) v s h)
 
 pub push_fits : (shape : List ℕ) (P : List ℕ → Type 0) (later : List ℕ) (Q : List ℕ → Type 0) (numbers : List ℕ) (v : ℕ) → SameProblem shape P later Q → Stands shape P numbers → v < get_or later (length numbers) 0 → Fits later (numbers ++ v ∷ [])
 push_fits shape P later Q numbers v s t h = subst (λ z. Fits z (numbers ++ v ∷ [])) (sym s.sizes) (fits_push shape numbers v t.fits (in_range shape P later Q (length numbers) v s h))
@@ -46,19 +44,24 @@ taken_spent shape P later Q from numbers value v n kept now s t w h q p =
 
 -- ---- a candidate that was taken, and forced numbers behind it: ran is the prefix with all of them
 
-pub grown_counts : (shape : List ℕ) (P : List ℕ → Type 0) (later : List ℕ) (Q : List ℕ → Type 0) (numbers grown : List ℕ) (v : ℕ) → SameProblem shape P later Q → Q (numbers ++ v ∷ []) → grown ≡ numbers ++ v ∷ [] → P grown
-grown_counts shape P later Q numbers grown v s q e = subst P (sym e) ((s.counts (numbers ++ v ∷ [])).0 q)
+-- the problem as it is then, and what is known of the prefix with the candidate
+pub record Grew (shape : List ℕ) (P : List ℕ → Type 0) (later : List ℕ) (Q : List ℕ → Type 0) (numbers grown : List ℕ) (value : ℕ) : Type 0 where
+  pub same : SameProblem shape P later Q
+  pub stands : Stands shape P grown
+  pub counts : P grown
+  pub range : value < get_or shape (length numbers) 0
+  pub is : grown ≡ place numbers value
 
-pub ran_counts : (shape : List ℕ) (P : List ℕ → Type 0) (later : List ℕ) (Q : List ℕ → Type 0) (grown ran t : List ℕ) → SameProblem shape P later Q → P grown → AreForced later Q grown t → ran ≡ grown ++ t → P ran
-ran_counts shape P later Q grown ran t s c h e = subst P (sym e) (forced_counts shape P grown t c (forced_same shape P later Q grown t s h))
-
-pub ran_joined : (numbers grown ran t : List ℕ) (v : ℕ) → grown ≡ numbers ++ v ∷ [] → ran ≡ grown ++ t → ran ≡ numbers ++ v ∷ t
-ran_joined numbers grown ran t v e j = j ∙ ap (λ z. z ++ t) e ∙ joined numbers t v
-
-pub ran_stands : (shape : List ℕ) (P : List ℕ → Type 0) (later : List ℕ) (Q : List ℕ → Type 0) (grown ran t : List ℕ) → SameProblem shape P later Q → Stands shape P grown → P grown → AreForced later Q grown t → ran ≡ grown ++ t → Stands shape P ran
-ran_stands shape P later Q grown ran t s k c h e =
-    let f = forced_same shape P later Q grown t s h in
-    subst (Stands shape P) (sym e) (record { fits = forced_fits shape P grown t k.fits f; counts = inr (forced_counts shape P grown t c f) })
+pub grew : {shape : List ℕ} {P : List ℕ → Type 0} {later : List ℕ} {Q : List ℕ → Type 0} {latest : List ℕ} {R : List ℕ → Type 0} {numbers grown : List ℕ} {v value : ℕ}
+    → SameProblem shape P later Q → Stands shape P numbers → (v ≡ value) × (v < get_or later (length numbers) 0) → (grown ≡ numbers ++ v ∷ []) × Q
+    (numbers ++ v ∷ []) → SameProblem later Q latest R → Grew shape P latest R numbers grown value
+grew {shape} {P} {later} {Q} {latest} {R} {numbers} {grown} {v} s stands (e, below) (is, counted) next = record {
+  same = same_then _ _ _ _ _ _ s next;
+  stands = taken_stands shape P later Q numbers grown v s stands below counted is;
+  counts = subst P (sym is) ((s.counts (numbers ++ v ∷ [])).0 counted);
+  range = subst (λ i. i < get_or shape (length numbers) 0) e (in_range shape P later Q (length numbers) v s below);
+  is = is ∙ ap (place numbers) e;
+}
 
 shorter : (shape p t : List ℕ) → Fits shape (p ++ t) → length (p ++ t) ≢ length shape → length p ≢ length shape
 shorter shape p t f n e =
@@ -66,37 +69,57 @@ shorter shape p t f n e =
     let a = length-append p t in
     n (omega (arith, k, a, e))
 
-pub ran_passes : (shape : List ℕ) (P : List ℕ → Type 0) (later : List ℕ) (Q : List ℕ → Type 0) (from numbers grown ran t : List ℕ) (value n m : ℕ) (kept now reached : List ℕ) → Closed P → SameProblem shape P later Q → Fits shape grown → P grown → grown ≡ place numbers value → AreForced later Q grown t → ran ≡ grown ++ t → length ran ≢ length shape → (n + 1) + length t ≡ m → reached ≡ ran → Passes shape P from (place numbers value) n kept now → Passes shape P from (place ran 0) m kept reached
-ran_passes shape P later Q from numbers grown ran t value n m kept now reached closed s fits counted c h e n_whole more is p =
-    let f = forced_same shape P later Q grown t s h in
-    let undone : length (grown ++ t) ≢ length shape = λ w. n_whole (ap length e ∙ w) in
-    let one = passes_taken shape P from grown n kept now fits counted (shorter shape grown t (forced_fits shape P grown t fits f) undone) (subst (λ z. Passes shape P from z n kept now) (sym c) p) in
-    let all = passes_follow shape P from grown t (n + 1) kept closed fits f undone one in
-    subst (λ z. Passes shape P from (place ran 0) m kept z) (sym is)
-    (subst (λ i. Passes shape P from (place ran 0) i kept ran) more (subst (λ z. Passes shape P from (place z 0) ((n + 1) + length t) kept z) (sym e) all))
-
 not_whole : (shape p t : List ℕ) (v : ℕ) → length (p ++ v ∷ t) ≡ length shape → length p ≢ length shape
 not_whole shape p t v e d = let a = length-append p (v ∷ t) in omega (arith, a, e, d)
 
-pub ran_finds : (shape : List ℕ) (P : List ℕ → Type 0) (later : List ℕ) (Q : List ℕ → Type 0) (from numbers grown ran t : List ℕ) (value n m : ℕ) (kept now : List ℕ) → Closed P → SameProblem shape P later Q → Fits shape grown → P grown → grown ≡ place numbers value → AreForced later Q grown t → ran ≡ grown ++ t → length ran ≡ length shape → (n + 1) + length t ≡ m → Passes shape P from (place numbers value) n kept now → Less from ran × Finds shape P from ran m
-ran_finds shape P later Q from numbers grown ran [] value n m kept now closed s fits counted c h e whole more p =
-    let i : ran ≡ grown = e ∙ append-nil grown in
-    let r : Passes shape P from grown n kept now = subst (λ z. Passes shape P from z n kept now) (sym c) p in
-    let k : n + 1 ≡ m = omega (arith, more) in
-    subst (λ z. Less from z × Finds shape P from z m) (sym i) (r.above, subst (Finds shape P from grown) k (finds_taken shape P from grown n kept now fits counted (ap length (sym i) ∙ whole) r))
-ran_finds shape P later Q from numbers grown ran (v ∷ t) value n m kept now closed s fits counted c h e whole more p =
-    let f = forced_same shape P later Q grown (v ∷ t) s h in
-    let w = ap length (sym e) ∙ whole in
-    let one = passes_taken shape P from grown n kept now fits counted (not_whole shape grown t v w) (subst (λ z. Passes shape P from z n kept now) (sym c) p) in
-    let all = finds_follow shape P from grown t v (n + 1) kept grown closed f w one in
-    subst (λ z. Less from z × Finds shape P from z m) (sym e) (subst (λ i. Less from (grown ++ v ∷ t) × Finds shape P from (grown ++ v ∷ t) i) more all)
+finds_behind : (shape : List ℕ) (P : List ℕ → Type 0) (from grown t : List ℕ) (n : ℕ) (kept now : List ℕ) → Closed P → Fits shape grown → P grown → AreForced shape P grown t → length (grown ++ t) ≡ length shape
+    → Passes shape P from grown n kept now → Less from (grown ++ t) × Finds shape P from (grown ++ t) ((n + 1) + length t)
+finds_behind shape P from grown [] n kept now closed fits counted f whole p =
+    let e = append-nil grown in
+    let k : n + 1 ≡ (n + 1) + 0 = omega arith in
+    subst (λ z. Less from z × Finds shape P from z ((n + 1) + 0)) (sym e) (p.above, subst (Finds shape P from grown) k (finds_taken shape P from grown n kept now fits counted (ap length (sym e) ∙ whole) p))
+finds_behind shape P from grown (v ∷ t) n kept now closed fits counted f whole p =
+    finds_follow shape P from grown t v (n + 1) kept grown closed f whole (passes_taken shape P from grown n kept now fits counted (not_whole shape grown t v whole) p)
 
-pub ran_smaller : (shape : List ℕ) (P : List ℕ → Type 0) (later : List ℕ) (Q : List ℕ → Type 0) (numbers grown ran t : List ℕ) (value : ℕ) → SameProblem shape P later Q → value < get_or shape (length numbers) 0 → grown ≡ place numbers value → AreForced later Q grown t → ran ≡ grown ++ t → ahead shape (place ran 0) < ahead shape (place numbers value)
-ran_smaller shape P later Q numbers grown ran t value s h c f e =
-    let a = ahead_follow shape P grown t (forced_same shape P later Q grown t s f) in
-    let b = ahead_taken shape numbers value h in
-    let d : ahead shape (place grown 0) < ahead shape (place numbers value) = subst (λ z. ahead shape (place z 0) < ahead shape (place numbers value)) (sym c) b in
-    subst (λ z. ahead shape (place z 0) < ahead shape (place numbers value)) (sym e) (omega (arith, a, d))
+module _ {shape : List ℕ} {P : List ℕ → Type 0} {later : List ℕ} {Q : List ℕ → Type 0} {numbers grown : List ℕ} {value : ℕ} (g : Grew shape P later Q numbers grown value) {ran : List ℕ} {most count : ℕ}
+    (f : Follows later Q grown ran most count) where
+  forced : AreForced shape P grown f.added
+  forced = forced_same shape P later Q grown f.added g.same f.forced
+
+  pub ran_counts : P ran
+  ran_counts = subst P (sym f.joined) (forced_counts shape P grown f.added g.counts forced)
+
+  pub ran_joined : ran ≡ numbers ++ value ∷ f.added
+  ran_joined = f.joined ∙ ap (λ z. z ++ f.added) g.is ∙ joined numbers f.added value
+
+  pub ran_stands : Stands shape P ran
+  ran_stands = record { fits = subst (Fits shape) (sym f.joined) (forced_fits shape P grown f.added g.stands.fits forced); counts = inr ran_counts }
+
+  module _ {from kept now : List ℕ} {n m : ℕ} (closed : Closed P) (more : (n + 1) + count ≡ m) (p : Passes shape P from (place numbers value) n kept now) where
+    here : Passes shape P from grown n kept now
+    here = subst (λ z. Passes shape P from z n kept now) (sym g.is) p
+
+    all_are : (n + 1) + length f.added ≡ m
+    all_are = let c = f.count in omega (arith, c, more)
+
+    pub ran_passes : {reached : List ℕ} → length ran ≢ length shape → reached ≡ ran → Passes shape P from (place ran 0) m kept reached
+    ran_passes n_whole is =
+        let undone : length (grown ++ f.added) ≢ length shape = λ w. n_whole (ap length f.joined ∙ w) in
+        let one = passes_taken shape P from grown n kept now g.stands.fits g.counts (shorter shape grown f.added (forced_fits shape P grown f.added g.stands.fits forced) undone) here in
+        let all = passes_follow shape P from grown f.added (n + 1) kept closed g.stands.fits forced undone one in
+        subst (λ z. Passes shape P from (place ran 0) m kept z) (sym is)
+        (subst (λ i. Passes shape P from (place ran 0) i kept ran) all_are (subst (λ z. Passes shape P from (place z 0) ((n + 1) + length f.added) kept z) (sym f.joined) all))
+
+    pub ran_finds : length ran ≡ length shape → Less from ran × Finds shape P from ran m
+    ran_finds whole = subst (λ z. Less from z × Finds shape P from z m) (sym f.joined)
+        (subst (λ i. Less from (grown ++ f.added) × Finds shape P from (grown ++ f.added) i) all_are (finds_behind shape P from grown f.added n kept now closed g.stands.fits g.counts forced (ap length (sym f.joined) ∙ whole) here))
+
+  pub ran_smaller : ahead shape (place ran 0) < ahead shape (place numbers value)
+  ran_smaller =
+      let a = ahead_follow shape P grown f.added forced in
+      let b = ahead_taken shape numbers value g.range in
+      let d : ahead shape (place grown 0) < ahead shape (place numbers value) = subst (λ z. ahead shape (place z 0) < ahead shape (place numbers value)) (sym g.is) b in
+      subst (λ z. ahead shape (place z 0) < ahead shape (place numbers value)) (sym f.joined) (omega (arith, a, d))
 
 -- a candidate that was refused
 pub refused_passes : (shape : List ℕ) (P : List ℕ → Type 0) (later : List ℕ) (Q : List ℕ → Type 0) (from numbers same : List ℕ) (value v n : ℕ) (kept now : List ℕ) → Closed P → SameProblem shape P later Q → v ≡ value → (Q (numbers ++ v ∷ []) → ⊥) → same ≡ numbers → Passes shape P from (place numbers value) n kept now → Passes shape P from (place same (value + 1)) n kept now

@@ -128,7 +128,7 @@ moved s t front last p q b f l =
     ∙ ap (λ z. seen s.parts s.start s.budget t.charged z t.last t.ended) f
     ∙ ap (λ z. seen s.parts s.start s.budget t.charged front z t.ended) l
 
-module _ (s : Streamed) (numbers : List ℕ) (value room : ℕ) (is : IsStream s numbers value room) where
+module _ {s : Streamed} {numbers : List ℕ} {value room : ℕ} (is : IsStream s numbers value room) where
   -- there are no other answers so far
   answered : (answers : List (List ℕ)) → IsCharged s answers → answers ≡ is.answers
   answered answers so_far = drawn_once s.parts is.problem s.start s.front s.front s.charged answers is.answers so_far.drawn is.so_far.drawn
@@ -156,7 +156,8 @@ module _ (s : Streamed) (numbers : List ℕ) (value room : ℕ) (is : IsStream s
       some_one : (x y : Step) → Some x ≡ Some y → x ≡ y
       some_one x y e = ap some_of e
 
-  module _ (t : Streamed) (numbers' : List ℕ) (value' room' : ℕ) (same : t.parts ≡ s.parts) (begun : t.start ≡ s.start) (spends : t.budget ≡ s.budget) (lawful : IsLawful (shape t.parts) (Boxed t.parts) numbers' t.front room' t.ended t.charged t.budget) (rises : s.charged ≤ t.charged) where
+  module _ (t : Streamed) {numbers' : List ℕ} (value' : ℕ) {room' : ℕ} (same : t.parts ≡ s.parts) (begun : t.start ≡ s.start) (spends : t.budget ≡ s.budget)
+      (lawful : IsLawful (shape t.parts) (Boxed t.parts) numbers' t.front room' t.ended t.charged t.budget) (rises : s.charged ≤ t.charged) where
     -- something was found
     module _ (open_still : s.ended ≡ None) (front_is : t.front ≡ numbers') (last_is : t.last ≡ numbers') (goes_on : t.ended ≡ None) (finds : (from : List ℕ) → Next (shape s.parts) (Boxed s.parts) from (place numbers value) → Less from numbers' × Finds (shape s.parts) (Boxed s.parts) from numbers' (t.charged - s.charged)) where
       later : Streamed
@@ -277,8 +278,11 @@ module _ (s : Streamed) (numbers : List ℕ) (value room : ℕ) (is : IsStream s
       })
 
     -- a call that found nothing, be it the first or the same again
-    pub ended_call : (step : Step) → step ≢ steps.Found → t.last ≡ s.last → t.ended ≡ Some step → (Rest : List ℕ → Type 0) → (s.ended ≡ None → (from : List ℕ) → Next (shape s.parts) (Boxed s.parts) from (place numbers value) → HaltsAt (shape s.parts) (Boxed s.parts) from (t.charged - s.charged) Rest s.front t.front) → (s.ended ≡ None → (p : List ℕ) → Rest p → Leaves (Some step) s.parts p t.charged s.budget) → ((other : Step) → s.ended ≡ Some other → (step ≡ other) × (t ≡ s) × IsStream t numbers' value' room') → IsStream t numbers' value' room' × Advances s step t
-    ended_call step different last_is stopped Rest halts leaves repeats = elim (cases_done s.ended) [
+    pub ended_call : {step : Step} → step ≢ steps.Found → t.last ≡ s.last → t.ended ≡ Some step → (Rest : List ℕ → Type 0)
+        → (s.ended ≡ None → (from : List ℕ) → Next (shape s.parts) (Boxed s.parts) from (place numbers value) → HaltsAt (shape s.parts) (Boxed s.parts) from (t.charged - s.charged) Rest s.front t.front) →
+        (s.ended ≡ None → (p : List ℕ) → Rest p → Leaves (Some step) s.parts p t.charged s.budget) →
+        ((other : Step) → s.ended ≡ Some other → (step ≡ other) × (t ≡ s) × IsStream t numbers' value' room') → IsStream t numbers' value' room' × Advances s step t
+    ended_call {step} different last_is stopped Rest halts leaves repeats = elim (cases_done s.ended) [
       | inl none ↦ (stream_stopped none step different last_is stopped Rest (halts none) (leaves none), stopped_advances none step different last_is stopped Rest (halts none) (leaves none))
       | inr some ↦ (let r = repeats some.0 some.1 in (r.2, again step some.0 t different some.1 r.0 r.1))
     ]

@@ -1,8 +1,7 @@
 -- The vector of an analysis, put down one number after another.
-use Rattle.std.proofs.Common.{◌≡◌, ℕ, ◌<◌, ◌≤◌, ◌+◌, inl, inr, cond, List, [], ◌∷◌, ◌++◌, length, get_or, take, drop, map, refl, ap, ap₂, sym, ◌∙◌, arith, subst, length-append, append_assoc}
+use Rattle.std.proofs.Common.{◌≡◌, ℕ, ◌≤◌, ◌+◌, inl, inr, cond, List, [], ◌∷◌, ◌++◌, length, map, refl, ap, ap₂, sym, ◌∙◌, arith, subst, length-append, append_assoc}
 use Rattle.std.specs.Prelude.{Contains}
 use Rattle.std.specs.List.{AllByRecursion}
-use Rattle.std.proofs.lemmas.List.{take_more, length-take-le, take-append-drop}
 use Rattle.std.proofs.lemmas.List.Elements.{recursion_from_All}
 use Rattle.xdg_base.specs.declared.ids.EntryNo.{EntryNo}
 use Rattle.xdg_problem.specs.declared.analysis.Analysis.{Analysis}
@@ -18,49 +17,17 @@ use Rattle.xdg_problem.proofs.PlaceOrder.{places_ordered, place_is}
 use Rattle.xdg_problem.proofs.Presence.{rise_ordered, present_head, absent_before, presence_skip}
 use Rattle.xdg_problem.proofs.VectorFacts.{length_shape}
 use Rattle.xdg_stream.specs.Vectored.{marks}
+use Rattle.xdg_stream.proofs.Zipped.{Zips}
 use Rattle.xdg_problem.proofs.Less.{narrow}
 
 -- ---- the numbers of entries
 
-places_one : (c : List EntryNo) (candidates : List (List EntryNo)) (e : EntryNo) → entry_places (c ∷ candidates) (e ∷ []) ≡ place_among c e ∷ []
-places_one c [] e = refl
-places_one c (d ∷ candidates) e = refl
+places_none : (candidates : List (List EntryNo)) → entry_places candidates [] ≡ []
+places_none [] = refl
+places_none (c ∷ candidates) = refl
 
-places_push : (candidates : List (List EntryNo)) (entries : List EntryNo) (e : EntryNo) (d : List EntryNo) → length entries < length candidates → entry_places candidates (entries ++ e ∷ []) ≡ entry_places candidates entries ++ place_among (get_or candidates (length entries) d) e ∷ []
-places_push [] entries e d l = absurd (omega (arith, l))
-places_push (c ∷ candidates) [] e d l = places_one c candidates e
-places_push (c ∷ candidates) (f ∷ entries) e d l = ap (λ xs. place_among c f ∷ xs) (places_push candidates entries e d (omega (arith, l)))
-
-places_full : (candidates : List (List EntryNo)) (entries more : List EntryNo) → length candidates ≤ length entries → entry_places candidates (entries ++ more) ≡ entry_places candidates entries
-places_full [] entries more l = refl
-places_full (c ∷ candidates) [] more l = absurd (omega (arith, l))
-places_full (c ∷ candidates) (f ∷ entries) more l = ap (λ xs. place_among c f ∷ xs) (places_full candidates entries more (omega (arith, l)))
-
-places_few : (candidates : List (List EntryNo)) (entries : List EntryNo) → length (entry_places candidates entries) ≤ length entries
-places_few [] entries = omega arith
-places_few (c ∷ candidates) [] = omega arith
-places_few (c ∷ candidates) (f ∷ entries) = let h = places_few candidates entries in omega (arith, h)
-
-module _ (old : List ℕ) (candidates : List (List EntryNo)) (entries : List EntryNo) (i : ℕ) (l : i < length entries) where
-  taken : length (take i entries) ≡ i
-  taken = length-take-le i entries (omega (arith, l))
-
-  pub places_turn : (items items' : List ℕ) (c : List EntryNo) (e : EntryNo) → items ≡ old ++ entry_places candidates (take i entries) → i < length candidates → c ≡ get_or candidates i c → e ≡ get_or entries i e → items' ≡ items ++ place_among c e ∷ [] → items' ≡ old ++ entry_places candidates (take (i + 1) entries)
-  places_turn items items' c e so_far within is_c is_e grown =
-      let t = taken in
-      let next : entry_places candidates (take (i + 1) entries) ≡ entry_places candidates (take i entries) ++ place_among c e ∷ [] =
-      ap (entry_places candidates) (take_more entries i e l ∙ ap (λ z. take i entries ++ z ∷ []) (sym is_e))
-      ∙ places_push candidates (take i entries) e c (omega (arith, t, within))
-      ∙ ap (λ z. entry_places candidates (take i entries) ++ place_among z e ∷ []) (ap (λ k. get_or candidates k c) t ∙ sym is_c) in
-      grown ∙ ap (λ z. z ++ place_among c e ∷ []) so_far ∙ append_assoc old (entry_places candidates (take i entries)) (place_among c e ∷ []) ∙ ap (λ z. old ++ z) (sym next)
-
-  pub places_rest : (items : List ℕ) → items ≡ old ++ entry_places candidates (take i entries) → length candidates ≤ i → items ≡ old ++ entry_places candidates entries
-  places_rest items so_far past =
-      let t = taken in
-      so_far ∙ ap (λ z. old ++ z) (sym (places_full candidates (take i entries) (drop i entries) (omega (arith, t, past))) ∙ ap (entry_places candidates) (take-append-drop i entries))
-
-  pub places_room : (items : List ℕ) (room : ℕ) → items ≡ old ++ entry_places candidates (take i entries) → i < length candidates → length old + length candidates ≤ room → length items < room
-  places_room items room so_far within held = (let t = taken in let e = ap length so_far ∙ length-append old (entry_places candidates (take i entries)) in let f = places_few candidates (take i entries) in omega (arith, t, e, f, within, held))
+pub places_zip : Zips (List EntryNo) EntryNo ℕ place_among entry_places
+places_zip = record { none = places_none; past = λ ys. refl; both = λ c candidates e ys. refl }
 
 -- ---- the numbers of edge places
 

@@ -35,20 +35,8 @@ loop-block-preserved c =
 pub returns-clause-only : goal.returns-clause-only
 returns-clause-only c = c.loop-block.invariant.others
 
-pub returns-in-Emptied-clause-extends : goal.returns-in-Emptied-clause-extends
-returns-in-Emptied-clause-extends c =
-    let d = number_of c.args.store.now.parts c.args.decision in
-    emptied_extends c.args.store.now c.loop-block.store c.remove_others.new.store c.loop-block.change d c.args.value c.loop-block.block
-    (subst (λ q. RemovesAll changes.Emptied c.loop-block.store c.remove_others.new.store (number_of q c.args.decision) (IsOther c.loop-block.block c.args.value)) c.loop-block.invariant.extends.same c.in-Emptied.ensures.removes) c.loop-block.invariant
-
-pub returns-in-Emptied-clause-restricts : goal.returns-in-Emptied-clause-restricts
-returns-in-Emptied-clause-restricts c =
-    let d = number_of c.args.store.now.parts c.args.decision in
-    emptied_lacks c.args.store.now c.loop-block.store c.remove_others.new.store c.loop-block.change d c.args.value c.loop-block.block
-    (subst (λ q. RemovesAll changes.Emptied c.loop-block.store c.remove_others.new.store (number_of q c.args.decision) (IsOther c.loop-block.block c.args.value)) c.loop-block.invariant.extends.same c.in-Emptied.ensures.removes) c.loop-block.invariant
-
-pub returns-in-Emptied-clause-only : goal.returns-in-Emptied-clause-only
-returns-in-Emptied-clause-only c =
-    let d = number_of c.args.store.now.parts c.args.decision in
-    emptied_others c.args.store.now c.loop-block.store c.remove_others.new.store c.loop-block.change d c.args.value c.loop-block.block
-    (subst (λ q. RemovesAll changes.Emptied c.loop-block.store c.remove_others.new.store (number_of q c.args.decision) (IsOther c.loop-block.block c.args.value)) c.loop-block.invariant.extends.same c.in-Emptied.ensures.removes) c.loop-block.invariant
+pub returns-in-Emptied : goal.returns-in-Emptied
+returns-in-Emptied c =
+    let m = subst (λ q. RemovesAll changes.Emptied c.loop-block.store c.remove_others.new.store (number_of q c.args.decision) (IsOther c.loop-block.block c.args.value)) c.loop-block.invariant.extends.same c.in-Emptied.ensures.removes in
+    let r = c.loop-block.invariant in
+    record { extends = emptied_extends m r; restricts = emptied_lacks m r; only = emptied_others m r; known = c.remove_others.ensures.known }

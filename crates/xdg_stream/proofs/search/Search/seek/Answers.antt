@@ -4,7 +4,7 @@ use Rattle.xdg_facts.proofs.Fitting.{fits_length}
 use Rattle.xdg_stream.specs.Place.{Stands}
 use Rattle.xdg_stream.proofs.Passing.{next_first}
 use Rattle.xdg_stream.proofs.Same.{same_then}
-use Rattle.xdg_stream.proofs.Steps.{back_passes, back_smaller, back_stands, begins_back, begins_taken, finished, grown_counts, kept_ran, push_counts, push_fits, push_range, ran_counts, ran_finds, ran_joined, ran_passes, ran_smaller, ran_stands, refused_passes, refused_smaller, stands_room, taken_spent, taken_stands}
+use Rattle.xdg_stream.proofs.Steps.{back_passes, back_smaller, back_stands, begins_back, begins_taken, finished, grew, kept_ran, push_counts, push_fits, ran_counts, ran_finds, ran_joined, ran_passes, ran_smaller, ran_stands, refused_passes, refused_smaller, stands_room, taken_spent}
 use Rattle.xdg_stream.proofs.search.Search.seek.Goals as goal
 
 pub candidate-requires : goal.candidate-requires
@@ -48,10 +48,8 @@ returns-then-self-clause-spent g c r =
 
 pub follow-requires-clause-fits : goal.follow-requires-clause-fits
 follow-requires-clause-fits g c =
-    let v = c.in-Some.ensures.some c.in-Some.value refl in
-    let t = c.if-push.ensures.taken refl in
-    let s = same_then _ _ _ _ _ _ c.steps.invariant.same c.push.ensures.same in
-    subst (λ z. Fits z (g.F.Front.numbers c.push.new.self)) (sym s.sizes) (taken_stands _ _ _ _ _ _ _ c.steps.invariant.same c.steps.invariant.stands v.1 t.1 t.0).fits
+    let r = grew c.steps.invariant.same c.steps.invariant.stands (c.in-Some.ensures.some c.in-Some.value refl) (c.if-push.ensures.taken refl) c.push.ensures.same in
+    subst (λ z. Fits z (g.F.Front.numbers c.push.new.self)) (sym r.same.sizes) r.stands.fits
 
 pub follow-requires-clause-counts : goal.follow-requires-clause-counts
 follow-requires-clause-counts g c =
@@ -60,98 +58,75 @@ follow-requires-clause-counts g c =
 
 pub keep-requires-clause-room : goal.keep-requires-clause-room
 keep-requires-clause-room g c =
-    let v = c.in-Some.ensures.some c.in-Some.value refl in
-    let t = c.if-push.ensures.taken refl in
-    let f = c.follow.ensures.follows in
-    let s = same_then _ _ _ _ _ _ c.steps.invariant.same c.push.ensures.same in
-    let grown = grown_counts _ _ _ _ _ _ _ c.steps.invariant.same t.1 t.0 in
-    let k = ran_stands _ _ _ _ _ _ _ s (taken_stands _ _ _ _ _ _ _ c.steps.invariant.same c.steps.invariant.stands v.1 t.1 t.0) grown f.forced f.joined in
-    let a = fits_length _ _ k.fits in
+    let r = grew c.steps.invariant.same c.steps.invariant.stands (c.in-Some.ensures.some c.in-Some.value refl) (c.if-push.ensures.taken refl) c.push.ensures.same in
+    let a = fits_length _ _ (ran_stands r c.follow.ensures.follows).fits in
     let b = ap length c.prefix-then-push.ensures in
     let room = c.requires.room in
     let same = c.steps.invariant.room in
     omega (arith, a, b, room, same)
 
 pub returns-then-prefix-decisions-clause-found : goal.returns-then-prefix-decisions-clause-found
-returns-then-prefix-decisions-clause-found g c r =
-    let v = c.in-Some.ensures.some c.in-Some.value refl in
-    let t = c.if-push.ensures.taken refl in
-    let f = c.follow.ensures.follows in
-    let s = same_then _ _ _ _ _ _ c.steps.invariant.same c.push.ensures.same in
-    (ran_stands _ _ _ _ _ _ _ s (taken_stands _ _ _ _ _ _ _ c.steps.invariant.same c.steps.invariant.stands v.1 t.1 t.0) (grown_counts _ _ _ _ _ _ _ c.steps.invariant.same t.1 t.0) f.forced f.joined, next_first _ _ _)
+returns-then-prefix-decisions-clause-found g c w =
+    let r = grew c.steps.invariant.same c.steps.invariant.stands (c.in-Some.ensures.some c.in-Some.value refl) (c.if-push.ensures.taken refl) c.push.ensures.same in
+    (ran_stands r c.follow.ensures.follows, next_first _ _ _)
 
 pub returns-then-prefix-decisions-clause-finds : goal.returns-then-prefix-decisions-clause-finds
-returns-then-prefix-decisions-clause-finds g c r from next =
-    let v = c.in-Some.ensures.some c.in-Some.value refl in
-    let t = c.if-push.ensures.taken refl in
-    let f = c.follow.ensures.follows in
-    let s = same_then _ _ _ _ _ _ c.steps.invariant.same c.push.ensures.same in
-    let e = ap length (same_then _ _ _ _ _ _ s c.follow.ensures.same).sizes in
+returns-then-prefix-decisions-clause-finds g c w from next =
+    let r = grew c.steps.invariant.same c.steps.invariant.stands (c.in-Some.ensures.some c.in-Some.value refl) (c.if-push.ensures.taken refl) c.push.ensures.same in
+    let e = ap length (same_then _ _ _ _ _ _ r.same c.follow.ensures.same).sizes in
     let a = ap length c.prefix-then-push-2.ensures in
     let b = c.decisions.ensures in
     let d = c.steps.invariant.charged in
-    let n = f.count in
-    ran_finds _ _ _ _ _ _ _ _ _ _ _ _ _ _ (g.met.F.Front.closed c.args.self.now.front) s (taken_stands _ _ _ _ _ _ _ c.steps.invariant.same c.steps.invariant.stands v.1 t.1 t.0).fits (grown_counts _ _ _ _ _ _ _ c.steps.invariant.same t.1 t.0) (t.0 ∙ ap (λ i. g.F.Front.numbers c.steps.self.front ++ i ∷ []) v.0) f.forced f.joined (omega (arith, e, a, b)) (omega (arith, d, n)) (c.steps.invariant.passed from next)
+    ran_finds r c.follow.ensures.follows (g.met.F.Front.closed c.args.self.now.front) (omega (arith, d)) (c.steps.invariant.passed from next) (omega (arith, e, a, b))
 
 pub returns-then-prefix-decisions-clause-whole : goal.returns-then-prefix-decisions-clause-whole
-returns-then-prefix-decisions-clause-whole g c r =
-    let t = c.if-push.ensures.taken refl in
-    let f = c.follow.ensures.follows in
-    let s = same_then _ _ _ _ _ _ c.steps.invariant.same c.push.ensures.same in
-    let e = ap length (same_then _ _ _ _ _ _ s c.follow.ensures.same).sizes in
+returns-then-prefix-decisions-clause-whole g c w =
+    let r = grew c.steps.invariant.same c.steps.invariant.stands (c.in-Some.ensures.some c.in-Some.value refl) (c.if-push.ensures.taken refl) c.push.ensures.same in
+    let e = ap length (same_then _ _ _ _ _ _ r.same c.follow.ensures.same).sizes in
     let a = ap length c.prefix-then-push-2.ensures in
     let b = c.decisions.ensures in
-    (ran_counts _ _ _ _ _ _ _ s (grown_counts _ _ _ _ _ _ _ c.steps.invariant.same t.1 t.0) f.forced f.joined, omega (arith, e, a, b))
+    (ran_counts r c.follow.ensures.follows, omega (arith, e, a, b))
 
 pub returns-then-prefix-decisions-clause-reached : goal.returns-then-prefix-decisions-clause-reached
-returns-then-prefix-decisions-clause-reached g c r =
-    let t = c.if-push.ensures.taken refl in
-    let f = c.follow.ensures.follows in
+returns-then-prefix-decisions-clause-reached g c w =
+    let r = grew c.steps.invariant.same c.steps.invariant.stands (c.in-Some.ensures.some c.in-Some.value refl) (c.if-push.ensures.taken refl) c.push.ensures.same in
     let l = ap length c.prefix.ensures in
-    let m = ap length t.0 in
-    let k = length-append (g.F.Front.numbers c.steps.self.front) (c.in-Some.value ∷ []) in
-    kept_ran _ _ _ _ _ _ c.steps.invariant.begins (ran_joined _ _ _ _ _ t.0 f.joined) (omega (arith, l, m, k)) (c.keep.ensures.items ∙ ap (λ z. take (length c.prefix.result.now - 1) c.steps.self.reached.items ++ drop (length c.prefix.result.now - 1) z) c.prefix-then-push.ensures)
+    let m = ap length r.is in
+    let k = length-append (g.F.Front.numbers c.steps.self.front) (c.steps.self.value ∷ []) in
+    kept_ran _ _ _ _ _ _ c.steps.invariant.begins (ran_joined r c.follow.ensures.follows) (omega (arith, l, m, k)) (c.keep.ensures.items
+    ∙ ap (λ z. take (length c.prefix.result.now - 1) c.steps.self.reached.items ++ drop (length c.prefix.result.now - 1) z) c.prefix-then-push.ensures)
 
 pub steps-smaller-else-prefix-decisions : goal.steps-smaller-else-prefix-decisions
 steps-smaller-else-prefix-decisions g c =
-    let v = c.in-Some.ensures.some c.in-Some.value refl in
-    let t = c.if-push.ensures.taken refl in
-    let f = c.follow.ensures.follows in
-    let s = same_then _ _ _ _ _ _ c.steps.invariant.same c.push.ensures.same in
-    let w = v.0 in
-    let out = v.1 in
-    ran_smaller _ _ _ _ _ _ _ _ _ s (push_range _ _ _ _ _ _ _ c.steps.invariant.same v.0 v.1) (t.0 ∙ ap (λ i. g.F.Front.numbers c.steps.self.front ++ i ∷ []) v.0) f.forced f.joined
+    let r = grew c.steps.invariant.same c.steps.invariant.stands (c.in-Some.ensures.some c.in-Some.value refl) (c.if-push.ensures.taken refl) c.push.ensures.same in
+    ran_smaller r c.follow.ensures.follows
 
 pub steps-preserved-else-prefix-decisions : goal.steps-preserved-else-prefix-decisions
 steps-preserved-else-prefix-decisions g c =
-    let v = c.in-Some.ensures.some c.in-Some.value refl in
-    let t = c.if-push.ensures.taken refl in
+    let r = grew c.steps.invariant.same c.steps.invariant.stands (c.in-Some.ensures.some c.in-Some.value refl) (c.if-push.ensures.taken refl) c.push.ensures.same in
     let f = c.follow.ensures.follows in
-    let s = same_then _ _ _ _ _ _ c.steps.invariant.same c.push.ensures.same in
-    let q = same_then _ _ _ _ _ _ s c.follow.ensures.same in
+    let q = same_then _ _ _ _ _ _ r.same c.follow.ensures.same in
     let e = ap length q.sizes in
     let a = ap length c.prefix-then-push-2.ensures in
     let b = c.decisions.ensures in
     let d = c.steps.invariant.charged in
     let n = c.if-self.false in
     let o = c.if-prefix-decisions.false in
-    let count = f.count in
     let within = f.within in
     let l = ap length c.prefix.ensures in
-    let m = ap length t.0 in
-    let k = length-append (g.F.Front.numbers c.steps.self.front) (c.in-Some.value ∷ []) in
-    let stands = taken_stands _ _ _ _ _ _ _ c.steps.invariant.same c.steps.invariant.stands v.1 t.1 t.0 in
-    let counts = grown_counts _ _ _ _ _ _ _ c.steps.invariant.same t.1 t.0 in
-    let is = kept_ran _ _ _ _ _ _ c.steps.invariant.begins (ran_joined _ _ _ _ _ t.0 f.joined) (omega (arith, l, m, k)) (c.keep.ensures.items ∙ ap (λ z. take (length c.prefix.result.now - 1) c.steps.self.reached.items ++ drop (length c.prefix.result.now - 1) z) c.prefix-then-push.ensures) in
+    let m = ap length r.is in
+    let k = length-append (g.F.Front.numbers c.steps.self.front) (c.steps.self.value ∷ []) in
+    let is = kept_ran _ _ _ _ _ _ c.steps.invariant.begins (ran_joined r f) (omega (arith, l, m, k)) (c.keep.ensures.items
+    ∙ ap (λ z. take (length c.prefix.result.now - 1) c.steps.self.reached.items ++ drop (length c.prefix.result.now - 1) z) c.prefix-then-push.ensures) in
     record {
       problem = c.follow.ensures.kept ∙ c.push.ensures.kept ∙ c.steps.invariant.problem;
       same = q;
-      stands = ran_stands _ _ _ _ _ _ _ s stands counts f.forced f.joined;
+      stands = ran_stands r f;
       charged = (omega (arith, d), omega (arith, d, n, within));
       kept = c.steps.invariant.kept;
       begins = begins_taken _ _ is;
       room = (let r = c.keep.ensures.room in let kept = c.steps.invariant.room in omega (arith, r, kept));
-      passed = λ from next. ran_passes _ _ _ _ _ _ _ _ _ _ _ _ _ _ _ (g.met.F.Front.closed c.args.self.now.front) s stands.fits counts (t.0 ∙ ap (λ i. g.F.Front.numbers c.steps.self.front ++ i ∷ []) v.0) f.forced f.joined (λ w. o (omega (arith, e, a, b, w))) (omega (arith, d, count)) is (c.steps.invariant.passed from next);
+      passed = λ from next. ran_passes r f (g.met.F.Front.closed c.args.self.now.front) (omega (arith, d)) (c.steps.invariant.passed from next) (λ w. o (omega (arith, e, a, b, w))) is;
     }
 
 pub steps-smaller : goal.steps-smaller
