@@ -1,7 +1,7 @@
 -- Edges that link one node to another, by tables.
-use Rattle.std.proofs.Common.{◌≡◌, ℕ, ◌⊎◌, ◌↔◌, inl, inr, Bool, true, false, IsTrue, List, [], get_or, sym, ◌∙◌, subst, refl}
+use Rattle.std.proofs.Common.{◌≡◌, ℕ, ◌⊎◌, ◌↔◌, inl, inr, Bool, true, false, IsTrue, List, sym, ◌∙◌, subst, refl}
 use Rattle.std.proofs.lemmas.Bool.{false≢true}
-use Rattle.xdg_nodeset.specs.Tables.{In, Meet}
+use Rattle.xdg_nodeset.specs.Tables.{Meet}
 use Rattle.xdg_problem.specs.declared.analysis.Edge.{Edge}
 use Rattle.xdg_problem.specs.declared.parts.Linking.{Linking}
 use Rattle.xdg_problem.specs.declared.parts.Parts.{Parts}
@@ -26,32 +26,6 @@ far_meets others far node b h meets = (
 -- one of some nodes is an end
 abbrev pub HasEnd : Linking → List ℕ → List (List ℕ) → ℕ → ℕ → Type 0
 HasEnd way others table u v = (x : ℕ) × (has others x ≡ true) × IsEnd way table u v x
-
--- where the way is known
-pub end_as : (way known : Linking) (others : List ℕ) (table : List (List ℕ)) (u v : ℕ) (r : Bool) → way ≡ known → IsTrue r ↔ HasEnd known others table u v → IsTrue r ↔ HasEnd way others table u v
-end_as way known others table u v r is h = subst (λ w. IsTrue r ↔ HasEnd w others table u v) (sym is) h
-
--- each node is one
-pub any_end : (others : List ℕ) (r : Bool) → IsTrue r ↔ Meet others others → IsTrue r ↔ ((x : ℕ) × (has others x ≡ true) × Unit {0})
-any_end others r h = (
-  λ t. (let (x, l, m) = h.0 t in (x, l, tt)),
-  λ (x, l, u). h.1 (x, l, l),
-)
-
--- one node alone
-pub one_end : (others : List ℕ) (b : ℕ) (r : Bool) → r ≡ has others b → IsTrue r ↔ ((x : ℕ) × (has others x ≡ true) × (b ≡ x))
-one_end others b r h = (
-  λ t. (b, sym h ∙ t, refl),
-  λ (x, l, s). h ∙ subst (λ z. has others z ≡ true) (sym s) l,
-)
-
--- one node, and those that the table has for it
-pub far_end : (others far : List ℕ) (table : List (List ℕ)) (b : ℕ) (r : Bool) → far ≡ get_or table b [] → IsTrue r ↔ ((x : ℕ) × (has others x ≡ true) × ((has far x ≡ true) ⊎ (b ≡ x))) → IsTrue r ↔ ((x : ℕ) × (has others x ≡ true) × (In table b x ⊎ (b ≡ x)))
-far_end others far table b r same h = subst (λ z. IsTrue r ↔ ((x : ℕ) × (has others x ≡ true) × ((has z x ≡ true) ⊎ (b ≡ x)))) same h
-
--- those that the table has for a node
-pub table_end : (others far : List ℕ) (table : List (List ℕ)) (b : ℕ) (r : Bool) → far ≡ get_or table b [] → IsTrue r ↔ Meet others far → IsTrue r ↔ ((x : ℕ) × (has others x ≡ true) × In table b x)
-table_end others far table b r same h = subst (λ z. IsTrue r ↔ Meet others z) same h
 
 -- ---- labels
 

@@ -6,7 +6,6 @@ pub mod Sweeping
 pub mod Present
 pub mod Apart
 pub mod Daughters
-pub mod Nearness
 pub mod Keeping
 pub mod Others
 pub mod Closing
