@@ -20,7 +20,7 @@ use Rattle.xdg_rules.specs.Rules.{has, Takes}
 use Rattle.xdg_store.specs.States.{State, Known}
 use Rattle.xdg_propcore.specs.Passes.{Progress, Clears}
 use Rattle.xdg_propcore.specs.Sweeps.{Sweeps}
-use Rattle.xdg_propcore.proofs.Sweeping.{group_stays, sweeps_start, sweeps_skip, sweeps_next}
+use Rattle.xdg_propcore.proofs.Sweeping.{group_stays, sweeps_skip, sweeps_next}
 use Rattle.xdg_pmulti.specs.Aims.{Beyond, Forbids}
 use Rattle.xdg_engine.specs.Freeing.{Dear, TakesFree, NoneFree, OfLabels, OfDims}
 
@@ -74,9 +74,6 @@ abbrev pub Upto : (ℕ → Parts → List (List Bool) → Type 0) → ℕ → Pa
 Upto P k parts box = (i : ℕ) → i < k → P i parts box
 
 module _ (group : Group) (P : ℕ → Parts → List (List Bool) → Type 0) where
-  pub upto_first : (p : Progress) (s : State) → Known s → Sweeps group (Upto P 0 s.parts) p s p s
-  upto_first p s known = sweeps_start group (Upto P 0 s.parts) p s known (λ i l. absurd (omega (arith, l)))
-
   more : (k : ℕ) (parts : Parts) (box : List (List Bool)) → Upto P k parts box → P k parts box → Upto P (k + 1) parts box
   more k parts box before here i l = elim (cases_eq i k) [
     | inl same ↦ subst (λ j. P j parts box) (sym same) here

@@ -1,14 +1,8 @@
 use Rattle.std.proofs.Common.{◌≡◌, ◌∙◌, ap, arith, length}
 use Rattle.xdg_problem.specs.declared.parts.Parts.{Parts}
 use Rattle.xdg_propcore.proofs.Sweeping.{group_stays}
-use Rattle.xdg_engine.proofs.Freed.{AtDim, dims_free, upto_end, upto_first, upto_more}
+use Rattle.xdg_engine.proofs.Freed.{AtDim, dims_free, upto_end, upto_more}
 use Rattle.xdg_engine.proofs.cost_prop.forbid_dear.Goals as goal
-
-pub loop-dim-init : goal.loop-dim-init
-loop-dim-init c = upto_first c.args.group.now (AtDim c.args.rows.now c.args.room) c.args.pass.now c.args.store.now c.requires.known
-
-pub forbid_on-requires-clause-known : goal.forbid_on-requires-clause-known
-forbid_on-requires-clause-known c = c.loop-dim.invariant.known
 
 pub forbid_on-requires-clause-group : goal.forbid_on-requires-clause-group
 forbid_on-requires-clause-group c = group_stays c.args.group.now c.args.pass.now c.args.store.now c.loop-dim.pass c.loop-dim.store c.loop-dim.invariant.goes c.loop-dim.invariant.known c.requires.group

@@ -1,25 +1,15 @@
 use Rattle.std.proofs.Common.{arith}
 use Rattle.xdg_graph.specs.Edges.{edge_labels}
 use Rattle.xdg_propcore.proofs.Sweeping.{group_stays}
-use Rattle.xdg_pmulti.proofs.Forbidding.{stays_below}
 use Rattle.xdg_engine.specs.Freeing.{OfLabels}
-use Rattle.xdg_engine.proofs.Freed.{AtLabel, done_label, free_later, not_dear, upto_end, upto_first, upto_more, upto_skip}
+use Rattle.xdg_engine.proofs.Freed.{AtLabel, done_label, free_later, not_dear, upto_end, upto_more, upto_skip}
 use Rattle.xdg_engine.proofs.cost_prop.forbid_on.Goals as goal
-
-pub loop-label-init : goal.loop-label-init
-loop-label-init c = upto_first c.args.group.now (AtLabel c.args.row.now c.args.room c.args.dim.0) c.args.pass.now c.args.store.now c.requires.known
 
 pub loop-label-preserved-then-cost-room : goal.loop-label-preserved-then-cost-room
 loop-label-preserved-then-cost-room c = upto_skip c.args.group.now (AtLabel c.args.row.now c.args.room c.args.dim.0) c.loop-label.label c.args.pass.now c.args.store.now c.loop-label.pass c.loop-label.store c.loop-label.invariant (not_dear c.args.row.now c.args.room c.args.dim.0 c.loop-label.label c.args.store.now.parts c.loop-label.store.now (let t = c.if-cost-room.true in omega (arith, t)))
 
-pub forbid_label-requires-clause-known : goal.forbid_label-requires-clause-known
-forbid_label-requires-clause-known c = c.loop-label.invariant.known
-
 pub forbid_label-requires-clause-group : goal.forbid_label-requires-clause-group
 forbid_label-requires-clause-group c = group_stays c.args.group.now c.args.pass.now c.args.store.now c.loop-label.pass c.loop-label.store c.loop-label.invariant.goes c.loop-label.invariant.known c.requires.group
-
-pub forbid_label-requires-clause-label : goal.forbid_label-requires-clause-label
-forbid_label-requires-clause-label c = stays_below (λ parts. edge_labels parts c.args.dim.0) c.loop-label.label c.loop-label.store.parts c.args.store.now.parts c.loop-label.invariant.goes.extends.same (let t = c.loop-label-test.true in let e = c.labels_of-label-end.ensures.count in omega (arith, t, e))
 
 pub forbid_label-requires-clause-takes : goal.forbid_label-requires-clause-takes
 forbid_label-requires-clause-takes c = free_later c.args.group.now c.args.dim.0 c.loop-label.label (OfLabels c.args.row.now c.args.room c.args.dim.0 c.loop-label.label c.args.store.now.parts) c.args.pass.now c.args.store.now c.loop-label.pass c.loop-label.store c.loop-label.invariant (c.requires.takes c.loop-label.label (let t = c.loop-label-test.true in let e = c.labels_of-label-end.ensures.count in omega (arith, t, e)) (let t = c.if-cost-room.false in omega (arith, t)))

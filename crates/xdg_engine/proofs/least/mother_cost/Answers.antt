@@ -8,12 +8,6 @@ use Rattle.xdg_engine.proofs.least.mother_cost.Goals as goal
 pub loop-label-preserved-then-cost-eq0 : goal.loop-label-preserved-then-cost-eq0
 loop-label-preserved-then-cost-eq0 c = (label_free c.args.store.now.parts c.args.store.now.now c.args.dim.0 c.args.mother.0 c.loop-label.label c.args.row.now c.loop-label.total c.if-cost-eq0.true c.loop-label.invariant.0, (let most = c.loop-label.invariant.1 in omega (arith, most)))
 
-pub together-total-requires : goal.together-total-requires
-together-total-requires c = (let few = c.len-edges.ensures.nodes.few in let count = c.len-edges.ensures.value in omega (arith, few, count))
-
-pub overflow_add-total : goal.overflow_add-total
-overflow_add-total c = (let most = c.loop-label.invariant.1 in let small = c.together-total.ensures.small in let t = c.loop-label-test.true in let e = c.labels_of-label-end.ensures.small in omega (arith, most, small, t, e))
-
 pub loop-label-preserved : goal.loop-label-preserved
 loop-label-preserved c = (
   ap (λ n. c.loop-label.total + n) (c.together-total.ensures.exact ∙ ap (λ n. slice_index c.args.row.now c.loop-label.label * n) c.len-edges.ensures.value)
@@ -25,6 +19,3 @@ pub returns-clause-exact : goal.returns-clause-exact
 returns-clause-exact c =
     let count : c.loop-label.label ≡ edge_labels c.args.store.now.parts c.args.dim.0 = (let past = c.loop-label-test.false in let end = c.loop-label.auto.label-end in let size = c.labels_of-label-end.ensures.count in omega (arith, past, end, size)) in
     subst (λ k. c.loop-label.total ≡ sum_below (label_sum c.args.store.now.parts c.args.store.now.now c.args.row.now c.args.dim.0 c.args.mother.0) k) count c.loop-label.invariant.0
-
-pub returns-clause-small : goal.returns-clause-small
-returns-clause-small c = (let most = c.loop-label.invariant.1 in let end = c.loop-label.auto.label-end in let e = c.labels_of-label-end.ensures.small in omega (arith, most, end, e))

@@ -1,9 +1,6 @@
-use Rattle.std.proofs.Common.{◌*◌, ◌≤◌, arith}
+use Rattle.std.proofs.Common.{arith}
 use Rattle.xdg_engine.proofs.Totals.{cost_times}
 use Rattle.xdg_engine.proofs.least.together.Goals as goal
-
-pub overflow_mul-result : goal.overflow_mul-result
-overflow_mul-result c = (let most : c.args.cost * c.args.edges ≤ 549755813888 = cost_times c.args.cost c.args.edges (omega arith) c.requires in omega (arith, most))
 
 pub returns-clause-small : goal.returns-clause-small
 returns-clause-small c = cost_times c.args.cost c.args.edges (omega arith) c.requires

@@ -6,9 +6,6 @@ step_since-requires-clause-stands c = rw c.in-Graph.is at c.requires.stands
 pub step_since-requires-clause-held : goal.step_since-requires-clause-held
 step_since-requires-clause-held c = rw c.in-Graph.is at c.requires.held
 
-pub returns-in-Graph-clause-keeps : goal.returns-in-Graph-clause-keeps
-returns-in-Graph-clause-keeps c = rw c.in-Graph.is c.step_since.ensures.keeps
-
 pub returns-in-Graph-clause-same : goal.returns-in-Graph-clause-same
 returns-in-Graph-clause-same c = rw c.in-Graph.is c.step_since.ensures.same
 
@@ -17,9 +14,6 @@ step_since-requires-in-Order-clause-stands c = rw c.in-Order.is at c.requires.st
 
 pub step_since-requires-in-Order-clause-held : goal.step_since-requires-in-Order-clause-held
 step_since-requires-in-Order-clause-held c = rw c.in-Order.is at c.requires.held
-
-pub returns-in-Order-clause-keeps : goal.returns-in-Order-clause-keeps
-returns-in-Order-clause-keeps c = rw c.in-Order.is c.step_since-in-Order.ensures.keeps
 
 pub returns-in-Order-clause-same : goal.returns-in-Order-clause-same
 returns-in-Order-clause-same c = rw c.in-Order.is c.step_since-in-Order.ensures.same
@@ -30,9 +24,6 @@ step_since-requires-in-Agree-clause-stands c = rw c.in-Agree.is at c.requires.st
 pub step_since-requires-in-Agree-clause-held : goal.step_since-requires-in-Agree-clause-held
 step_since-requires-in-Agree-clause-held c = rw c.in-Agree.is at c.requires.held
 
-pub returns-in-Agree-clause-keeps : goal.returns-in-Agree-clause-keeps
-returns-in-Agree-clause-keeps c = rw c.in-Agree.is c.step_since-in-Agree.ensures.keeps
-
 pub returns-in-Agree-clause-same : goal.returns-in-Agree-clause-same
 returns-in-Agree-clause-same c = rw c.in-Agree.is c.step_since-in-Agree.ensures.same
 
@@ -41,9 +32,6 @@ step_since-requires-in-Multi-clause-stands c = rw c.in-Multi.is at c.requires.st
 
 pub step_since-requires-in-Multi-clause-held : goal.step_since-requires-in-Multi-clause-held
 step_since-requires-in-Multi-clause-held c = rw c.in-Multi.is at c.requires.held
-
-pub returns-in-Multi-clause-keeps : goal.returns-in-Multi-clause-keeps
-returns-in-Multi-clause-keeps c = rw c.in-Multi.is c.step_since-in-Multi.ensures.keeps
 
 pub returns-in-Multi-clause-same : goal.returns-in-Multi-clause-same
 returns-in-Multi-clause-same c = rw c.in-Multi.is c.step_since-in-Multi.ensures.same
@@ -54,9 +42,6 @@ step_since-requires-in-Link-clause-stands c = rw c.in-Link.is at c.requires.stan
 pub step_since-requires-in-Link-clause-held : goal.step_since-requires-in-Link-clause-held
 step_since-requires-in-Link-clause-held c = rw c.in-Link.is at c.requires.held
 
-pub returns-in-Link-clause-keeps : goal.returns-in-Link-clause-keeps
-returns-in-Link-clause-keeps c = rw c.in-Link.is c.step_since-in-Link.ensures.keeps
-
 pub returns-in-Link-clause-same : goal.returns-in-Link-clause-same
 returns-in-Link-clause-same c = rw c.in-Link.is c.step_since-in-Link.ensures.same
 
@@ -66,9 +51,6 @@ step_since-requires-in-Rule-clause-stands c = rw c.in-Rule.is at c.requires.stan
 pub step_since-requires-in-Rule-clause-held : goal.step_since-requires-in-Rule-clause-held
 step_since-requires-in-Rule-clause-held c = rw c.in-Rule.is at c.requires.held
 
-pub returns-in-Rule-clause-keeps : goal.returns-in-Rule-clause-keeps
-returns-in-Rule-clause-keeps c = rw c.in-Rule.is c.step_since-in-Rule.ensures.keeps
-
 pub returns-in-Rule-clause-same : goal.returns-in-Rule-clause-same
 returns-in-Rule-clause-same c = rw c.in-Rule.is c.step_since-in-Rule.ensures.same
 
@@ -77,9 +59,6 @@ step_since-requires-in-Cost-clause-stands c = rw c.in-Cost.is at c.requires.stan
 
 pub step_since-requires-in-Cost-clause-held : goal.step_since-requires-in-Cost-clause-held
 step_since-requires-in-Cost-clause-held c = rw c.in-Cost.is at c.requires.held
-
-pub returns-in-Cost-clause-keeps : goal.returns-in-Cost-clause-keeps
-returns-in-Cost-clause-keeps c = rw c.in-Cost.is c.step_since-in-Cost.ensures.keeps
 
 pub returns-in-Cost-clause-same : goal.returns-in-Cost-clause-same
 returns-in-Cost-clause-same c = rw c.in-Cost.is c.step_since-in-Cost.ensures.same

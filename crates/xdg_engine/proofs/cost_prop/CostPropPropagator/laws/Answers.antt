@@ -1,8 +1,5 @@
 use Rattle.xdg_engine.proofs.BoundStaying.{bound_stays}
 use Rattle.xdg_engine.proofs.cost_prop.CostPropPropagator.laws.Goals as goal
 
-pub returns-clause-still_closed : goal.returns-clause-still_closed
-returns-clause-still_closed c p parts box problem is still = still
-
 pub returns-clause-stays_still : goal.returns-clause-stays_still
 returns-clause-stays_still c = bound_stays

@@ -9,9 +9,6 @@ use Rattle.xdg_engine.proofs.cost_prop.CostPropPropagator.step.Goals as goal
 pub use_of-group-requires : goal.use_of-group-requires
 use_of-group-requires c = number_within (BoundAt c.args.self.now.number c.args.self.now.bound c.args.self.now.entries c.args.self.now.labels) c.args.self.now.number _ c.args.store.now c.turn.new.self (λ k h. h.number_is) c.requires.stands c.turn.ensures.turns c.turn.ensures.known c.problem.result.now c.problem.ensures.parts
 
-pub sweep-requires-clause-known : goal.sweep-requires-clause-known
-sweep-requires-clause-known c = c.turn.ensures.known
-
 pub sweep-requires-clause-group : goal.sweep-requires-clause-group
 sweep-requires-clause-group c = group_known (BoundAt c.args.self.now.number c.args.self.now.bound c.args.self.now.entries c.args.self.now.labels) c.args.self.now.number _ c.args.store.now c.turn.new.self (λ k h. h.number_is) c.requires.stands c.turn.ensures.turns c.turn.ensures.known c.problem.result.now c.problem.ensures.parts c.use_of-group.result.now c.use_of-group.ensures.is
 
@@ -32,6 +29,3 @@ returns-clause-moves c = moved_so (BoundAt c.args.self.now.number c.args.self.no
 
 pub returns-clause-turns : goal.returns-clause-turns
 returns-clause-turns c = turns_so (BoundAt c.args.self.now.number c.args.self.now.bound c.args.self.now.entries c.args.self.now.labels) c.args.self.now.number _ c.args.store.now c.turn.new.self (λ k h. h.number_is) c.requires.stands c.turn.ensures.turns c.turn.ensures.known c.problem.result.now c.problem.ensures.parts c.use_of-group.result.now c.use_of-group.ensures.is c.start-pass.result c.sweep.new.pass c.sweep.new.store c.start-pass.ensures c.sweep.ensures
-
-pub returns-clause-known : goal.returns-clause-known
-returns-clause-known c = c.sweep.ensures.known
