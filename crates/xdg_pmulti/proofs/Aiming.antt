@@ -1,10 +1,9 @@
 -- What loops over nodes and labels take, and what the rules take by tables.
-use Rattle.std.proofs.Common.{◌≡◌, ℕ, ◌<◌, ◌≤◌, ◌⊎◌, ◌↔◌, ◌&&◌, ◌||◌, ◌==◌, get_or, inl, inr, Bool, true, IsTrue, List, [], ◌∷◌, refl, sym, ◌∙◌, ap, subst, arith}
+use Rattle.std.proofs.Common.{◌≡◌, ℕ, ◌<◌, ◌≤◌, ◌⊎◌, ◌↔◌, ◌&&◌, get_or, inl, inr, Bool, true, IsTrue, List, [], ◌∷◌, refl, sym, ◌∙◌, ap, subst, arith}
 use Rattle.std.specs.Prelude.{not, Contains, All}
-use Rattle.std.proofs.lemmas.Bool.{cases_Bool, and_parts, and_from, not-true, not_from_false, both_ways, false_from_ne_true, eqb-true, eq-eqb}
+use Rattle.std.proofs.lemmas.Bool.{cases_Bool, and_parts, and_from, not-true, not_from_false, both_ways, false_from_ne_true}
 use Rattle.std.proofs.lemmas.List.Elements.{All-weaker, All-contains_itself}
 use Rattle.xdg_nodeset.specs.Tables.{In}
-use Rattle.xdg_nodeset.proofs.TableSets.{either}
 use Rattle.xdg_problem.proofs.Walks.{closed_above}
 use Rattle.xdg_problem.specs.declared.analysis.Edge.{Edge}
 use Rattle.xdg_problem.specs.declared.parts.Group.{Group}
@@ -110,14 +109,7 @@ leaves_all parts dim k table p q old new all = forbids_same parts dim (ByOne (λ
     (λ e on g. subst (λ u. In table u e.daughter.0 → ⊥) (sym g.2.0) g.2.1)
     (λ e on g. (e.mother.0, (let m = (is_place parts e on.0).mother in omega (arith, m, all)), (refl, g)))
 
--- a node and those below it
-pub under_exact : (over : List (List ℕ)) (barrier : ℕ) (set mothers : List ℕ) → set ≡ get_or over barrier [] → ((n : ℕ) → has mothers n ≡ ((n == barrier) || has set n)) → (x : ℕ) → (has mothers x ≡ true) ↔ ((barrier ≡ x) ⊎ In over barrier x)
-under_exact over barrier set mothers set_is members x = (
-  λ h. elim ((either (x == barrier) (has set x)).0 (sym (members x) ∙ h)) [ inl here ↦ inl (sym (eqb-true x barrier here)) | inr there ↦ inr (subst (λ s. has s x ≡ true) set_is there) ],
-  λ h. members x ∙ (either (x == barrier) (has set x)).1 (elim h [ inl here ↦ inl (eq-eqb x barrier (sym here)) | inr there ↦ inr (subst (λ s. has s x ≡ true) (sym set_is) there) ]),
-)
-
--- they are nodes
+-- a node and those below it are nodes of the sentence
 pub under_within : (parts mid : Parts) (over : List (List ℕ)) (barrier : ℕ) (mothers : List ℕ) → mid ≡ parts → AreNodes parts over → barrier < nodes mid → ((x : ℕ) → (has mothers x ≡ true) ↔ ((barrier ≡ x) ⊎ In over barrier x)) → (u : ℕ) → has mothers u ≡ true → u < nodes mid
 under_within parts mid over barrier mothers same over_is within under u h = elim ((under u).0 h) [
   | inl here ↦ omega (arith, here, within)
@@ -179,9 +171,6 @@ barrier_within parts box dim barrier u is within (inr over) = above_within (node
 abbrev pub AreBlocking : Parts → List (List Bool) → Group → ℕ → List (List ℕ) → Type 0
 AreBlocking parts box group dim table = (label node : ℕ) → In table label node ↔ ((label < edge_labels parts dim) × (node < nodes parts) × Blocks group box node label)
 
-pub blocking_within : (parts : Parts) (box : List (List Bool)) (group : Group) (dim : ℕ) (table : List (List ℕ)) → AreBlocking parts box group dim table → AreNodes parts table
-blocking_within parts box group dim table exact l w i = ((exact l w).0 i).1
-
 pub barriers_done : (group : Group) (one two : ℕ) (barred over near : List (List ℕ)) (p q : Progress) (old new : State) → Known old → one ≡ first_dim group → two ≡ second_dim group → AreBlocking old.parts old.now group two barred → ((a b : ℕ) → In over a b ↔ Above (edges_of whichs.Must old.parts old.now two) a b) → ((a b : ℕ) → In near a b ↔ Above (edges_of whichs.May old.parts old.now one) a b) → Clears (Forbids old.parts two (IsStopped barred over near)) p old q new → Clears (BarriersReach old.parts group old.now) p old q new
 barriers_done group one two barred over near p q old new known one_is two_is blocks above apart = clears_like (Forbids old.parts two (IsStopped barred over near)) (BarriersReach old.parts group old.now) p q old new
     (λ d v f. record {
@@ -212,7 +201,3 @@ barriers_done group one two barred over near p q old new known one_is two_is blo
       );
       says = rule.says;
     })
-
--- the barriers at a label are nodes
-pub barred_within : (parts mid : Parts) (barred : List (List ℕ)) (l : ℕ) (set : List ℕ) → mid ≡ parts → AreNodes parts barred → set ≡ get_or barred l [] → (w : ℕ) → has set w ≡ true → w < nodes mid
-barred_within parts mid barred l set same within set_is w h = subst (λ z. w < nodes z) (sym same) (within l w (subst (λ s. has s w ≡ true) set_is h))
