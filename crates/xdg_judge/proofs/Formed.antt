@@ -1,22 +1,18 @@
 -- When formulas are true, form by form.
 use Rattle.std.proofs.Common.{◌≡◌, ◌↔◌, ℕ, ◌+◌, ◌<◌, ◌≤◌, inl, inr, zero, suc, Bool, true, false, List, [], ◌∷◌, ◌++◌, length, map, take, get_or, refl, sym, ◌∙◌, subst, arith}
-use Rattle.std.specs.Prelude.{IsTrue, not}
+use Rattle.std.specs.Prelude.{IsTrue}
 use Rattle.std.proofs.lemmas.Bool.{false≢true}
 use Rattle.std.proofs.lemmas.List.{take_all}
 use Rattle.xdg_problem.specs.declared.analysis.Analysis.{Analysis}
 use Rattle.xdg_problem.specs.declared.formula.Formula.{Formula}
 use Rattle.xdg_problem.specs.declared.formula.Formula.TheVariants as y
 use Rattle.xdg_problem.specs.declared.parts.Parts.{Parts}
-use Rattle.xdg_problem.specs.Claims.{Claim, negation, conjunction, disjunction, every, some, claims_of, claim}
+use Rattle.xdg_problem.specs.Claims.{Claim, conjunction, disjunction, every, some, claims_of, claim}
 use Rattle.xdg_problem.specs.Places.{nodes}
 use Rattle.xdg_problem.specs.Truths.{bound, unbound, IsTrueIn, FormulaHolds}
-use Rattle.xdg_problem.proofs.Claimed.{claim_not, claim_and, claim_or, claim_every, claim_any}
+use Rattle.xdg_problem.proofs.Claimed.{claim_and, claim_or, claim_every, claim_any}
 use Rattle.xdg_facts.proofs.Numbers.{all_next}
 use Rattle.xdg_problem.proofs.FormulaFronts.{front_more}
-
-turned : (result : Bool) (P : Type 0) → IsTrue result ↔ P → IsTrue (not result) ↔ (P → ⊥)
-turned true P told = (λ t. absurd (false≢true t), λ none. absurd (none (told.0 refl)))
-turned false P told = (λ t p. false≢true (told.1 p), λ none. refl)
 
 refused : (result : Bool) (P Q : Type 0) → result ≡ false → IsTrue result ↔ P → (Q → P) → IsTrue false ↔ Q
 refused result P Q fails told to = (λ t. absurd (false≢true t), λ q. absurd (false≢true (sym fails ∙ told.1 (to q))))
@@ -65,9 +61,6 @@ module _ (parts : Parts) (analysis : Analysis) (b : ℕ → ℕ) where
     -- a formula of a form that claims this
     pub told_as : (form : Formula) (c : Claim) (P : Type 0) → formula ≡ form → claim form ≡ c → P ↔ T c → P ↔ T (claim formula)
     told_as form c P is claims told = subst (λ f. P ↔ T (claim f)) (sym is) (subst (λ d. P ↔ T d) (sym claims) told)
-
-    pub not_told : (f g : Formula) (result : Bool) → formula ≡ y.Not f → g ≡ f → IsTrue result ↔ T (claim g) → IsTrue (not result) ↔ T (claim formula)
-    not_told f g result is same told = told_as (y.Not f) (negation (claim f)) (IsTrue (not result)) is (claim_not f) (turned result (T (claim f)) (subst (λ h. IsTrue result ↔ T (claim h)) same told))
 
     pub and_refused : (fs items : List Formula) (i : ℕ) (f : Formula) (result : Bool) → formula ≡ y.And fs → items ≡ fs → i < length items → f ≡ get_or items i f → IsTrue result ↔ T (claim f) → result ≡ false → IsTrue false ↔ T (claim formula)
     and_refused fs items i f result is same l at told fails =

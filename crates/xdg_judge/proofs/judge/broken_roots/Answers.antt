@@ -1,4 +1,4 @@
-use Rattle.std.proofs.Common.{◌≡◌, sym, subst}
+use Rattle.std.proofs.Common.{sym, subst}
 use Rattle.xdg_problem.specs.declared.conditions.Condition.TheVariants as conditions
 use Rattle.xdg_judge.specs.Verdicts.{IsLeastBroken}
 use Rattle.xdg_judge.proofs.Judging.{roots_broken, roots_counted}

@@ -1,5 +1,0 @@
-use Rattle.xdg_judge.proofs.Ways.{through}
-use Rattle.xdg_judge.proofs.view.View.is_second_above.Goals as goal
-
-pub returns : goal.returns
-returns c = through c.leads.ensures (c.requires.view.second_links.down.far c.args.u c.args.v)
