@@ -26,7 +26,7 @@ use Rattle.xdg_inputs.proofs.Meaning.{Only, meaning_accepted, meaning_refused}
 
 -- ---- no text is empty
 
-pub list_said : (options : ArrangeOptions) (content : List ℕ) (m : Meaning) → IsSaid (ListThen options content m)
+list_said : (options : ArrangeOptions) (content : List ℕ) (m : Meaning) → IsSaid (ListThen options content m)
 list_said options content m = behind_said Listed statuses.BadSentence (IsBadList m options.segment content) (HasList m options.segment content) (AreArranged options.budget) (λ listed. arranged_said options.budget listed)
 
 pub meaning_said : (read : ReadText) (options : ArrangeOptions) (content : List ℕ) → IsSaid (MeaningThen read (ListThen options content))

@@ -7,26 +7,23 @@ use Rattle.xdg_base.specs.declared.faults.Cause.TheVariants as causes
 use Rattle.xdg_base.specs.declared.faults.Fault.{Fault}
 use Rattle.xdg_base.specs.declared.faults.Stop.{Stop}
 use Rattle.xdg_base.specs.declared.faults.Stop.TheVariants as stops
-use Rattle.xdg_packed.specs.Entries.{IsWordPlace}
-use Rattle.xdg_inputs.specs.Answers.{meaning_of}
-use Rattle.xdg_inputs.specs.Packed.{IsPackedOf}
+use Rattle.xdg_inputs.specs.Answers.{grammar_in, meaning_of}
+use Rattle.xdg_inputs.specs.RightLexicons.{HasRightLexicon}
 use Rattle.xdg_inputs.specs.declared.expanding.Expanded.{Expanded}
 use Rattle.xdg_inputs.specs.Meanings.{Meaning}
-use Rattle.xdg_build.specs.Grammars.{Grammar, grammar_of}
+use Rattle.xdg_build.specs.Grammars.{Grammar}
 use Rattle.xdg_inputs.specs.Sentences.{sentence_limit}
 use Rattle.xdg_inputs.proofs.Wording.{grammar_is}
 use Rattle.xdg_io.specs.Left.{TakesAll, TakesCount}
 use Rattle.xdg_io.specs.Rose.{Rose}
 use Rattle.xdg_io.specs.declared.failures.ReadStop.{ReadStop}
 use Rattle.xdg_io.specs.declared.failures.ReadStop.TheVariants as stopped
-use Rattle.xdg_inputs.specs.Grammars.{with_words}
 use Rattle.xdg_inputs.specs.Places.{place_in}
 use Rattle.xdg_inputs.specs.Refusals.{RejectsAt, Stops, refusal_of}
 use Rattle.xdg_inputs.specs.Stages.{Accepts, Rejects}
 use Rattle.xdg_inputs.specs.declared.refusals.Refusal.{Refusal}
 use Rattle.xdg_inputs.specs.declared.refusals.Refusal.TheVariants as refusals
 use Rattle.xdg_inputs.proofs.Trees.{first_byte}
-use Rattle.xdg_packed.specs.Lexicon.{Lexicon}
 use Rattle.xdg_problem.specs.declared.parts.SentenceWord.{SentenceWord}
 use Rattle.xdg_linear.specs.Segments.{words_in}
 use Rattle.xdg_facts.proofs.Texts.{one_place}
@@ -50,32 +47,28 @@ one_fault g segment input f h (no_words b text e) (no_words a texts d) = let r :
 
 -- ---- an input
 
-module _ (made : Expanded) (lexicon : Lexicon) (packed : IsPackedOf made lexicon) (segment : Bool) (input : List ℕ) where
-  -- wherever the words are said to stand, the grammar is the one that is packed
-  here : (dim field : ℕ) → IsWordPlace made.checked.types dim field → with_words (meaning_of made) dim field ≡ grammar_of made.checked lexicon
-  here dim field place = grammar_is made lexicon dim field packed place
-
-  list_or_not : (f : Fault) (listed : Listed) → IsNoList (grammar_of made.checked lexicon) segment input f → HasList (meaning_of made) segment input listed → ⊥
+module _ (made : Expanded) (right : HasRightLexicon made) (segment : Bool) (input : List ℕ) where
+  list_or_not : (f : Fault) (listed : Listed) → IsNoList (grammar_in made) segment input f → HasList (meaning_of made) segment input listed → ⊥
   list_or_not f listed (too_long long e) h = let w = h.within in omega (arith, w, long)
   list_or_not f listed (no_text at within ill valid e) h = ill h.text
   list_or_not f listed (no_words within text e) h =
       let words : refusal listed.grammar.lexicon (words_in segment input) ≡ None = subst (λ ws. refusal listed.grammar.lexicon ws ≡ None) h.words_are h.known in
-      let known : refusal lexicon (words_in segment input) ≡ None = subst (λ (g : Grammar). refusal g.lexicon (words_in segment input) ≡ None) (h.grammar_is ∙ here h.dim h.field h.place) words in
+      let known : refusal made.lexicon (words_in segment input) ≡ None = subst (λ (g : Grammar). refusal g.lexicon (words_in segment input) ≡ None) (h.grammar_is ∙ grammar_is made h.dim h.field right h.place) words in
       let bad : None ≡ Some f = sym known ∙ e in
       cc
 
-  no_here : (text : List ℕ) (f : Fault) → IsBadList (meaning_of made) segment input text f → IsNoList (grammar_of made.checked lexicon) segment input f
-  no_here text f q = subst (λ g. IsNoList g segment input f) (here q.dim q.field q.place) q.because
+  no_here : (text : List ℕ) (f : Fault) → IsBadList (meaning_of made) segment input text f → IsNoList (grammar_in made) segment input f
+  no_here text f q = subst (λ g. IsNoList g segment input f) (grammar_is made q.dim q.field right q.place) q.because
 
   -- the words, which aren't refused
-  pub list_accepted : (words : List SentenceWord) → length input ≤ sentence_limit → IsUtf8 input → words ≡ words_in segment input → refusal lexicon words ≡ None
-      → Accepts Listed (IsBadList (meaning_of made) segment input) (HasList (meaning_of made) segment input) (record { grammar = grammar_of made.checked lexicon; words = words })
+  pub list_accepted : (words : List SentenceWord) → length input ≤ sentence_limit → IsUtf8 input → words ≡ words_in segment input → refusal made.lexicon words ≡ None
+      → Accepts Listed (IsBadList (meaning_of made) segment input) (HasList (meaning_of made) segment input) (record { grammar = grammar_in made; words = words })
   list_accepted words within text are known =
-      let own : HasList (meaning_of made) segment input (record { grammar = grammar_of made.checked lexicon; words = words }) = record {
-        dim = lexicon.dim;
-        field = lexicon.field;
-        place = packed.place;
-        grammar_is = sym (here lexicon.dim lexicon.field packed.place);
+      let own : HasList (meaning_of made) segment input (record { grammar = grammar_in made; words = words }) = record {
+        dim = made.lexicon.dim;
+        field = made.lexicon.field;
+        place = right.placed.place;
+        grammar_is = refl;
         within = within;
         text = text;
         words_are = are;
@@ -83,19 +76,19 @@ module _ (made : Expanded) (lexicon : Lexicon) (packed : IsPackedOf made lexicon
       } in
       record {
         has = own;
-        one = λ other h. ap₂ (λ g ws. let one : Listed = record { grammar = g; words = ws } in one) (h.grammar_is ∙ here h.dim h.field h.place) (h.words_are ∙ sym are);
-        never = λ t f q. list_or_not f (record { grammar = grammar_of made.checked lexicon; words = words }) (no_here t f q) own;
+        one = λ other h. ap₂ (λ g ws. let one : Listed = record { grammar = g; words = ws } in one) (h.grammar_is ∙ grammar_is made h.dim h.field right h.place) (h.words_are ∙ sym are);
+        never = λ t f q. list_or_not f (record { grammar = grammar_in made; words = words }) (no_here t f q) own;
       }
 
-  list_rejected : (f : Fault) → IsNoList (grammar_of made.checked lexicon) segment input f → Rejects Listed (IsBadList (meaning_of made) segment input) (HasList (meaning_of made) segment input) input f
+  list_rejected : (f : Fault) → IsNoList (grammar_in made) segment input f → Rejects Listed (IsBadList (meaning_of made) segment input) (HasList (meaning_of made) segment input) input f
   list_rejected f bad = record {
-    is = record { dim = lexicon.dim; field = lexicon.field; place = packed.place; text_is = refl; because = subst (λ g. IsNoList g segment input f) (sym (here lexicon.dim lexicon.field packed.place)) bad };
-    one = λ t h q. (q.text_is, one_fault (grammar_of made.checked lexicon) segment input h f (no_here t h q) bad);
+    is = record { dim = made.lexicon.dim; field = made.lexicon.field; place = right.placed.place; text_is = refl; because = bad };
+    one = λ t h q. (q.text_is, one_fault (grammar_in made) segment input h f (no_here t h q) bad);
     never = λ other h. list_or_not f other bad h;
   }
 
   -- those that are
-  pub words_stop : (stop : Stop) → length input ≤ sentence_limit → IsUtf8 input → IsRefused lexicon (words_in segment input) stop
+  pub words_stop : (stop : Stop) → length input ≤ sentence_limit → IsUtf8 input → IsRefused made.lexicon (words_in segment input) stop
       → Stops (Unit {0}) 0 0 Listed (IsBadList (meaning_of made) segment input) (HasList (meaning_of made) segment input) (refusal_of input stop)
   words_stop (stops.Fault f) within text e = λ told. record { text = input; rejects = list_rejected f (no_words within text e); place_is = refl }
   words_stop stops.OutOfMemory within text e = tt
@@ -132,15 +125,15 @@ taken_within told (Some rest) count input t e =
     subst (λ z. count ≤ length z) (sym is) (omega (arith, size, sum))
 
 -- more bytes than a sentence may have are refused
-pub long_stops : (made : Expanded) (lexicon : Lexicon) → IsPackedOf made lexicon → (segment : Bool) (told new : Option (List ℕ)) (before after : ℕ) (stop : ReadStop) (reached : ℕ) (refusal : Refusal)
+pub long_stops : (made : Expanded) → HasRightLexicon made → (segment : Bool) (told new : Option (List ℕ)) (before after : ℕ) (stop : ReadStop) (reached : ℕ) (refusal : Refusal)
     → ((r : ℕ) → stop ≡ stopped.TooLong r → (r ≡ sentence_limit + 1) × TakesCount told new (sentence_limit + 1)) → stop ≡ stopped.TooLong reached → refusal ≡ refusals.Text (fault causes.TooLong 0 reached) (record { line = 1; column = 1 })
     → (input : List ℕ) → Stops (told ≡ Some input) before after Listed (IsBadList (meaning_of made) segment input) (HasList (meaning_of made) segment input) refusal
-long_stops made lexicon packed segment told new before after stop reached refusal takes is says input =
+long_stops made right segment told new before after stop reached refusal takes is says input =
     let long = takes reached is in
     let refusal_is : refusal ≡ refusals.Text (fault causes.TooLong 0 (sentence_limit + 1)) (record { line = 1; column = 1 }) =
     says ∙ ap (λ n. refusals.Text (fault causes.TooLong 0 n) (record { line = 1; column = 1 })) long.0 in
     subst (Stops (told ≡ Some input) before after Listed (IsBadList (meaning_of made) segment input) (HasList (meaning_of made) segment input)) (sym refusal_is)
-    (λ e. long_rejected made lexicon packed segment input (let some = taken_within told new (sentence_limit + 1) input long.1 e in omega (arith, some)))
+    (λ e. long_rejected made right segment input (let some = taken_within told new (sentence_limit + 1) input long.1 e in omega (arith, some)))
 
 module _ (m : Meaning) (segment : Bool) (told new : Option (List ℕ)) (bytes : List ℕ) (before after : ℕ) where
   abbrev Stopped : Refusal → Type 0

@@ -2,8 +2,8 @@
 
 ghost use Rattle.std.specs.Prelude.{◌≡◌, ◌≢◌, ◌≤◌, ◌⊎◌, ℕ, List, [], Option, Some, length};
 ghost use Rattle.xdg_arrange.specs.Outcomes.{ArrangeEnds, ArrangeOf, ListThen};
-ghost use Rattle.xdg_packed.specs.Entries.{IsRightLexicon};
 ghost use Rattle.xdg_inputs.specs.Answers.{meaning_of};
+ghost use Rattle.xdg_inputs.specs.RightLexicons.{HasRightLexicon};
 ghost use Rattle.xdg_io.specs.Rose.{Rose};
 ghost use Rattle.xdg_inputs.specs.Loaded.{read_of};
 ghost use Rattle.xdg_inputs.specs.Outcomes.{MeaningThen};
@@ -12,11 +12,8 @@ ghost use Rattle.xdg_inputs.specs.Runs.{LeavesFront};
 use crate::lists::read_list;
 use crate::printing::print_arrangements;
 use std::alloc::Global;
-use xdg_base::OutOfMemory;
 use xdg_command::ArrangeOptions;
-use xdg_inputs::{
-    Expanded, Loaded, Status, expand_tree, load_tree, pack_entries, refuse, stopped_in,
-};
+use xdg_inputs::{Expanded, Loaded, Status, expand_tree, load_tree, refuse, stopped_in};
 use xdg_io::{Shelf, Sink, Source};
 
 /// Reads the words of the input and prints their arrangements, or the fault line of what is refused.
@@ -27,7 +24,7 @@ fn arrange_expanded<S: Source, K: Sink>(
     input: &mut S,
     out: &mut K,
 ) -> Status
-    requires lexicon { IsRightLexicon expanded.now.checked.types expanded.now.entries }
+    requires lexicon { HasRightLexicon expanded.now }
     ensures leaves { (content : List ℕ) → S.left input.old ≡ Some content →
         LeavesFront (ListThen options.now content (meaning_of expanded.now)) result (K.held out.old) (K.held out.new) }
     ensures unwritten { result ≡ Status.ReadFault → K.held out.new ≡ K.held out.old }
@@ -41,12 +38,8 @@ fn arrange_expanded<S: Source, K: Sink>(
     ensures all_read { (content : List ℕ) → (result ≡ Status.Done) ⊎ (result ≡ Status.Spent) → S.left input.old ≡ Some content → S.left input.new ≡ Some [] }
     ensures accepted { (result ≡ Status.BadText → ⊥) × (result ≡ Status.BadGrammar → ⊥) }
 {
-    let packed = match pack_entries(alloc, expanded) {
-        Ok(packed) => packed,
-        Err(OutOfMemory) => return Status::OutOfMemory,
-    };
-    match read_list(alloc, expanded, &packed, options.segment, input) {
-        Ok(words) => print_arrangements(alloc, options.budget, expanded, &packed, &words, out),
+    match read_list(alloc, expanded, options.segment, input) {
+        Ok(words) => print_arrangements(alloc, options.budget, expanded, &words, out),
         Err(refusal) => refuse(refusal, Status::BadSentence, out),
     }
 }

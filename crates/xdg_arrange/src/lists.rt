@@ -3,9 +3,8 @@
 ghost use Rattle.std.specs.Prelude.{◌≡◌, ◌≢◌, ◌≤◌, ◌<◌, ◌^◌, ℕ, List, [], None, Some, length, IfErr, IfOk, MatchResult};
 ghost use Rattle.xdg_arrange.specs.Lists.{HasList, IsBadList, IsRefused, Listed};
 ghost use Rattle.xdg_arrange.specs.Lists as spec;
-ghost use Rattle.xdg_inputs.specs.Answers.{meaning_of};
-ghost use Rattle.xdg_inputs.specs.Packed.{IsPackedOf};
-ghost use Rattle.xdg_build.specs.Grammars.{grammar_of};
+ghost use Rattle.xdg_inputs.specs.Answers.{grammar_in, meaning_of};
+ghost use Rattle.xdg_inputs.specs.RightLexicons.{HasRightLexicon};
 ghost use Rattle.xdg_io.specs.Rose.{Rose};
 ghost use Rattle.xdg_inputs.specs.Refusals.{Stops};
 ghost use Rattle.xdg_inputs.specs.Stages.{Accepts};
@@ -28,15 +27,11 @@ const LIST_LIMIT: u64 = 65_536;
 const WORDS: usize = 8;
 
 /// Why words are not arranged: there is none, or too many, or one has no entry.
-fn refusal(packed: &Packed, words: &[SentenceWord]) -> Option<Fault>
-    ensures { result ≡ spec.refusal packed.now words.now }
+fn refusal(lexicon: &Packed, words: &[SentenceWord]) -> Option<Fault>
+    ensures { result ≡ spec.refusal lexicon.now words.now }
 {
     if words.is_empty() {
-        return Some(Fault {
-            cause: Cause::EmptySentence,
-            at: 0,
-            reached: 0,
-        });
+        return Some(Fault::at(Cause::EmptySentence, 0));
     }
     match words.get(WORDS) {
         Some(word) => Some(Fault {
@@ -44,27 +39,27 @@ fn refusal(packed: &Packed, words: &[SentenceWord]) -> Option<Fault>
             at: word.at,
             reached: WORDS as u64 + 1,
         }),
-        None => first_unknown(packed, words),
+        None => first_unknown(lexicon, words),
     }
 }
 
 /// The words of a text, cut by the Unicode rules of word boundaries where that is asked for.
 fn words_within(
     alloc: Global,
-    packed: &Packed,
+    lexicon: &Packed,
     segment: bool,
     text: &str,
 ) -> Result<List<SentenceWord>, Stop>
     requires { length text.now < 2 ^ 32 }
     ensures words { IfOk result (λ words. words ≡ words_in segment text.now) }
-    ensures known { IfOk result (λ words. spec.refusal packed.now words ≡ None) }
+    ensures known { IfOk result (λ words. spec.refusal lexicon.now words ≡ None) }
     ensures few { IfOk result (λ words. length words ≤ 8) }
-    ensures refused { IfErr result (IsRefused packed.now (words_in segment text.now)) }
+    ensures refused { IfErr result (IsRefused lexicon.now (words_in segment text.now)) }
 {
     let Ok(words) = words_of(alloc, text, segment) else {
         return Err(Stop::OutOfMemory);
     };
-    match refusal(packed, words.as_slice()) {
+    match refusal(lexicon, words.as_slice()) {
         Some(fault) => Err(Stop::Fault(fault)),
         None => Ok(words),
     }
@@ -74,16 +69,15 @@ fn words_within(
 fn list_in(
     alloc: Global,
     expanded: &Expanded,
-    packed: &Packed,
     segment: bool,
     input: &[u8],
 ) -> Result<List<SentenceWord>, Refusal>
     requires within { length input.now ≤ 65536 }
-    requires packed { IsPackedOf expanded.now packed.now }
+    requires lexicon { HasRightLexicon expanded.now }
     ensures few { IfOk result (λ words. length words ≤ 8) }
     ensures found { IfOk result (λ words.
         Accepts Listed (IsBadList (meaning_of expanded.now) segment input.now) (HasList (meaning_of expanded.now) segment input.now)
-        (record { grammar = grammar_of expanded.now.checked packed.now; words = words })) }
+        (record { grammar = grammar_in expanded.now; words = words })) }
     ensures refused { IfErr result (Stops (Unit {0}) 0 0 Listed
         (IsBadList (meaning_of expanded.now) segment input.now) (HasList (meaning_of expanded.now) segment input.now)) }
 {
@@ -91,7 +85,7 @@ fn list_in(
         Ok(text) => text,
         Err(error) => return Err(no_text(input, error.valid_up_to())),
     };
-    match words_within(alloc, packed, segment, text) {
+    match words_within(alloc, &expanded.lexicon, segment, text) {
         Ok(words) => Ok(words),
         Err(stop) => Err(stopped_in(input, stop)),
     }
@@ -101,14 +95,13 @@ fn list_in(
 pub(crate) fn read_list<S: Source>(
     alloc: Global,
     expanded: &Expanded,
-    packed: &Packed,
     segment: bool,
     source: &mut S,
 ) -> Result<List<SentenceWord>, Refusal>
-    requires packed { IsPackedOf expanded.now packed.now }
+    requires lexicon { HasRightLexicon expanded.now }
     ensures found { IfOk result (λ words. (input : List ℕ) → S.left source.old ≡ Some input →
         Accepts Listed (IsBadList (meaning_of expanded.now) segment input) (HasList (meaning_of expanded.now) segment input)
-        (record { grammar = grammar_of expanded.now.checked packed.now; words = words })) }
+        (record { grammar = grammar_in expanded.now; words = words })) }
     ensures few { IfOk result (λ words. length words ≤ 8) }
     ensures refused { IfErr result (λ refusal. (input : List ℕ) →
         Stops (S.left source.old ≡ Some input) (S.faults source.old) (S.faults source.new) Listed
@@ -125,5 +118,5 @@ pub(crate) fn read_list<S: Source>(
         Err(ReadStop::OutOfMemory) => return Err(Refusal::Memory),
         Err(ReadStop::TooLong { reached }) => return Err(too_long(reached)),
     };
-    list_in(alloc, expanded, packed, segment, &input)
+    list_in(alloc, expanded, segment, &input)
 }

@@ -6,21 +6,19 @@ ghost use Rattle.xdg_arrange.specs.Texts.{AreArranged};
 ghost use Rattle.xdg_build.specs.Compiled.{compiled};
 ghost use Rattle.xdg_build.specs.Solutions.{KeepsSolutions};
 ghost use Rattle.xdg_build.specs.Stocks.{IsStock};
-ghost use Rattle.xdg_packed.specs.Entries.{IsRightLexicon};
-ghost use Rattle.xdg_inputs.specs.Packed.{IsPackedOf};
-ghost use Rattle.xdg_build.specs.Grammars.{grammar_of};
+ghost use Rattle.xdg_inputs.specs.Answers.{grammar_in};
 ghost use Rattle.xdg_io.specs.Rose.{Rose};
 ghost use Rattle.xdg_linear.specs.Ranks.{words_at};
 ghost use Rattle.xdg_inputs.specs.Runs.{LeavesFront};
+ghost use Rattle.xdg_inputs.specs.RightLexicons.{HasRightLexicon};
 
 use crate::searching::{Searched, print_arrangement};
-use std::alloc::{AllocError, Global};
+use std::alloc::Global;
 use xdg_base::{List, OutOfMemory};
 use xdg_build::Stock;
 use xdg_inputs::{Expanded, Status};
 use xdg_io::Sink;
 use xdg_linear::Arrangements;
-use xdg_packed::Packed;
 use xdg_problem::{Problem, SentenceWord};
 use xdg_text::{write_complete, write_spent};
 
@@ -29,7 +27,7 @@ fn words_at(
     alloc: Global,
     words: &[SentenceWord],
     ranks: &[u8],
-) -> Result<List<SentenceWord>, AllocError>
+) -> Result<List<SentenceWord>, OutOfMemory>
     ensures { IfOk result (λ made. made ≡ words_at words.now ranks.now) }
 {
     let mut made = List::new(alloc);
@@ -50,20 +48,18 @@ fn words_at(
 fn problem_at(
     alloc: Global,
     expanded: &Expanded,
-    packed: &Packed,
     stock: &mut Stock,
     words: &List<SentenceWord>,
     ranks: &[u8],
 ) -> Result<Problem, OutOfMemory>
-    requires lexicon { IsRightLexicon expanded.now.checked.types expanded.now.entries }
-    requires packed { IsPackedOf expanded.now packed.now }
-    requires stock { IsStock (grammar_of expanded.now.checked packed.now) stock.old }
-    ensures stock { OnOk result (IsStock (grammar_of expanded.now.checked packed.now) stock.new) }
-    ensures compiled { IfOk result (λ problem. problem ≡ compiled (grammar_of expanded.now.checked packed.now) (words_at words.now ranks.now)) }
-    ensures keeps { IfOk result (KeepsSolutions (grammar_of expanded.now.checked packed.now) (words_at words.now ranks.now)) }
+    requires lexicon { HasRightLexicon expanded.now }
+    requires stock { IsStock (grammar_in expanded.now) stock.old }
+    ensures stock { OnOk result (IsStock (grammar_in expanded.now) stock.new) }
+    ensures compiled { IfOk result (λ problem. problem ≡ compiled (grammar_in expanded.now) (words_at words.now ranks.now)) }
+    ensures keeps { IfOk result (KeepsSolutions (grammar_in expanded.now) (words_at words.now ranks.now)) }
 {
     let words = words_at(alloc, words.as_slice(), ranks)?;
-    match stock.build(alloc, &expanded.checked, packed, words) {
+    match stock.build(alloc, &expanded.checked, &expanded.lexicon, words) {
         Ok(problem) => Ok(problem),
         Err(_) => Err(OutOfMemory),
     }
@@ -74,29 +70,27 @@ fn print_ranks<K: Sink>(
     alloc: Global,
     budget: u64,
     expanded: &Expanded,
-    packed: &Packed,
     stock: &mut Stock,
     words: &List<SentenceWord>,
     ranks: &[u8],
     number: u64,
     out: &mut K,
 ) -> Searched
-    requires lexicon { IsRightLexicon expanded.now.checked.types expanded.now.entries }
-    requires packed { IsPackedOf expanded.now packed.now }
-    requires stock { IsStock (grammar_of expanded.now.checked packed.now) stock.old }
-    ensures stock { result ≢ Searched.OutOfMemory → IsStock (grammar_of expanded.now.checked packed.now) stock.new }
+    requires lexicon { HasRightLexicon expanded.now }
+    requires stock { IsStock (grammar_in expanded.now) stock.old }
+    ensures stock { result ≢ Searched.OutOfMemory → IsStock (grammar_in expanded.now) stock.new }
     ensures written { Writes result budget
-        (compiled (grammar_of expanded.now.checked packed.now) (words_at words.now ranks.now))
+        (compiled (grammar_in expanded.now) (words_at words.now ranks.now))
         (arrangement_line number (words_at words.now ranks.now)) (K.held out.old) (K.held out.new) }
-    ensures one { result ≢ Searched.OutOfMemory → IsOneFind budget (compiled (grammar_of expanded.now.checked packed.now) (words_at words.now ranks.now)) }
+    ensures one { result ≢ Searched.OutOfMemory → IsOneFind budget (compiled (grammar_in expanded.now) (words_at words.now ranks.now)) }
     ensures keeps { result ≢ Searched.OutOfMemory →
-        KeepsSolutions (grammar_of expanded.now.checked packed.now) (words_at words.now ranks.now)
-        (compiled (grammar_of expanded.now.checked packed.now) (words_at words.now ranks.now)) }
+        KeepsSolutions (grammar_in expanded.now) (words_at words.now ranks.now)
+        (compiled (grammar_in expanded.now) (words_at words.now ranks.now)) }
     ensures cause { result ≡ Searched.Failed → Rose (K.faults out.old) (K.faults out.new) }
     ensures lasting { K.faults out.old ≤ K.faults out.new }
     ensures quiet { result ≢ Searched.Failed → K.faults out.new ≡ K.faults out.old }
 {
-    match problem_at(alloc, expanded, packed, stock, words, ranks) {
+    match problem_at(alloc, expanded, stock, words, ranks) {
         Ok(problem) => print_arrangement(alloc, &problem, budget, number, out),
         Err(OutOfMemory) => Searched::OutOfMemory,
     }
@@ -116,22 +110,20 @@ pub(crate) fn print_arrangements<K: Sink>(
     alloc: Global,
     budget: u64,
     expanded: &Expanded,
-    packed: &Packed,
     words: &List<SentenceWord>,
     out: &mut K,
 ) -> Status
     requires few { length words.now ≤ 8 }
-    requires lexicon { IsRightLexicon expanded.now.checked.types expanded.now.entries }
-    requires packed { IsPackedOf expanded.now packed.now }
+    requires lexicon { HasRightLexicon expanded.now }
     ensures leaves { LeavesFront
-        (AreArranged budget (record { grammar = grammar_of expanded.now.checked packed.now; words = words.now }))
+        (AreArranged budget (record { grammar = grammar_in expanded.now; words = words.now }))
         result (K.held out.old) (K.held out.new) }
     ensures write_fault { result ≡ Status.WriteFault → Rose (K.faults out.old) (K.faults out.new) }
     ensures out_lasting { K.faults out.old ≤ K.faults out.new }
     ensures out_quiet { result ≢ Status.WriteFault → K.faults out.new ≡ K.faults out.old }
     ensures ends { (result ≡ Status.Done) ⊎ ((result ≡ Status.Spent) ⊎ ((result ≡ Status.WriteFault) ⊎ (result ≡ Status.OutOfMemory))) }
 {
-    let Ok(mut stock) = Stock::new(alloc, &expanded.checked, packed) else {
+    let Ok(mut stock) = Stock::new(alloc, &expanded.checked, &expanded.lexicon) else {
         return Status::OutOfMemory;
     };
     let Ok(mut arrangements) = Arrangements::of(alloc, words) else {
@@ -151,7 +143,6 @@ pub(crate) fn print_arrangements<K: Sink>(
             alloc,
             budget,
             expanded,
-            packed,
             &mut stock,
             words,
             arrangements.view(),

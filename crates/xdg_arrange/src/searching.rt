@@ -12,7 +12,7 @@ ghost use Rattle.xdg_text.specs.Constants.{quoted};
 ghost use Rattle.xdg_text.specs.Lines.{line};
 ghost use Rattle.xdg_text.specs.Words.{word_text};
 
-use std::alloc::{AllocError, Global};
+use std::alloc::Global;
 use xdg_base::{EntryNo, OutOfMemory};
 use xdg_engine::props;
 use xdg_io::{Failed, Sink};
@@ -39,7 +39,7 @@ fn lead_of<'a>(
     alloc: Global,
     number: u64,
     words: &'a [SentenceWord],
-) -> Result<Vec<Word<'a>>, AllocError>
+) -> Result<Vec<Word<'a>>, OutOfMemory>
     ensures { IfOk result (λ made. map word_text made.items ≡ decimal number ∷ map (λ word. quoted word.text) words.entry.now) }
 {
     let mut made = Vec::new(alloc);

@@ -4,10 +4,10 @@ ghost use Rattle.std.specs.Prelude.{◌≡◌, [], IfOk};
 ghost use Rattle.xdg_ast.specs.Grammar.{is_among, params_of};
 
 use crate::grammar::ClassParam;
-use std::alloc::{AllocError, Global};
+use std::alloc::Global;
 use std::collections::BTreeSet;
 use std::marker::Model;
-use xdg_base::{List, Text};
+use xdg_base::{List, OutOfMemory, Text};
 
 /// The names of the parameters of a class, seen as the list of them.
 #[derive(Debug, Drop)]
@@ -44,7 +44,7 @@ impl Params {
     }
 
     /// Of the class with these parameters. The time is that of sorting them.
-    pub fn of(alloc: Global, params: &[ClassParam]) -> Result<Params, AllocError>
+    pub fn of(alloc: Global, params: &[ClassParam]) -> Result<Params, OutOfMemory>
         ensures { IfOk result (λ made. made ≡ params_of params.now) }
     {
         let mut names = List::new(alloc);

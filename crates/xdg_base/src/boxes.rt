@@ -2,7 +2,8 @@
 
 ghost use Rattle.std.specs.Prelude.{◌≡◌, IfOk};
 
-use std::alloc::{AllocError, Global};
+use crate::faults::OutOfMemory;
+use std::alloc::Global;
 use std::marker::Model;
 
 /// A value on the heap. A type that holds itself keeps a part of its own type in it.
@@ -30,7 +31,7 @@ impl<T> Boxed<T> {
 
 impl<T: Drop> Boxed<T> {
     /// Moves a value to the heap. On want of memory the value is dropped.
-    pub fn new(alloc: Global, value: T) -> Result<Boxed<T>, AllocError>
+    pub fn new(alloc: Global, value: T) -> Result<Boxed<T>, OutOfMemory>
         ensures { IfOk result (λ boxed. boxed ≡ value) }
     {
         Ok(Boxed {

@@ -1,9 +1,10 @@
 //! Why an input is refused, and where.
 
 ghost use Rattle.std.specs.Prelude.{◌≡◌, ◌<◌};
-ghost use Rattle.xdg_base.specs.Faults.{number_of, name_of, tells_reached};
+ghost use Rattle.xdg_base.specs.Faults.{number_of, name_of, tells_reached, fault_at};
 
-use std::alloc::AllocError;
+/// No memory was to be had. It is the error of the standard library, so that what a call of that library gives stands for itself.
+pub use std::alloc::AllocError as OutOfMemory;
 
 /// Why an input is refused. Each cause has a number, told by [`number`].
 #[derive(Clone, Copy, Debug, PartialEq, Eq)]
@@ -170,15 +171,16 @@ pub struct Fault {
     pub reached: u64,
 }
 
-/// No memory was to be had.
-#[derive(Clone, Copy, Debug, PartialEq, Eq)]
-pub struct OutOfMemory;
-
-impl From<AllocError> for OutOfMemory {
-    ghost from_gives = { λ _ _. Unit {0} };
-
-    fn from(_: AllocError) -> OutOfMemory {
-        OutOfMemory
+impl Fault {
+    /// A fault of a cause that tells no number, at a byte place.
+    pub fn at(cause: Cause, at: u32) -> Fault
+        ensures { result ≡ fault_at cause at }
+    {
+        Fault {
+            cause,
+            at,
+            reached: 0,
+        }
     }
 }
 
@@ -198,17 +200,6 @@ impl From<OutOfMemory> for Stop {
     ghost from_gives = { λ _ stop. stop ≡ stops.OutOfMemory };
 
     fn from(_: OutOfMemory) -> Stop {
-        Stop::OutOfMemory
-    }
-}
-
-impl From<AllocError> for Stop {
-    ghost use Rattle.std.specs.Prelude.{◌≡◌};
-    ghost use Rattle.xdg_base.specs.declared.faults.Stop.TheVariants as stops;
-
-    ghost from_gives = { λ _ stop. stop ≡ stops.OutOfMemory };
-
-    fn from(_: AllocError) -> Stop {
         Stop::OutOfMemory
     }
 }

@@ -3,7 +3,8 @@
 ghost use Rattle.std.specs.Prelude.{◌≡◌, ◌<◌, ◌+◌, [], ◌∷◌, ◌++◌, length, slice_get, IsTrue, ◌↔◌, IfOk, OnOk, OnErr, MatchOption};
 ghost use Rattle.std.specs.Option.{option_copied};
 
-use std::alloc::{AllocError, Global};
+use crate::faults::OutOfMemory;
+use std::alloc::Global;
 use std::marker::Model;
 
 /// A growing list.
@@ -34,7 +35,7 @@ impl<T> List<T> {
     }
 
     /// The list without elements, with room for so many.
-    pub fn with_room(alloc: Global, room: usize) -> Result<List<T>, AllocError>
+    pub fn with_room(alloc: Global, room: usize) -> Result<List<T>, OutOfMemory>
         ensures { IfOk result (λ made. made ≡ []) }
     {
         let items = Vec::with_capacity(alloc, room)?;
@@ -79,7 +80,7 @@ impl<T> List<T> {
 
 impl<T: Drop> List<T> {
     /// Adds an element at the end. On want of memory the list stays as it was.
-    pub fn push(&mut self, item: T) -> Result<(), AllocError>
+    pub fn push(&mut self, item: T) -> Result<(), OutOfMemory>
         ensures ok { OnOk result (self.new ≡ self.old ++ item ∷ []) }
         ensures err { OnErr result (self.new ≡ self.old) }
     {
@@ -97,7 +98,7 @@ impl<T: Drop> List<T> {
 
 impl<T: Copy> List<T> {
     /// A copy of a slice.
-    pub fn from_slice(alloc: Global, items: &[T]) -> Result<List<T>, AllocError>
+    pub fn from_slice(alloc: Global, items: &[T]) -> Result<List<T>, OutOfMemory>
         ensures { IfOk result (λ list. list ≡ items.now) }
     {
         let items = Vec::from_slice(alloc, items)?;
@@ -134,7 +135,7 @@ impl Text {
     }
 
     /// A copy of a text.
-    pub fn from_str(alloc: Global, text: &str) -> Result<Text, AllocError>
+    pub fn from_str(alloc: Global, text: &str) -> Result<Text, OutOfMemory>
         ensures { IfOk result (λ made. made ≡ text.now) }
     {
         Ok(Text {
@@ -150,7 +151,7 @@ impl Text {
     }
 
     /// Adds a text at the end. On want of memory the text stays as it was.
-    pub fn push_str(&mut self, text: &str) -> Result<(), AllocError>
+    pub fn push_str(&mut self, text: &str) -> Result<(), OutOfMemory>
         ensures ok { OnOk result (self.new ≡ self.old ++ text.now) }
         ensures err { OnErr result (self.new ≡ self.old) }
     {
@@ -158,7 +159,7 @@ impl Text {
     }
 
     /// A copy.
-    pub fn copy(&self, alloc: Global) -> Result<Text, AllocError>
+    pub fn copy(&self, alloc: Global) -> Result<Text, OutOfMemory>
         ensures { IfOk result (λ made. made ≡ self.now) }
     {
         Text::from_str(alloc, self.as_str())
@@ -200,7 +201,7 @@ impl Bytes {
     }
 
     /// A copy of a slice.
-    pub fn from_slice(alloc: Global, bytes: &[u8]) -> Result<Bytes, AllocError>
+    pub fn from_slice(alloc: Global, bytes: &[u8]) -> Result<Bytes, OutOfMemory>
         ensures { IfOk result (λ made. made ≡ bytes.now) }
     {
         let bytes = Vec::from_slice(alloc, bytes)?;
@@ -215,7 +216,7 @@ impl Bytes {
     }
 
     /// Adds bytes at the end. On want of memory nothing is added.
-    pub fn extend(&mut self, more: &[u8]) -> Result<(), AllocError>
+    pub fn extend(&mut self, more: &[u8]) -> Result<(), OutOfMemory>
         ensures ok { OnOk result (self.new ≡ self.old ++ more.now) }
         ensures err { OnErr result (self.new ≡ self.old) }
     {

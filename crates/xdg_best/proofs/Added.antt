@@ -6,12 +6,12 @@ use Rattle.std.proofs.lemmas.List.{length-set}
 use Rattle.std.proofs.lemmas.List.Folds.{list_any-append}
 use Rattle.std.proofs.lemmas.List.Quantifiers.{all_pairs_push}
 use Rattle.std.proofs.lemmas.Bool.{eqb-true, eqb-false, eq-eqb, ltb-false, cases_eq, false_from_ne_true, ne_eqb, le-ltb, true≢false, false≢true}
+use Rattle.xdg_base.specs.Faults.{fault_at}
 use Rattle.xdg_base.specs.declared.faults.Fault.{Fault}
 use Rattle.xdg_base.specs.declared.faults.Stop.TheVariants as stops
 use Rattle.xdg_base.specs.declared.ids.DimId.{DimId}
 use Rattle.xdg_base.specs.declared.ids.LabelId.{LabelId}
 use Rattle.xdg_base.specs.declared.faults.Cause.TheVariants as causes
-use Rattle.xdg_lex.specs.Pieces.{refusal}
 use Rattle.xdg_ast.specs.declared.names.Name.{Name}
 use Rattle.xdg_ast.specs.declared.names.Num.{Num}
 use Rattle.xdg_types.specs.Table.{Table}
@@ -72,7 +72,7 @@ pub record IsFresh (entries : ℕ) (number : Num) (again : Bool) : Type 0 where
 
 abbrev fault_by : Num → Bool → Bool → Bool → Option Fault
 fault_by number none over again =
-    if none || over then Some (refusal causes.NoEntry number.span.start) else (if again then Some (refusal causes.Twice number.span.start) else None)
+    if none || over then Some (fault_at causes.NoEntry number.span.start) else (if again then Some (fault_at causes.Twice number.span.start) else None)
 
 same_by : (entries : ℕ) (number : Num) (one other a b : Bool) → (number.value == 0) ≡ a → nat_lt entries number.value ≡ b → (0 < number.value → number.value ≤ entries → one ≡ other)
     → entry_fault entries number one ≡ entry_fault entries number other
@@ -151,10 +151,10 @@ module _ (table : Table) (entries : ℕ) (earlier : List Statement) (old new : B
 -- what is wrong with constants that name no label, or a label of which a cost was said
 
 pub place_fault : (table : Table) (entries : ℕ) (earlier : List Statement) (made : Building) (label : Name) (found : Result Place Fault) (place : Place) (again : Bool) → Built table entries earlier made → found ≡ Ok place
-    → again ≡ has_place made.labels place → edge_fault table earlier label found ≡ (if again then Some (refusal causes.Twice label.span.start) else None)
+    → again ≡ has_place made.labels place → edge_fault table earlier label found ≡ (if again then Some (fault_at causes.Twice label.span.start) else None)
 place_fault table entries earlier made label found place again b is told =
     ap (edge_fault table earlier label) is
-    ∙ ap (λ z. if z then Some (refusal causes.Twice label.span.start) else None) (sym (told ∙ ap (λ z. has_place z place) b.labels_are ∙ same_places table place earlier))
+    ∙ ap (λ z. if z then Some (fault_at causes.Twice label.span.start) else None) (sym (told ∙ ap (λ z. has_place z place) b.labels_are ∙ same_places table place earlier))
 
 module _ (table : Table) (entries : ℕ) (earlier : List Statement) (old new : Building) (dim label : Name) (cost : ℕ) (place : Place) (b : Built table entries earlier old) (is : place_of table dim label ≡ Ok place) (fresh_place : has_place old.labels place ≡ false)
     (more : new.labels ≡ old.labels ++ (place.0, place.1, cost) ∷ []) (same : new.entries ≡ old.entries) (flags : new.seen.items ≡ old.seen.items) where
@@ -217,7 +217,7 @@ edge_goes table entries earlier old new dim label cost place is none more same f
 )
 
 pub edge_twice : (table : Table) (entries : ℕ) (earlier : List Statement) (old new : Building) (dim label : Name) (cost : ℕ) (place : Place) (f : Fault) → place_of table dim label ≡ Ok place → has_place old.labels place ≡ true
-    → f ≡ refusal causes.Twice label.span.start → Built table entries earlier old → Adds table entries earlier (statements.Edge dim label cost) (Err (stops.Fault f)) new
+    → f ≡ fault_at causes.Twice label.span.start → Built table entries earlier old → Adds table entries earlier (statements.Edge dim label cost) (Err (stops.Fault f)) new
 edge_twice table entries earlier old new dim label cost place f is some told b = place_fault table entries earlier old label (place_of table dim label) place true b is (sym some) ∙ ap Some (sym told)
 
 pub edge_wrong : (table : Table) (entries : ℕ) (earlier : List Statement) (new : Building) (dim label : Name) (cost : ℕ) (f : Fault) → place_of table dim label ≡ Err f → Adds table entries earlier (statements.Edge dim label cost) (Err (stops.Fault f)) new

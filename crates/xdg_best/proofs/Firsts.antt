@@ -3,12 +3,12 @@ use Rattle.std.proofs.Common.{◌≡◌, ◌∙◌, ℕ, suc, ◌+◌, ◌<◌, 
 use Rattle.std.specs.Prelude.{Option, Result, if◌then◌else◌}
 use Rattle.std.specs.List.{list_any}
 use Rattle.std.proofs.lemmas.List.{drop_more, drop_all, take_more}
+use Rattle.xdg_base.specs.Faults.{fault_at}
 use Rattle.xdg_base.specs.declared.faults.Fault.{Fault}
 use Rattle.xdg_base.specs.declared.faults.Cause.TheVariants as causes
 use Rattle.xdg_names.specs.First as first
 use Rattle.xdg_names.specs.First.{IsFirstOf}
 use Rattle.xdg_ast.specs.Lexemes.{Lexeme}
-use Rattle.xdg_lex.specs.Pieces.{refusal}
 use Rattle.xdg_lex.specs.Spans.{StandFrom}
 use Rattle.xdg_ast.specs.declared.names.Name.{Name}
 use Rattle.xdg_ast.specs.declared.names.Num.{Num}
@@ -61,30 +61,30 @@ no_fault f at e = absurd cc
 
 entry_at : (entries : ℕ) (number : Num) (again : Bool) (f : Fault) → entry_fault entries number again ≡ Some f → f.at ≡ number.span.start
 entry_at entries number again f e =
-    if_fault ((number.value == 0) || nat_lt entries number.value) number.span.start (refusal causes.NoEntry number.span.start) f _ refl
-    (λ e2. if_fault again number.span.start (refusal causes.Twice number.span.start) f None refl (λ e3. no_fault f number.span.start e3) e2) e
+    if_fault ((number.value == 0) || nat_lt entries number.value) number.span.start (fault_at causes.NoEntry number.span.start) f _ refl
+    (λ e2. if_fault again number.span.start (fault_at causes.Twice number.span.start) f None refl (λ e3. no_fault f number.span.start e3) e2) e
 
 -- at one of two places
 abbrev AtOne : ℕ → ℕ → Fault → Type 0
 AtOne a b f = (f.at ≡ a) ⊎ (f.at ≡ b)
 
 label_at : (dim label : Name) (d : ℕ) (found : Option ℕ) (f : Fault) → with_label label d found ≡ Err f → AtOne dim.span.start label.span.start f
-label_at dim label d None f e = inr (ap (λ z. z.at) (let same : f ≡ refusal causes.NotMember label.span.start = cc in same))
+label_at dim label d None f e = inr (ap (λ z. z.at) (let same : f ≡ fault_at causes.NotMember label.span.start = cc in same))
 label_at dim label d (Some l) f e = absurd cc
 
 dim_at : (table : Table) (dim label : Name) (found : Option ℕ) (f : Fault) → with_dim table dim label found ≡ Err f → AtOne dim.span.start label.span.start f
-dim_at table dim label None f e = inl (ap (λ z. z.at) (let same : f ≡ refusal causes.UnknownName dim.span.start = cc in same))
+dim_at table dim label None f e = inl (ap (λ z. z.at) (let same : f ≡ fault_at causes.UnknownName dim.span.start = cc in same))
 dim_at table dim label (Some d) f e = label_at dim label d (label_number (labels_of table d) label.text) f e
 
 edge_at : (table : Table) (earlier : List Statement) (dim label : Name) (found : Result Place Fault) (f : Fault) → place_of table dim label ≡ found → edge_fault table earlier label found ≡ Some f → AtOne dim.span.start label.span.start f
 edge_at table earlier dim label (Err g) f is e = dim_at table dim label (dim_number table dim.text) f (is ∙ ap Err (let same : g ≡ f = cc in same))
 edge_at table earlier dim label (Ok place) f is e =
-    inr (if_fault (list_any (is_of_place table place) earlier) label.span.start (refusal causes.Twice label.span.start) f None refl (λ e2. no_fault f label.span.start e2) e)
+    inr (if_fault (list_any (is_of_place table place) earlier) label.span.start (fault_at causes.Twice label.span.start) f None refl (λ e2. no_fault f label.span.start e2) e)
 
-fault_at : (table : Table) (entries : ℕ) (earlier : List Statement) (s : Statement) (f : Fault) → fault_in table entries earlier s ≡ Some f → begins_at s ≤ ends_at s → (begins_at s ≤ f.at) × (f.at ≤ ends_at s)
-fault_at table entries earlier (statements.Entry number cost) f e order =
+fault_stands : (table : Table) (entries : ℕ) (earlier : List Statement) (s : Statement) (f : Fault) → fault_in table entries earlier s ≡ Some f → begins_at s ≤ ends_at s → (begins_at s ≤ f.at) × (f.at ≤ ends_at s)
+fault_stands table entries earlier (statements.Entry number cost) f e order =
     let is = entry_at entries number (list_any (is_of_entry number.value) earlier) f e in (omega (arith, is), omega (arith, is))
-fault_at table entries earlier (statements.Edge dim label cost) f e order = elim (edge_at table earlier dim label (place_of table dim label) f refl e) [
+fault_stands table entries earlier (statements.Edge dim label cost) f e order = elim (edge_at table earlier dim label (place_of table dim label) f refl e) [
   | inl is ↦ (omega (arith, is), omega (arith, is, order))
   | inr is ↦ (omega (arith, is, order), omega (arith, is))
 ]
@@ -92,7 +92,7 @@ fault_at table entries earlier (statements.Edge dim label cost) f e order = elim
 later_at : (table : Table) (entries from : ℕ) (said earlier : List Statement) (f : Fault) → Rise from said → Offends table entries earlier said f → from ≤ f.at
 later_at table entries from [] earlier f rise bad = absurd bad
 later_at table entries from (s ∷ more) earlier f rise (inl e) =
-    let begins = rise.0 in let at = (fault_at table entries earlier s f e rise.1).0 in omega (arith, begins, at)
+    let begins = rise.0 in let at = (fault_stands table entries earlier s f e rise.1).0 in omega (arith, begins, at)
 later_at table entries from (s ∷ more) earlier f rise (inr bad) =
     let begins = rise.0 in let order = rise.1 in
     let at = later_at table entries (suc (ends_at s)) more (earlier ++ s ∷ []) f rise.2 bad in omega (arith, begins, order, at)
@@ -106,7 +106,7 @@ first_here table entries from s more earlier rise (Some f) later is rest = (
   λ g bad. elim bad [
     | inl e ↦ subst (IsFirstOf f) (let same : f ≡ g = let both : Some f ≡ Some g = sym is ∙ e in cc in same) (itself f)
     | inr worse ↦
-        let here = (fault_at table entries earlier s f is rise.1).1 in
+        let here = (fault_stands table entries earlier s f is rise.1).1 in
         let there = later_at table entries (suc (ends_at s)) more (earlier ++ s ∷ []) g rise.2 worse in
         inl (omega (arith, here, there))
   ],

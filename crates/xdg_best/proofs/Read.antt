@@ -3,13 +3,13 @@ use Rattle.std.proofs.Common.{◌≡◌, ◌∙◌, ℕ, ◌&&◌, Bool, true, f
 use Rattle.std.specs.Prelude.{Result, if◌then◌else◌, bytes_eq}
 use Rattle.std.proofs.lemmas.Bool.{false≢true}
 use Rattle.std.proofs.lemmas.Slice.Eq.{bytes_eq-Decides}
+use Rattle.xdg_base.specs.Faults.{fault_at}
 use Rattle.xdg_base.specs.declared.faults.Fault.{Fault}
 use Rattle.xdg_base.specs.declared.faults.Cause.TheVariants as causes
 use Rattle.xdg_base.specs.declared.faults.Stop.{Stop}
 use Rattle.xdg_base.specs.declared.faults.Stop.TheVariants as stops
 use Rattle.xdg_ast.specs.declared.token.Kind.TheVariants as k
 use Rattle.xdg_ast.specs.Lexemes.{Lexeme, lexeme}
-use Rattle.xdg_lex.specs.Pieces.{refusal}
 use Rattle.xdg_ast.specs.Derives.{place_of}
 use Rattle.xdg_ast.specs.Grammar.{name_of, num_of, number_of}
 use Rattle.xdg_best.specs.declared.statements.Open.{Open}
@@ -314,7 +314,7 @@ only_one ts end outcome (Err (stops.Fault f)) is (at, runs, fault) (Ok ss) said 
 only_one ts end outcome (Err (stops.Fault f)) is (at, runs, fault) (Err g) (unexpected place bad) =
     let e : ◌≡◌ {A = Outcome} (Err place) (Err at) = sym (unexpected_run ts end place bad) ∙ is ∙ runs in
     let same : place ≡ at = cc in
-    ap Err (ap (refusal causes.Unexpected) same ∙ sym fault)
+    ap Err (ap (fault_at causes.Unexpected) same ∙ sym fault)
 
 pub run_only : (ts : List Lexeme) (end : ℕ) (result : Result (List Statement) Stop) → Runs (run end [] open_.Nothing ts) result → (answer : Result (List Statement) Fault) → IsAnswer ts end answer → Gives answer result
 run_only ts end result runs answer said = only_one ts end (run end [] open_.Nothing ts) result refl runs answer said

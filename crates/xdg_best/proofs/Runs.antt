@@ -1,12 +1,12 @@
 -- How the loop over tokens goes on.
 use Rattle.std.proofs.Common.{◌≡◌, ◌∙◌, ℕ, ◌+◌, ◌<◌, ◌≤◌, true, false, List, [], ◌∷◌, ◌++◌, length, drop, get_or, refl, sym, ap, ap₂, subst, Ok, Err}
 use Rattle.std.proofs.lemmas.List.{drop_more, drop_all}
+use Rattle.xdg_base.specs.Faults.{fault_at}
 use Rattle.xdg_base.specs.declared.faults.Cause.TheVariants as causes
 use Rattle.xdg_base.specs.declared.faults.Stop.{Stop}
 use Rattle.xdg_base.specs.declared.faults.Stop.TheVariants as stops
 use Rattle.xdg_ast.specs.declared.token.Token.{Token}
 use Rattle.xdg_ast.specs.Lexemes.{lexeme_of, lexemes_of}
-use Rattle.xdg_lex.specs.Pieces.{refusal}
 use Rattle.xdg_best.specs.declared.statements.Open.{Open}
 use Rattle.xdg_best.specs.declared.statements.Open.TheVariants as open_
 use Rattle.xdg_best.specs.declared.statements.Statement.{Statement}
@@ -33,7 +33,7 @@ module _ (end : ℕ) (made : List Statement) (o : Open) (tokens : List Token) (i
       ap₂ (λ m p. run end m p (lexemes_of (drop (i + 1) tokens))) same new_is
       ∙ sym (says end made o s (lexeme_of (get_or tokens i d)) (lexemes_of (drop (i + 1) tokens)) (sym is ∙ on)) ∙ ap (run end made o) (sym (at_token tokens i d within)) ∙ so_far
 
-  pub turn_refused : (stop : Stop) → turn ≡ turns.Refused → stop ≡ stops.Fault (refusal causes.Unexpected (get_or tokens i d).span.start) → Runs all (Err stop)
+  pub turn_refused : (stop : Stop) → turn ≡ turns.Refused → stop ≡ stops.Fault (fault_at causes.Unexpected (get_or tokens i d).span.start) → Runs all (Err stop)
   turn_refused stop on told =
       let here : run end made o (lexemes_of (drop i tokens)) ≡ Err (get_or tokens i d).span.start =
       ap (run end made o) (at_token tokens i d within) ∙ stops_at end made o (lexeme_of (get_or tokens i d)) (lexemes_of (drop (i + 1) tokens)) (sym is ∙ on) in
@@ -57,6 +57,6 @@ module _ (end : ℕ) (made : List Statement) (tokens : List Token) (i : ℕ) (al
   begun_last (open_.Dim x) e = refl
   begun_last (open_.Label x l) e = refl
 
-  pub last_begun : (o : Open) (stop : Stop) → run end made o (lexemes_of (drop i tokens)) ≡ all → is_nothing o ≡ false → stop ≡ stops.Fault (refusal causes.Unexpected end) → Runs all (Err stop)
+  pub last_begun : (o : Open) (stop : Stop) → run end made o (lexemes_of (drop i tokens)) ≡ all → is_nothing o ≡ false → stop ≡ stops.Fault (fault_at causes.Unexpected end) → Runs all (Err stop)
   last_begun o stop so_far e told =
       subst (λ s. Runs all (Err s)) (sym told) (end, sym so_far ∙ ap (run end made o) (at_end tokens i over) ∙ run_nil end made o ∙ begun_last o e, refl)

@@ -1,12 +1,12 @@
 -- What statements come to, and what is wrong with them.
 use Rattle.std.specs.Prelude.{◌≡◌, ℕ, ◌-◌, ◌⊎◌, ◌==◌, ◌&&◌, ◌||◌, Bool, false, nat_lt, if◌then◌else◌, Option, Some, None, Result, Ok, Err, List, [], ◌∷◌, ◌++◌}
 use Rattle.std.specs.List.{list_any}
+use Rattle.xdg_base.specs.Faults.{fault_at}
 use Rattle.xdg_base.specs.declared.faults.Fault.{Fault}
 use Rattle.xdg_base.specs.declared.faults.Cause.TheVariants as causes
 use Rattle.xdg_base.specs.declared.ids.DimId.{DimId}
 use Rattle.xdg_base.specs.declared.ids.EntryNo.{EntryNo}
 use Rattle.xdg_base.specs.declared.ids.LabelId.{LabelId}
-use Rattle.xdg_lex.specs.Pieces.{refusal}
 use Rattle.xdg_ast.specs.declared.names.Name.{Name}
 use Rattle.xdg_ast.specs.declared.names.Num.{Num}
 use Rattle.xdg_problem.specs.Costs.{CostLists}
@@ -55,13 +55,13 @@ is_of_place table place (statements.Edge dim label cost) = is_at place (place_of
 -- a number that is none of an entry, or one that stands in an earlier statement too
 abbrev pub entry_fault : ℕ → Num → Bool → Option Fault
 entry_fault entries number again =
-    if (number.value == 0) || nat_lt entries number.value then Some (refusal causes.NoEntry number.span.start)
-    else (if again then Some (refusal causes.Twice number.span.start) else None)
+    if (number.value == 0) || nat_lt entries number.value then Some (fault_at causes.NoEntry number.span.start)
+    else (if again then Some (fault_at causes.Twice number.span.start) else None)
 
 -- constants that name no used dimension or no label of it, or those that an earlier statement names too
 abbrev pub edge_fault : Table → List Statement → Name → Result Place Fault → Option Fault
 edge_fault table earlier label (Err fault) = Some fault
-edge_fault table earlier label (Ok place) = if list_any (is_of_place table place) earlier then Some (refusal causes.Twice label.span.start) else None
+edge_fault table earlier label (Ok place) = if list_any (is_of_place table place) earlier then Some (fault_at causes.Twice label.span.start) else None
 
 -- what is wrong with a statement behind others, where there are so many entries
 abbrev pub fault_in : Table → ℕ → List Statement → Statement → Option Fault

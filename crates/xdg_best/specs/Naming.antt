@@ -1,11 +1,11 @@
 -- The dimension and the label that constants name.
 use Rattle.std.specs.Prelude.{ℕ, Bool, false, Option, Some, None, Result, Ok, Err, List, [], bytes_eq, slice_get}
 use Rattle.std.specs.List.{position}
+use Rattle.xdg_base.specs.Faults.{fault_at}
 use Rattle.xdg_base.specs.declared.faults.Fault.{Fault}
 use Rattle.xdg_base.specs.declared.faults.Cause.TheVariants as causes
 use Rattle.xdg_base.specs.declared.ids.DimId.{DimId}
 use Rattle.xdg_base.specs.declared.ids.LabelId.{LabelId}
-use Rattle.xdg_lex.specs.Pieces.{refusal}
 use Rattle.xdg_ast.specs.declared.names.Name.{Name}
 use Rattle.xdg_types.specs.declared.table.DimType.{DimType}
 use Rattle.xdg_types.specs.Table.{Table}
@@ -46,11 +46,11 @@ abbrev pub Place : Type 0
 Place = DimId × LabelId
 
 abbrev pub with_label : Name → ℕ → Option ℕ → Result Place Fault
-with_label label d None = Err (refusal causes.NotMember label.span.start)
+with_label label d None = Err (fault_at causes.NotMember label.span.start)
 with_label label d (Some l) = Ok (record { 0 = d }, record { 0 = l })
 
 abbrev pub with_dim : Table → Name → Name → Option ℕ → Result Place Fault
-with_dim table dim label None = Err (refusal causes.UnknownName dim.span.start)
+with_dim table dim label None = Err (fault_at causes.UnknownName dim.span.start)
 with_dim table dim label (Some d) = with_label label d (label_number (labels_of table d) label.text)
 
 -- the used dimension and the label of it that two constants name, or what is wrong with the first that names none

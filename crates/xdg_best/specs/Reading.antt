@@ -1,11 +1,11 @@
 -- What tokens say, and where tokens fail to be those of a costs text.
 use Rattle.std.specs.Prelude.{◌≡◌, ℕ, List, [], ◌∷◌, ◌++◌, Result, Ok, Err}
+use Rattle.xdg_base.specs.Faults.{fault_at}
 use Rattle.xdg_base.specs.declared.faults.Fault.{Fault}
 use Rattle.xdg_base.specs.declared.faults.Cause.TheVariants as causes
 use Rattle.xdg_base.specs.declared.faults.Stop.{Stop}
 use Rattle.xdg_base.specs.Told.{TellsOf}
 use Rattle.xdg_ast.specs.Lexemes.{Lexeme}
-use Rattle.xdg_lex.specs.Pieces.{refusal}
 use Rattle.xdg_ast.specs.Derives.{place_of}
 use Rattle.xdg_best.specs.declared.statements.Statement.{Statement}
 use Rattle.xdg_best.specs.Statements.{Derives}
@@ -30,7 +30,7 @@ pub record IsUnexpectedAt (ts : List Lexeme) (end place : ℕ) : Type 0 where
 
 -- why tokens are refused, where the text ends at a place
 pub data IsRefused (ts : List Lexeme) (end : ℕ) : Fault → Type 0 where
-  unexpected : (place : ℕ) → IsUnexpectedAt ts end place → IsRefused ts end (refusal causes.Unexpected place)
+  unexpected : (place : ℕ) → IsUnexpectedAt ts end place → IsRefused ts end (fault_at causes.Unexpected place)
 
 -- the statements that the tokens say, or the first fault
 abbrev pub IsAnswer : List Lexeme → ℕ → Result (List Statement) Fault → Type 0

@@ -1,10 +1,10 @@
 -- What each token makes of the statement in which it stands. The tokens are gone through once.
 use Rattle.std.specs.Prelude.{◌≡◌, ℕ, Bool, true, false, if◌then◌else◌, List, [], ◌∷◌, ◌++◌, Result, Ok, Err}
+use Rattle.xdg_base.specs.Faults.{fault_at}
 use Rattle.xdg_base.specs.declared.faults.Stop.{Stop}
 use Rattle.xdg_base.specs.declared.faults.Stop.TheVariants as stops
 use Rattle.xdg_base.specs.declared.faults.Cause.TheVariants as causes
 use Rattle.xdg_ast.specs.Lexemes.{Lexeme}
-use Rattle.xdg_lex.specs.Pieces.{refusal}
 use Rattle.xdg_ast.specs.Grammar.{name_of, num_of, number_of}
 use Rattle.xdg_best.specs.declared.statements.Open.{Open}
 use Rattle.xdg_best.specs.declared.statements.Open.TheVariants as open_
@@ -53,5 +53,5 @@ run end made began (t ∷ ts) =
 -- a call gives this, or memory ran out
 abbrev pub Runs : Outcome → Result (List Statement) Stop → Type 0
 Runs outcome (Ok made) = outcome ≡ Ok made
-Runs outcome (Err (stops.Fault fault)) = (at : ℕ) × (outcome ≡ Err at) × (fault ≡ refusal causes.Unexpected at)
+Runs outcome (Err (stops.Fault fault)) = (at : ℕ) × (outcome ≡ Err at) × (fault ≡ fault_at causes.Unexpected at)
 Runs outcome (Err stops.OutOfMemory) = Unit {0}

@@ -6,11 +6,11 @@ ghost use Rattle.xdg_best.specs.declared.statements.Statement.TheVariants as sai
 ghost use Rattle.xdg_best.specs.Building.{Built, Adds, Comes, IsFreshPlace, has_place};
 ghost use Rattle.xdg_best.specs.Meaning.{entry_fault, first_fault};
 
-use crate::naming::{place_of, refusal};
+use crate::naming::place_of;
 use crate::statements::Statement;
-use std::alloc::{AllocError, Global};
+use std::alloc::Global;
 use xdg_ast::{Name, Num};
-use xdg_base::{Cause, DimId, EntryNo, Fault, LabelId, List, Stop};
+use xdg_base::{Cause, DimId, EntryNo, Fault, LabelId, List, OutOfMemory, Stop};
 use xdg_problem::Costs;
 use xdg_types::TypeTable;
 
@@ -31,11 +31,11 @@ fn entry_place(entries: u32, number: &Num, seen: &[bool]) -> Result<u32, Fault>
 {
     let value = number.value;
     if value == 0 || value > entries {
-        return Err(refusal(Cause::NoEntry, number.span.start));
+        return Err(Fault::at(Cause::NoEntry, number.span.start));
     }
     let place = value - 1;
     if seen[place as usize] {
-        return Err(refusal(Cause::Twice, number.span.start));
+        return Err(Fault::at(Cause::Twice, number.span.start));
     }
     Ok(place)
 }
@@ -51,7 +51,7 @@ fn has_place(labels: &[(DimId, LabelId, u32)], place: (DimId, LabelId)) -> bool
 
 impl Building {
     /// Nothing yet, where there are so many entries.
-    fn start(alloc: Global, types: &TypeTable, entries: u32) -> Result<Building, AllocError>
+    fn start(alloc: Global, types: &TypeTable, entries: u32) -> Result<Building, OutOfMemory>
         ensures { IfOk result (Built types.now entries []) }
     {
         Ok(Building {
@@ -98,7 +98,7 @@ impl Building {
         match place_of(types, dim, label) {
             Ok(place) => {
                 if has_place(self.labels.as_slice(), place) {
-                    return Err(Stop::Fault(refusal(Cause::Twice, label.span.start)));
+                    return Err(Stop::Fault(Fault::at(Cause::Twice, label.span.start)));
                 }
                 self.labels.push((place.0, place.1, cost))?;
                 Ok(())

@@ -3,8 +3,8 @@
 ghost use Rattle.std.specs.Prelude.{◌≡◌, ◌≢◌, ◌≤◌, ◌⊎◌, ℕ, List, [], Option, Some, length};
 ghost use Rattle.xdg_best.specs.Outcomes.{BestOf, CostedThen, CostsThen, Searched};
 ghost use Rattle.xdg_best.specs.Runs.{BestEnds};
-ghost use Rattle.xdg_packed.specs.Entries.{IsRightLexicon};
 ghost use Rattle.xdg_inputs.specs.Answers.{meaning_of};
+ghost use Rattle.xdg_inputs.specs.RightLexicons.{HasRightLexicon};
 ghost use Rattle.xdg_io.specs.Rose.{Rose};
 ghost use Rattle.xdg_inputs.specs.Loaded.{read_of};
 ghost use Rattle.xdg_inputs.specs.Outcomes.{MeaningThen};
@@ -18,8 +18,7 @@ use xdg_base::OutOfMemory;
 use xdg_command::BestOptions;
 use xdg_engine::props;
 use xdg_inputs::{
-    Expanded, Loaded, Status, expand_tree, load_tree, pack_entries, read_problem, refuse,
-    stopped_in,
+    Expanded, Loaded, Status, expand_tree, load_tree, read_problem, refuse, stopped_in,
 };
 use xdg_io::{Shelf, Sink, Source};
 use xdg_problem::{Costs, Problem};
@@ -64,7 +63,7 @@ fn best_costed<S: Source, K: Sink>(
     input: &mut S,
     out: &mut K,
 ) -> Status
-    requires lexicon { IsRightLexicon expanded.now.checked.types expanded.now.entries }
+    requires lexicon { HasRightLexicon expanded.now }
     requires some { 1 ≤ options.now.budget }
     ensures leaves { (content : List ℕ) → S.left input.old ≡ Some content
         → Leaves (CostedThen options.now content (meaning_of expanded.now) costs.now) result (K.held out.old) (K.held out.new) }
@@ -77,11 +76,7 @@ fn best_costed<S: Source, K: Sink>(
     ensures all_read { (content : List ℕ) → (result ≡ Status.Done) ⊎ (result ≡ Status.Spent) → S.left input.old ≡ Some content → S.left input.new ≡ Some [] }
     ensures command { (result ≡ Status.Usage → ⊥) × ((result ≡ Status.BadText → ⊥) × ((result ≡ Status.BadGrammar → ⊥) × (result ≡ Status.BadCosts → ⊥))) }
 {
-    let packed = match pack_entries(alloc, expanded) {
-        Ok(packed) => packed,
-        Err(OutOfMemory) => return Status::OutOfMemory,
-    };
-    match read_problem(alloc, expanded, &packed, options.segment, input) {
+    match read_problem(alloc, expanded, options.segment, input) {
         Ok(problem) => search(alloc, &problem, costs, options.budget, out),
         Err(refusal) => refuse(refusal, Status::BadSentence, out),
     }
@@ -96,7 +91,7 @@ fn best_expanded<H: Shelf, S: Source, K: Sink>(
     input: &mut S,
     out: &mut K,
 ) -> Status
-    requires lexicon { IsRightLexicon expanded.now.checked.types expanded.now.entries }
+    requires lexicon { HasRightLexicon expanded.now }
     requires some { 1 ≤ options.now.budget }
     ensures leaves { (files : List ℕ → Option (List ℕ)) (content : List ℕ) → H.files shelf.old ≡ Some files → S.left input.old ≡ Some content
         → Leaves (CostsThen options.now files content (meaning_of expanded.now)) result (K.held out.old) (K.held out.new) }
@@ -114,7 +109,7 @@ fn best_expanded<H: Shelf, S: Source, K: Sink>(
     ensures all_read { (content : List ℕ) → (result ≡ Status.Done) ⊎ (result ≡ Status.Spent) → S.left input.old ≡ Some content → S.left input.new ≡ Some [] }
     ensures command { result ≡ Status.Usage → ⊥ }
 {
-    let entries = expanded.entries.len() as u32;
+    let entries = expanded.lexicon.len() as u32;
     match load_costs(
         alloc,
         expanded.checked.types(),

@@ -1,24 +1,13 @@
 //! The dimensions and the labels that constants name.
 
 ghost use Rattle.std.specs.Prelude.{◌≡◌, ◌<◌, IfSome, length};
+ghost use Rattle.xdg_base.specs.Faults.{fault_at};
 ghost use Rattle.xdg_best.specs.Naming.{is_named, place_named, dim_number, labels_of, label_number, place_of};
-ghost use Rattle.xdg_lex.specs.Pieces as pieces;
 ghost use Rattle.xdg_types.specs.Table.{IsTable};
 
 use xdg_ast::Name;
 use xdg_base::{Cause, DimId, Fault, LabelId, Text};
 use xdg_types::{DimType, TypeTable};
-
-/// A fault that no limit is the cause of.
-pub(crate) fn refusal(cause: Cause, at: u32) -> Fault
-    ensures { result ≡ pieces.refusal cause at }
-{
-    Fault {
-        cause,
-        at,
-        reached: 0,
-    }
-}
 
 /// Whether the dimension at a place has a name.
 fn is_named(dims: &[DimType], place: usize, name: &Text) -> bool
@@ -81,9 +70,9 @@ pub(crate) fn place_of(
     ensures { result ≡ place_of types.now dim.now label.now }
 {
     match dim_number(types, &dim.text) {
-        None => Err(refusal(Cause::UnknownName, dim.span.start)),
+        None => Err(Fault::at(Cause::UnknownName, dim.span.start)),
         Some(d) => match label_number(labels_of(types, d), &label.text) {
-            None => Err(refusal(Cause::NotMember, label.span.start)),
+            None => Err(Fault::at(Cause::NotMember, label.span.start)),
             Some(l) => Ok((DimId(d as u8), LabelId(l as u8))),
         },
     }

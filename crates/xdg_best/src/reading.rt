@@ -1,11 +1,8 @@
 //! The statements that tokens say.
 
 ghost use Rattle.std.specs.Prelude.{◌≡◌, Result, [], List};
-ghost use Rattle.xdg_base.specs.declared.faults.Cause.TheVariants as causes;
 ghost use Rattle.xdg_base.specs.declared.faults.Fault as faults;
-ghost use Rattle.xdg_base.specs.declared.faults.Stop.TheVariants as stops;
 ghost use Rattle.xdg_ast.specs.Lexemes.{lexemes_of};
-ghost use Rattle.xdg_lex.specs.Pieces.{refusal};
 ghost use Rattle.xdg_best.specs.declared.statements.Open.TheVariants as open_;
 ghost use Rattle.xdg_best.specs.declared.statements.Statement as statements;
 ghost use Rattle.xdg_best.specs.Reading.{IsAnswer, Tells};
@@ -15,18 +12,8 @@ ghost use Rattle.xdg_best.specs.Turns.{run, Runs};
 use crate::statements::{Open, Statement, Turn, next_turn};
 use std::alloc::Global;
 use xdg_ast::Token;
-use xdg_base::{Cause, Fault, List, Stop};
-
-/// Nothing goes on with what stands at a place.
-fn unexpected(at: u32) -> Stop
-    ensures { result ≡ stops.Fault (refusal causes.Unexpected at) }
-{
-    Stop::Fault(Fault {
-        cause: Cause::Unexpected,
-        at,
-        reached: 0,
-    })
-}
+use xdg_base::{List, Stop};
+use xdg_parse::unexpected;
 
 /// The statements that tokens say, one token after another.
 fn run(alloc: Global, tokens: &[Token], end: u32) -> Result<List<Statement>, Stop>
@@ -52,7 +39,7 @@ fn run(alloc: Global, tokens: &[Token], end: u32) -> Result<List<Statement>, Sto
 
 /// The statements that tokens say. The place `end` is where the text of the tokens ends.
 ///
-/// The error is [`Cause::Unexpected`] at the first token with which the tokens before it don't go on in any costs text, or at the
+/// The error is `Cause::Unexpected` at the first token with which the tokens before it don't go on in any costs text, or at the
 /// end where the tokens are no whole one; or want of memory.
 pub(crate) fn statements(
     alloc: Global,

@@ -3,7 +3,7 @@
 ghost use Rattle.std.specs.Prelude.{◌≡◌, ◌≤◌, ◌^◌, ◌<◌, List, None, Result, IfOk};
 ghost use Rattle.std.specs.Fn.{FnReturnsAt};
 ghost use Rattle.std.specs.Option.{option_copied};
-ghost use Rattle.xdg_base.specs.declared.faults.OutOfMemory.{OutOfMemory};
+ghost use Rattle.std.specs.declared.alloc.AllocError.{AllocError};
 ghost use Rattle.xdg_best.specs.Best.{IsAnswer, IsOneAnswer};
 ghost use Rattle.xdg_best.specs.Rounds.{found_cost, round_parts};
 ghost use Rattle.xdg_best.specs.Searches.{IsRound};
@@ -40,7 +40,7 @@ fn round<P: Propagator, F: Fn(&Problem) -> Result<List<P>, OutOfMemory>>(
     make: &F,
 ) -> Result<Round, OutOfMemory>
     requires calls { F.IsAlwaysCallable make.now }
-    requires stand { (parts : Parts) (made : Result (List P) OutOfMemory) → FnReturnsAt F.Fn make.now parts made
+    requires stand { (parts : Parts) (made : Result (List P) AllocError) → FnReturnsAt F.Fn make.now parts made
         → IfOk made (λ props. AllStandIn P.stands props parts) }
     requires problem { IsProblem problem.now }
     requires fits { IsStart problem.now (option_copied last) }
@@ -73,7 +73,7 @@ pub fn best<P: Propagator, F: Fn(&Problem) -> Result<List<P>, OutOfMemory> + Dro
     make: F,
 ) -> Result<BestAnswer, OutOfMemory>
     requires calls { F.IsAlwaysCallable make }
-    requires stand { (parts : Parts) (made : Result (List P) OutOfMemory) → FnReturnsAt F.Fn make parts made
+    requires stand { (parts : Parts) (made : Result (List P) AllocError) → FnReturnsAt F.Fn make parts made
         → IfOk made (λ props. AllStandIn P.stands props parts) }
     requires some { 1 ≤ budget }
     ensures answers { IfOk result (IsAnswer problem.now costs.now budget) }

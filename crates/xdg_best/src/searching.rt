@@ -3,7 +3,7 @@
 ghost use Rattle.std.specs.Prelude.{◌≡◌, ◌↔◌, List, [], None, Result, IfOk};
 ghost use Rattle.std.specs.Fn.{FnReturnsAt};
 ghost use Rattle.std.specs.Option.{option_copied};
-ghost use Rattle.xdg_base.specs.declared.faults.OutOfMemory.{OutOfMemory};
+ghost use Rattle.std.specs.declared.alloc.AllocError.{AllocError};
 ghost use Rattle.xdg_best.specs.Searches.{IsRound};
 ghost use Rattle.xdg_problem.specs.declared.parts.Parts.{Parts};
 ghost use Rattle.xdg_problem.specs.Problems.{IsProblem};
@@ -58,7 +58,7 @@ pub(crate) fn search<P: Propagator, F: Fn(&Problem) -> Result<List<P>, OutOfMemo
     make: &F,
 ) -> Result<Round, OutOfMemory>
     requires calls { F.IsAlwaysCallable make.now }
-    requires stand { (parts : Parts) (made : Result (List P) OutOfMemory) → FnReturnsAt F.Fn make.now parts made
+    requires stand { (parts : Parts) (made : Result (List P) AllocError) → FnReturnsAt F.Fn make.now parts made
         → IfOk made (λ props. AllStandIn P.stands props parts) }
     requires fits { IsStart problem.now (option_copied start) }
     ensures { IfOk result (IsRound problem.now (start_vector problem.now (option_copied start.entry)) budget) }

@@ -6,8 +6,9 @@ ghost use Rattle.xdg_ast.specs.Grammar.{num_of};
 ghost use Rattle.xdg_best.specs.Statements.{is_number, is_constant, is_word};
 ghost use Rattle.xdg_best.specs.Turns.{turn_of, begun, is_nothing};
 
-use std::alloc::{AllocError, Global};
+use std::alloc::Global;
 use xdg_ast::{Kind, Name, Num, Token};
+use xdg_base::OutOfMemory;
 use xdg_lex::value;
 use xdg_parse::name_from;
 
@@ -102,7 +103,7 @@ fn begun(token: &Token) -> Turn
 }
 
 /// What the next token makes of a statement. The error is want of memory.
-pub(crate) fn next_turn(alloc: Global, so_far: Open, token: &Token) -> Result<Turn, AllocError>
+pub(crate) fn next_turn(alloc: Global, so_far: Open, token: &Token) -> Result<Turn, OutOfMemory>
     ensures { IfOk result (λ turn. turn ≡ turn_of so_far (lexeme_of token.now)) }
 {
     match so_far {

@@ -8,8 +8,8 @@ use Rattle.xdg_types.specs.declared.table.DimType.{DimType}
 use Rattle.xdg_types.specs.Table.{Table, typed}
 use Rattle.xdg_packed.specs.Entries.{IsUsed}
 use Rattle.xdg_principles.specs.declared.building.PrincipleUse.{PrincipleUse}
-use Rattle.xdg_principles.specs.declared.principle.Sort.{Sort}
-use Rattle.xdg_principles.specs.declared.principle.Which.{Which}
+use Rattle.xdg_problem.specs.declared.forms.Sort.{Sort}
+use Rattle.xdg_problem.specs.declared.forms.Which.{Which}
 use Rattle.xdg_principles.specs.Settings.{at_place, labels_in, members_in}
 use Rattle.xdg_principles.specs.Typed.{IsTypedUse, number_of, labels_at, members_at}
 use Rattle.xdg_build.specs.Grammars.{is_used, used_place, place_in, no_dim}

@@ -1,108 +1,20 @@
--- The nineteen principles with what the table of principles says of them. A rule and a bound stand in no table.
-use Rattle.std.proofs.Common.{◌≡◌, inl, inr, ℕ, ◌+◌, ◌<◌, List, [], ◌∷◌, refl, sym, ap, ◌∙◌, arith, rules}
-use Rattle.std.specs.Prelude.{None, Some, bytes_eq, if◌then◌else◌, length, flat_map}
-use Rattle.std.proofs.lemmas.Bool.{cases_Bool}
-use Rattle.std.proofs.lemmas.Slice.Eq.{bytes_eq-Decides}
+-- What the table of principles says of each principle.
+use Rattle.std.proofs.Common.{◌≡◌, ℕ, ◌+◌, ◌<◌, List, [], ◌∷◌, refl, arith, rules}
+use Rattle.std.specs.Prelude.{length, flat_map}
+use Rattle.xdg_problem.specs.declared.forms.Parameter.{Parameter}
+use Rattle.xdg_problem.specs.declared.forms.Sort.{Sort}
+use Rattle.xdg_problem.specs.declared.forms.Sort.TheVariants as s
+use Rattle.xdg_problem.specs.declared.forms.Typing.{Typing}
+use Rattle.xdg_problem.specs.declared.forms.Wanted.{Wanted}
+use Rattle.xdg_problem.specs.declared.forms.Wanted.TheVariants as a
+use Rattle.xdg_problem.specs.declared.forms.Which.{Which}
+use Rattle.xdg_problem.specs.declared.forms.Which.TheVariants as w
 use Rattle.xdg_problem.specs.declared.parts.Principle.{Principle}
 use Rattle.xdg_problem.specs.declared.parts.Principle.TheVariants as principles
+use Rattle.xdg_problem.specs.Forms.{dims_in, form_of, parameters}
 use Rattle.xdg_problem.specs.Names.{IsOfTexts}
-use Rattle.xdg_principles.specs.declared.principle.Dims.TheVariants as d
-use Rattle.xdg_principles.specs.declared.principle.Element.TheVariants as e
-use Rattle.xdg_principles.specs.declared.principle.Form.{Form}
-use Rattle.xdg_principles.specs.declared.principle.Key.TheVariants as k
-use Rattle.xdg_principles.specs.declared.principle.Parameter.{Parameter}
-use Rattle.xdg_principles.specs.declared.principle.Preset.TheVariants as preset
-use Rattle.xdg_principles.specs.declared.principle.Sort.{Sort}
-use Rattle.xdg_principles.specs.declared.principle.Sort.TheVariants as s
-use Rattle.xdg_principles.specs.declared.principle.Typing.{Typing}
-use Rattle.xdg_principles.specs.declared.principle.Typing.TheVariants as t
-use Rattle.xdg_principles.specs.declared.principle.Wanted.{Wanted}
-use Rattle.xdg_principles.specs.declared.principle.Wanted.TheVariants as a
-use Rattle.xdg_principles.specs.declared.principle.Which.{Which}
-use Rattle.xdg_principles.specs.declared.principle.Which.TheVariants as w
-use Rattle.xdg_principles.specs.Principles as table
-use Rattle.xdg_principles.specs.Principles.{has, flag, counted, feature, attribute, required, linking, labels_to_labels, Row, row_named, principle_named, dims_in, parameters}
+use Rattle.xdg_problem.specs.Principles.{dim_arguments, attr_arguments, truth_arguments, feature_dim}
 use Rattle.xdg_principles.specs.Typed.{number_of}
-use Rattle.xdg_build.specs.Groups.{called}
-use Rattle.xdg_build.proofs.Calling.{one_called}
-use Rattle.xdg_facts.proofs.Options.{some_same}
-use Rattle.xdg_problem.specs.Principles.{name_of, dim_arguments, attr_arguments, truth_arguments, feature_dim}
-
--- ---- what each principle has
-
-abbrev pub form_of : Principle → Form
-form_of principles.Dag = has d.One (flag k.Connected) (flag k.DisjointDaughters) None
-form_of principles.Valency = has d.One (counted k.In preset.In) (counted k.Out preset.Out) None
-form_of principles.Order = has d.One (required k.Order (a.Labels w.First)) (attribute k.On (e.Labels w.First)) (flag k.Yields)
-form_of principles.Agr = has d.One (attribute k.Agr e.Shared) (feature k.Agrs (t.Set e.Shared)) None
-form_of principles.Agreement = has d.One (attribute k.Agr1 e.Shared) (attribute k.Agr2 e.Shared) (feature k.Agree (t.Set (e.Labels w.First)))
-form_of principles.Government = has d.One (attribute k.Agr e.Shared) (feature k.Govern (t.Map w.First e.Shared)) None
-form_of principles.Climbing = has d.Two None None None
-form_of principles.Barriers = has d.Two (required k.Blocks (a.Member s.Feature w.Second (t.Set (e.Labels w.Second)))) None None
-form_of principles.LinkingEnd = linking labels_to_labels
-form_of principles.LinkingDaughter = linking labels_to_labels
-form_of principles.LinkingMother = linking labels_to_labels
-form_of principles.LinkingBelowStart = linking labels_to_labels
-form_of principles.LinkingAboveStart = linking labels_to_labels
-form_of principles.LinkingSisters = linking labels_to_labels
-form_of principles.LinkingNotDaughter = linking (t.Set (e.Labels w.First))
-form_of _ = has d.One None None None
-
-pub form-name_of : (p : Principle) → IsOfTexts p → principle_named (name_of p) ≡ Some (form_of p)
-unfolding principle_named
-form-name_of (principles.Rule formula) of = absurd of
-form-name_of (principles.Bound costs bound) of = absurd of
-form-name_of principle of = refl
-
-none_some : (form : Form) → None ≡ Some form → ⊥
-none_some form h = cc
-
--- a principle that has a known name is one of grammar texts
-pub of_texts : (p : Principle) (name : List ℕ) (form : Form) → name_of p ≡ name → principle_named name ≡ Some form → IsOfTexts p
-unfolding principle_named
-of_texts (principles.Rule formula) name form is h = none_some form (ap principle_named is ∙ h)
-of_texts (principles.Bound costs bound) name form is h = none_some form (ap principle_named is ∙ h)
-of_texts p name form is h = tt
-
--- ---- a known principle is one of them
-
-in_table : List Principle
-in_table =
-    principles.Graph ∷ principles.Entries ∷ principles.Tree ∷ principles.Projectivity ∷ principles.Dag ∷ principles.Valency ∷ principles.Order
-    ∷ principles.Agr ∷ principles.Agreement ∷ principles.Government ∷ principles.Climbing ∷ principles.Barriers
-    ∷ principles.LinkingEnd ∷ principles.LinkingDaughter ∷ principles.LinkingMother
-    ∷ principles.LinkingBelowStart ∷ principles.LinkingAboveStart ∷ principles.LinkingSisters
-    ∷ principles.LinkingNotDaughter ∷ []
-
--- the rows have the names of these principles
-abbrev Matches : List Principle → List Row → Type 0
-Matches [] [] = Unit {0}
-Matches (p ∷ ps) (row ∷ rows) = (name_of p ≡ row.0) × Matches ps rows
-Matches _ _ = ⊥
-
-found : (name : List ℕ) (ps : List Principle) (rows : List Row) (form : Form) → Matches ps rows → row_named name rows ≡ Some form → (p : Principle) × (name ≡ name_of p)
-found name [] [] form m h = absurd cc
-found name (p ∷ ps) (row ∷ rows) form m h = elim (cases_Bool (bytes_eq name row.0)) [
-  | inl q ↦ (p, (bytes_eq-Decides name row.0).0 q ∙ sym m.0)
-  | inr q ↦ found name ps rows form m.1 (sym (ap (λ b. if b then Some row.1 else row_named name rows) q) ∙ h)
-]
-found name _ _ form m h = absurd m
-
-matches : Matches in_table table.principles
-unfolding in_table
-matches = (refl, (refl, (refl, (refl, (refl, (refl, (refl, (refl, (refl, (refl, (refl, (refl, (refl, (refl, (refl, (refl, (refl, (refl, (refl, tt)))))))))))))))))))
-
-pub one_of_them : (name : List ℕ) (form : Form) → principle_named name ≡ Some form → (p : Principle) × (name ≡ name_of p)
-unfolding principle_named
-one_of_them name form h = found name in_table table.principles form matches h
-
-form_at : (name : List ℕ) (form : Form) (p : Principle) → principle_named name ≡ Some form → name ≡ name_of p → form ≡ form_of (called name)
-form_at name form p h is =
-    some_same form (form_of p) (sym h ∙ ap principle_named is ∙ form-name_of p (of_texts p name form (sym is) h)) ∙ ap form_of (sym (one_called name p (of_texts p name form (sym is) h) (sym is)))
-
--- what a known principle has goes by what it is called
-pub form_called : (name : List ℕ) (form : Form) → principle_named name ≡ Some form → form ≡ form_of (called name)
-form_called name form h = let p = one_of_them name form h in form_at name form p.0 h p.1
 
 -- ---- what it takes
 

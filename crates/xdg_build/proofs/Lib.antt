@@ -1,6 +1,5 @@
 mod ListTurns
 mod Cardinalities
-pub mod Calling
 pub mod Forms
 pub mod Lists
 mod Kept

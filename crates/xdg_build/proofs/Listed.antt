@@ -8,20 +8,19 @@ use Rattle.xdg_types.specs.Table.{Table, ArePlaces}
 use Rattle.xdg_principles.specs.declared.building.Arg.{Arg}
 use Rattle.xdg_principles.specs.declared.building.Arg.TheVariants as g
 use Rattle.xdg_principles.specs.declared.building.PrincipleUse.{PrincipleUse}
-use Rattle.xdg_principles.specs.declared.principle.Element.TheVariants as e
-use Rattle.xdg_principles.specs.declared.principle.Key.TheVariants as k
-use Rattle.xdg_principles.specs.declared.principle.Parameter.{Parameter}
-use Rattle.xdg_principles.specs.declared.principle.Preset.TheVariants as p
-use Rattle.xdg_principles.specs.declared.principle.Sort.TheVariants as s
-use Rattle.xdg_principles.specs.declared.principle.Typing.TheVariants as t
-use Rattle.xdg_principles.specs.declared.principle.Wanted.TheVariants as a
-use Rattle.xdg_principles.specs.declared.principle.Which.TheVariants as w
-use Rattle.xdg_principles.specs.Principles.{parameters}
+use Rattle.xdg_problem.specs.declared.forms.Element.TheVariants as e
+use Rattle.xdg_problem.specs.declared.forms.Key.TheVariants as k
+use Rattle.xdg_problem.specs.declared.forms.Parameter.{Parameter}
+use Rattle.xdg_problem.specs.declared.forms.Preset.TheVariants as p
+use Rattle.xdg_problem.specs.declared.forms.Sort.TheVariants as s
+use Rattle.xdg_problem.specs.declared.forms.Typing.TheVariants as t
+use Rattle.xdg_problem.specs.declared.forms.Wanted.TheVariants as a
+use Rattle.xdg_problem.specs.declared.forms.Which.TheVariants as w
+use Rattle.xdg_problem.specs.Forms.{form_of, parameters}
 use Rattle.xdg_principles.specs.Typed.{AreTypedArgs, labels_at}
 use Rattle.xdg_problem.specs.declared.parts.Principle.{Principle}
 use Rattle.xdg_problem.specs.declared.parts.Principle.TheVariants as principles
 use Rattle.xdg_build.specs.Groups.{labels_in}
-use Rattle.xdg_build.proofs.Forms.{form_of}
 use Rattle.xdg_build.proofs.Lists.{all_in, all_mapped}
 use Rattle.xdg_build.proofs.Named.{unlisted}
 use Rattle.xdg_facts.proofs.Lists.{pairs_none}

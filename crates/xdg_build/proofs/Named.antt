@@ -10,14 +10,14 @@ use Rattle.xdg_types.specs.Table.{Table, KeepDims}
 use Rattle.xdg_principles.specs.declared.building.Arg.{Arg}
 use Rattle.xdg_principles.specs.declared.building.Arg.TheVariants as g
 use Rattle.xdg_principles.specs.declared.building.PrincipleUse.{PrincipleUse}
-use Rattle.xdg_principles.specs.declared.principle.Parameter.{Parameter}
-use Rattle.xdg_principles.specs.declared.principle.Sort.{Sort}
-use Rattle.xdg_principles.specs.declared.principle.Sort.TheVariants as s
-use Rattle.xdg_principles.specs.declared.principle.Typing.{Typing}
-use Rattle.xdg_principles.specs.declared.principle.Wanted.{Wanted}
-use Rattle.xdg_principles.specs.declared.principle.Wanted.TheVariants as a
-use Rattle.xdg_principles.specs.declared.principle.Which.{Which}
-use Rattle.xdg_principles.specs.Principles.{parameters}
+use Rattle.xdg_problem.specs.declared.forms.Parameter.{Parameter}
+use Rattle.xdg_problem.specs.declared.forms.Sort.{Sort}
+use Rattle.xdg_problem.specs.declared.forms.Sort.TheVariants as s
+use Rattle.xdg_problem.specs.declared.forms.Typing.{Typing}
+use Rattle.xdg_problem.specs.declared.forms.Wanted.{Wanted}
+use Rattle.xdg_problem.specs.declared.forms.Wanted.TheVariants as a
+use Rattle.xdg_problem.specs.declared.forms.Which.{Which}
+use Rattle.xdg_problem.specs.Forms.{form_of, parameters}
 use Rattle.xdg_principles.specs.Settings.{at_place, members_in}
 use Rattle.xdg_principles.specs.Typed.{IsTypedUse, IsTypedArg, AreTypedArgs, IsTypedMember, members_at, place_at}
 use Rattle.xdg_build.specs.Groups.{features_in, attrs_in, labels_in, truths_in}
@@ -160,4 +160,4 @@ small_all table u shared (p ∷ ps) (x ∷ xs) keeps h = all_cons IsSmallArg x x
 small_all table u shared _ _ keeps h = absurd h
 
 pub small_args : (table : Table) (u : PrincipleUse) → KeepDims table.dims → IsTypedUse table u → All IsSmallArg u.args
-small_args table u keeps t = small_all table u t.shared (parameters t.form) u.args keeps t.args
+small_args table u keeps t = small_all table u t.shared (parameters (form_of u.principle)) u.args keeps t.args

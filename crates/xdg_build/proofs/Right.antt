@@ -13,14 +13,15 @@ use Rattle.xdg_types.specs.Table.{Table}
 use Rattle.xdg_packed.specs.Entries.{IsRightLexicon, IsEntry}
 use Rattle.xdg_principles.specs.declared.building.Arg.{Arg}
 use Rattle.xdg_principles.specs.declared.building.PrincipleUse.{PrincipleUse}
-use Rattle.xdg_principles.specs.declared.principle.Element.TheVariants as e
-use Rattle.xdg_principles.specs.declared.principle.Sort.TheVariants as s
-use Rattle.xdg_principles.specs.declared.principle.Typing.{Typing}
-use Rattle.xdg_principles.specs.declared.principle.Typing.TheVariants as t
-use Rattle.xdg_principles.specs.declared.principle.Which.{Which}
-use Rattle.xdg_principles.specs.declared.principle.Which.TheVariants as w
-use Rattle.xdg_principles.specs.Principles.{dims_in, parameters}
-use Rattle.xdg_principles.specs.Typed.{IsTypedUse, IsTypedMember, AreTypedArgs, number_of, labels_at, members_at}
+use Rattle.xdg_problem.specs.declared.forms.Element.TheVariants as e
+use Rattle.xdg_problem.specs.declared.forms.Sort.{Sort}
+use Rattle.xdg_problem.specs.declared.forms.Sort.TheVariants as s
+use Rattle.xdg_problem.specs.declared.forms.Typing.{Typing}
+use Rattle.xdg_problem.specs.declared.forms.Typing.TheVariants as t
+use Rattle.xdg_problem.specs.declared.forms.Which.{Which}
+use Rattle.xdg_problem.specs.declared.forms.Which.TheVariants as w
+use Rattle.xdg_problem.specs.Forms.{form_of, parameters}
+use Rattle.xdg_principles.specs.Typed.{IsTypedUse, IsTypedMember, number_of, labels_at, members_at}
 use Rattle.xdg_problem.specs.declared.parts.Feat.{Feat}
 use Rattle.xdg_problem.specs.declared.parts.Group.{Group}
 use Rattle.xdg_problem.specs.declared.parts.Parts.{Parts}
@@ -32,12 +33,12 @@ use Rattle.xdg_problem.specs.Names.{IsOfTexts}
 use Rattle.xdg_problem.specs.Problems.{IsGroup, IsSuited}
 use Rattle.xdg_build.specs.Features.{feature}
 use Rattle.xdg_build.specs.Grammars.{Grammar, is_used, used_place, place_in}
-use Rattle.xdg_build.specs.Groups.{attrs_in, labels_in, truths_in, features_in, called, dims_of, group_of, groups_of}
+use Rattle.xdg_build.specs.Groups.{attrs_in, labels_in, truths_in, features_in, features_at, dims_of, group_of, groups_of}
+use Rattle.xdg_build.specs.Known.{features_dim}
 use Rattle.xdg_build.specs.Rows.{features_by_number}
 use Rattle.xdg_build.specs.Suits.{Suits}
-use Rattle.xdg_build.proofs.Calling.{called_of_texts}
 use Rattle.xdg_build.proofs.Dimensions.{Home, home_of, below_at, is_used_home, labels-home, members-home}
-use Rattle.xdg_build.proofs.Forms.{form_of, form_called, feature_typings, attr_typings, feature_which, number-feature_which, features_of_which, attrs_of_first, dims_wanted, attrs_wanted, truths_wanted, which_within, first_within, AreOf}
+use Rattle.xdg_build.proofs.Forms.{all_typings, feature_typings, attr_typings, feature_which, number-feature_which, features_of_which, attrs_of_first, dims_wanted, attrs_wanted, truths_wanted, which_within, first_within, AreOf}
 use Rattle.xdg_build.proofs.Listed.{order_right}
 use Rattle.xdg_build.proofs.Lists.{all_in, all_mapped}
 use Rattle.xdg_build.proofs.Named.{AreMembers, attr_id, numbers, all_members, as_many_members, all_features, all_attrs, all_truths}
@@ -49,34 +50,7 @@ use Rattle.xdg_facts.specs.Membership.{In}
 use Rattle.xdg_facts.proofs.In.{in_get}
 use Rattle.xdg_problem.specs.Principles.{IsOrderFor, AreFeatures, feature_dim}
 
--- the features that a use of that principle takes of an entry
-abbrev pub taken_at : Grammar → PrincipleUse → Principle → EntryNo → List Feat
-taken_at g u q entry = map (λ place. feature g.table (get_or g.lexicon.entries entry.0 []) (get_or u.dims (feature_dim q) 0) place) (flat_map features_in u.args)
-
--- a use over nodes that may have these entries, where it is one of that principle
-abbrev pub group_at : Grammar → List (List EntryNo) → PrincipleUse → Principle → Group
-group_at g candidates u q = record {
-  principle = q;
-  dims = dims_of g u;
-  attrs = flat_map attrs_in u.args;
-  order = flat_map labels_in u.args;
-  truths = flat_map truths_in u.args;
-  feats = map (λ entries. map (taken_at g u q) entries) candidates;
-}
-
--- a use of that principle in a used dimension
-pub record Use (g : Grammar) (u : PrincipleUse) (q : Principle) : Type 0 where
-  pub typed : IsTypedUse g.table u
-  pub used : is_used g.table u.home ≡ true
-  pub form : typed.form ≡ form_of q
-
 -- ---- dimensions
-
-pub dim_count : (g : Grammar) (u : PrincipleUse) (q : Principle) → Use g u q → length u.dims ≡ length (dims_in (form_of q).dims)
-dim_count g u q use_of = use_of.typed.count ∙ ap (λ form. length (dims_in form.dims)) use_of.form
-
-pub args_of : (g : Grammar) (u : PrincipleUse) (q : Principle) (one : Use g u q) → AreTypedArgs g.table u one.typed.shared (parameters (form_of q)) u.args
-args_of g u q one = subst (λ form. AreTypedArgs g.table u one.typed.shared (parameters form) u.args) one.form one.typed.args
 
 abbrev dim_id : ℕ → DimId
 dim_id k = record { 0 = k }
@@ -125,82 +99,79 @@ shared_value g candidates parts u shared typed_so used suits within _ ks shares 
 
 -- ---- features
 
-first_of : (g : Grammar) (u : PrincipleUse) (q : Principle) → Use g u q → 0 < length u.dims
-first_of g u q one = omega (arith, dim_count g u q one, first_within q)
+module _ (g : Grammar) (candidates : List (List EntryNo)) (parts : Parts) (u : PrincipleUse) (typed_so : IsTypedUse g.table u) (used : is_used g.table u.home ≡ true) (suits : Suits g candidates parts) where
+  abbrev p : Principle
+  p = u.principle
 
-sizes_of : (g : Grammar) (candidates : List (List EntryNo)) (parts : Parts) (u : PrincipleUse) (q : Principle) (one : Use g u q) → Suits g candidates parts → Sizes q parts (group_at g candidates u q) (labels_at g.table u) one.typed.shared
-sizes_of g candidates parts u q one suits = record {
-  first = labels_size g candidates parts u w.First one.typed one.used suits (first_of g u q one);
-  second = λ two. labels_size g candidates parts u w.Second one.typed one.used suits (omega (arith, two, dim_count g u q one));
-  values = λ shares.
-      ap (λ all. value_count parts (get_or (dims_of g u) 0 (dim_id 0)).0 (get_or all 0 (attr_id 0)).0) (all_attrs u.args)
-      ∙ shared_value g candidates parts u one.typed.shared one.typed one.used suits (first_of g u q one) (attr_typings q) (flat_map (numbers s.Attribute) u.args) shares
-      (all_members g.table u one.typed.shared s.Attribute (parameters (form_of q)) u.args (args_of g u q one));
-}
+  abbrev shared : Shape
+  shared = typed_so.shared
 
-feature_within : (g : Grammar) (u : PrincipleUse) (q : Principle) → Use g u q → number_of (feature_which q) < length u.dims
-feature_within g u q one = omega (arith, dim_count g u q one, which_within q, number-feature_which q)
+  first_dim : 0 < length u.dims
+  first_dim = omega (arith, typed_so.count, first_within p)
 
-one_right : (g : Grammar) (candidates : List (List EntryNo)) (parts : Parts) (u : PrincipleUse) (q : Principle) → Use g u q → IsRightLexicon g.table g.lexicon.entries → Suits g candidates parts → (entry : EntryNo) → entry.0 < length g.lexicon.entries
-    → AreFeatures q parts (group_at g candidates u q) (taken_at g u q entry)
-one_right g candidates parts u q one lexicon suits entry within =
-    taken q parts (group_at g candidates u q) (labels_at g.table u) one.typed.shared (taken_at g u q entry) (sizes_of g candidates parts u q one suits)
-    (subst (λ feats. FitAll (labels_at g.table u) one.typed.shared (feature_typings q) feats)
-    (ap₂ (λ n ks. map (λ place. feature g.table (get_or g.lexicon.entries entry.0 []) (get_or u.dims n 0) place) ks) (number-feature_which q) (sym (all_features u.args)))
-    (all_fit g.table u one.typed.shared (feature_which q) (get_or g.lexicon.entries entry.0 []) (feature_typings q) (flat_map (numbers s.Feature) u.args)
-    (feature_within g u q one) (home_of g.table u one.typed one.used (number_of (feature_which q)) (feature_within g u q one)) (entry_at g.table g.lexicon.entries entry.0 lexicon.entries within)
-    (features_of_which q) (all_members g.table u one.typed.shared s.Feature (parameters (form_of q)) u.args (args_of g u q one))))
+  members : (sort : Sort) → AreMembers g.table u shared sort (all_typings sort (parameters (form_of p))) (flat_map (numbers sort) u.args)
+  members sort = all_members g.table u shared sort (parameters (form_of p)) u.args typed_so.args
 
--- ---- the group
+  sizes : Sizes p parts (group_of g candidates u) (labels_at g.table u) shared
+  sizes = record {
+    first = labels_size g candidates parts u w.First typed_so used suits first_dim;
+    second = λ two. labels_size g candidates parts u w.Second typed_so used suits (omega (arith, two, typed_so.count));
+    values = λ shares.
+        ap (λ all. value_count parts (get_or (dims_of g u) 0 (dim_id 0)).0 (get_or all 0 (attr_id 0)).0) (all_attrs u.args)
+        ∙ shared_value g candidates parts u shared typed_so used suits first_dim (attr_typings p) (flat_map (numbers s.Attribute) u.args) shares (members s.Attribute);
+  }
 
--- a principle of grammar texts holds nothing that has to go with a problem
-suited : (q : Principle) (parts : Parts) → IsOfTexts q → IsSuited q parts
-suited (principles.Rule formula) parts of = absurd of
-suited q parts of = tt
+  feature_within : number_of (feature_which p) < length u.dims
+  feature_within = omega (arith, typed_so.count, which_within p, number-feature_which p)
 
-right : (g : Grammar) (candidates : List (List EntryNo)) (parts : Parts) (u : PrincipleUse) (q : Principle) → IsOfTexts q → Use g u q → IsRightLexicon g.table g.lexicon.entries → All (All (λ entry. entry.0 < length g.lexicon.entries)) candidates → Suits g candidates parts
-    → IsGroup parts (group_at g candidates u q)
-right g candidates parts u q of one lexicon within suits =
-    let members = all_members g.table u one.typed.shared s.Attribute (parameters (form_of q)) u.args (args_of g u q one) in
-    record {
-      dims_count = length-map u.dims (λ k. dim_id (used_place g.table k)) ∙ dim_count g u q one ∙ dims_wanted q of;
-      dims = all_mapped (λ k. dim_id (used_place g.table k)) (λ dim. dim.0 < length parts.dims) u.dims (all_in (λ k. used_place g.table k < length parts.dims) u.dims
-          (λ k stands. subst (λ n. used_place g.table k < n) (sym suits.dim_count) (below_at g.table u one.typed one.used k stands)));
-      attrs_count = ap length (all_attrs u.args) ∙ length-map (flat_map (numbers s.Attribute) u.args) attr_id
-          ∙ as_many_members g.table u one.typed.shared s.Attribute (attr_typings q) (flat_map (numbers s.Attribute) u.args) members ∙ attrs_wanted q;
-      attrs = attrs_right;
-      order = subst (λ n. IsOrderFor q n (flat_map labels_in u.args)) (sym (labels_size g candidates parts u w.First one.typed one.used suits (first_of g u q one)))
-          (order_right q g.table u one.typed.shared u.args (args_of g u q one));
-      truths_count = all_truths g.table u one.typed.shared (parameters (form_of q)) u.args (args_of g u q one) ∙ truths_wanted q;
-      feats = length-map candidates (λ entries. map (taken_at g u q) entries) ∙ sym suits.node_count;
-      feats_each = λ v less. ap length (row v less) ∙ length-map (get_or candidates v []) (taken_at g u q) ∙ ap (λ all. length (get_or all v [])) (sym suits.candidates);
-      features = λ v less. subst (All (AreFeatures q parts (group_at g candidates u q))) (sym (row v less))
-          (all_mapped (taken_at g u q) (AreFeatures q parts (group_at g candidates u q)) (get_or candidates v [])
-          (λ k d small. one_right g candidates parts u q one lexicon suits (get_or (get_or candidates v []) k d) (within v [] (node v less) k d small)));
-      suits = suited q parts of;
-    }
-  where
-    node : (v : ℕ) → v < nodes parts → v < length candidates
-    node v less = omega (arith, less, suits.node_count)
+  features_right : IsRightLexicon g.table g.lexicon.entries → (entry : EntryNo) → entry.0 < length g.lexicon.entries → AreFeatures p parts (group_of g candidates u) (features_at g u entry)
+  features_right lexicon entry within =
+      taken p parts (group_of g candidates u) (labels_at g.table u) shared (features_at g u entry) sizes
+      (subst (λ feats. FitAll (labels_at g.table u) shared (feature_typings p) feats)
+      (ap₂ (λ n ks. map (λ place. feature g.table (get_or g.lexicon.entries entry.0 []) (get_or u.dims n 0) place) ks) (number-feature_which p) (sym (all_features u.args)))
+      (all_fit g.table u shared (feature_which p) (get_or g.lexicon.entries entry.0 []) (feature_typings p) (flat_map (numbers s.Feature) u.args)
+      feature_within (home_of g.table u typed_so used (number_of (feature_which p)) feature_within) (entry_at g.table g.lexicon.entries entry.0 lexicon.entries within)
+      (features_of_which p) (members s.Feature)))
 
-    row : (v : ℕ) → v < nodes parts → get_or (map (λ entries. map (taken_at g u q) entries) candidates) v [] ≡ map (taken_at g u q) (get_or candidates v [])
-    row v less = get_or-map (λ entries. map (taken_at g u q) entries) candidates v [] [] (node v less)
+  -- ---- the group
 
-    attrs_right : All (λ attr. attr.0 < attr_count parts (get_or (dims_of g u) 0 (dim_id 0)).0) (flat_map attrs_in u.args)
-    attrs_right = subst (All (λ attr. attr.0 < attr_count parts (get_or (dims_of g u) 0 (dim_id 0)).0)) (sym (all_attrs u.args))
-        (all_mapped attr_id (λ attr. attr.0 < attr_count parts (get_or (dims_of g u) 0 (dim_id 0)).0) (flat_map (numbers s.Attribute) u.args)
-        (subst (λ n. All (λ k. k < n) (flat_map (numbers s.Attribute) u.args)) (attrs_size g candidates parts u one.typed one.used suits (first_of g u q one))
-        (attrs_below g.table u one.typed.shared (attr_typings q) (flat_map (numbers s.Attribute) u.args) (attrs_of_first q)
-        (all_members g.table u one.typed.shared s.Attribute (parameters (form_of q)) u.args (args_of g u q one)))))
+  attrs_right : All (λ attr. attr.0 < attr_count parts (get_or (dims_of g u) 0 (dim_id 0)).0) (flat_map attrs_in u.args)
+  attrs_right = subst (All (λ attr. attr.0 < attr_count parts (get_or (dims_of g u) 0 (dim_id 0)).0)) (sym (all_attrs u.args))
+      (all_mapped attr_id (λ attr. attr.0 < attr_count parts (get_or (dims_of g u) 0 (dim_id 0)).0) (flat_map (numbers s.Attribute) u.args)
+      (subst (λ n. All (λ k. k < n) (flat_map (numbers s.Attribute) u.args)) (attrs_size g candidates parts u typed_so used suits first_dim)
+      (attrs_below g.table u shared (attr_typings p) (flat_map (numbers s.Attribute) u.args) (attrs_of_first p) (members s.Attribute))))
+
+  -- a principle of grammar texts holds nothing that has to go with a problem
+  suited : (q : Principle) → IsOfTexts q → IsSuited q parts
+  suited (principles.Rule formula) of = absurd of
+  suited q of = tt
+
+  node : (v : ℕ) → v < nodes parts → v < length candidates
+  node v less = omega (arith, less, suits.node_count)
+
+  row : (v : ℕ) → v < nodes parts → get_or (map (λ entries. map (features_at g u) entries) candidates) v [] ≡ map (features_at g u) (get_or candidates v [])
+  row v less = get_or-map (λ entries. map (features_at g u) entries) candidates v [] [] (node v less)
+
+  group_right : IsRightLexicon g.table g.lexicon.entries → All (All (λ entry. entry.0 < length g.lexicon.entries)) candidates → IsGroup parts (group_of g candidates u)
+  group_right lexicon within = record {
+    dims_count = length-map u.dims (λ k. dim_id (used_place g.table k)) ∙ typed_so.count ∙ dims_wanted p typed_so.of_texts;
+    dims = all_mapped (λ k. dim_id (used_place g.table k)) (λ dim. dim.0 < length parts.dims) u.dims (all_in (λ k. used_place g.table k < length parts.dims) u.dims
+        (λ k stands. subst (λ n. used_place g.table k < n) (sym suits.dim_count) (below_at g.table u typed_so used k stands)));
+    attrs_count = ap length (all_attrs u.args) ∙ length-map (flat_map (numbers s.Attribute) u.args) attr_id
+        ∙ as_many_members g.table u shared s.Attribute (attr_typings p) (flat_map (numbers s.Attribute) u.args) (members s.Attribute) ∙ attrs_wanted p;
+    attrs = attrs_right;
+    order = subst (λ n. IsOrderFor p n (flat_map labels_in u.args)) (sym (labels_size g candidates parts u w.First typed_so used suits first_dim))
+        (order_right p g.table u shared u.args typed_so.args);
+    truths_count = all_truths g.table u shared (parameters (form_of p)) u.args typed_so.args ∙ truths_wanted p;
+    feats = length-map candidates (λ entries. map (features_at g u) entries) ∙ sym suits.node_count;
+    feats_each = λ v less. ap length (row v less) ∙ length-map (get_or candidates v []) (features_at g u) ∙ ap (λ all. length (get_or all v [])) (sym suits.candidates);
+    features = λ v less. subst (All (AreFeatures p parts (group_of g candidates u))) (sym (row v less))
+        (all_mapped (features_at g u) (AreFeatures p parts (group_of g candidates u)) (get_or candidates v [])
+        (λ k d small. features_right lexicon (get_or (get_or candidates v []) k d) (within v [] (node v less) k d small)));
+    suits = suited p typed_so.of_texts;
+  }
 
 -- ---- all uses
-
-pub use_of : (g : Grammar) (u : PrincipleUse) → IsTypedUse g.table u → is_used g.table u.home ≡ true → Use g u (called u.principle)
-use_of g u typed_so used = record { typed = typed_so; used = used; form = form_called u.principle typed_so.form typed_so.known }
-
-group_right : (g : Grammar) (candidates : List (List EntryNo)) (parts : Parts) (u : PrincipleUse) → IsTypedUse g.table u → is_used g.table u.home ≡ true → IsRightLexicon g.table g.lexicon.entries → All (All (λ entry. entry.0 < length g.lexicon.entries)) candidates
-    → Suits g candidates parts → IsGroup parts (group_of g candidates u)
-group_right g candidates parts u typed_so used lexicon within suits = right g candidates parts u (called u.principle) (called_of_texts u.principle) (use_of g u typed_so used) lexicon within suits
 
 all_passing : {X : Type 0} (P : X → Type 0) (p : X → Bool) (xs : List X) → ((x : X) → In xs x → p x ≡ true → P x) → All P (filter p xs)
 all_passing P p [] h = all_none P
@@ -212,50 +183,38 @@ pub groups_right : (g : Grammar) (candidates : List (List EntryNo)) (parts : Par
     → Suits g candidates parts → All (IsGroup parts) (map (group_of g candidates) (filter (λ u. is_used g.table u.home) uses))
 groups_right g candidates parts uses typed_all lexicon within suits =
     all_mapped (group_of g candidates) (IsGroup parts) (filter (λ u. is_used g.table u.home) uses)
-    (all_passing (λ u. IsGroup parts (group_of g candidates u)) (λ u. is_used g.table u.home) uses (λ u i t. group_right g candidates parts u (typed_all u i) t lexicon within suits))
+    (all_passing (λ u. IsGroup parts (group_of g candidates u)) (λ u. is_used g.table u.home) uses (λ u i t. group_right g candidates parts u (typed_all u i) t suits lexicon within))
 
 -- ---- what the code asks
 
 -- the dimension of a use's features stands in every entry
-pub wide : (g : Grammar) (u : PrincipleUse) (used dims : List ℕ) (q : Principle) (name : List ℕ) (dim : ℕ) → IsTypedUse g.table u → is_used g.table u.home ≡ true → IsRightLexicon g.table g.lexicon.entries
-    → used ≡ g.table.used → dims ≡ u.dims → name ≡ u.principle → q ≡ called name → dim ≡ place_in used (get_or dims (feature_dim q) 0) → All (λ entry. dim < length entry) g.lexicon.entries
-wide g u used dims q name dim typed_so is_one lexicon same_used same_dims same_name same_q is n d less = elsewhere
+pub wide : (g : Grammar) (u : PrincipleUse) (dim : ℕ) → IsTypedUse g.table u → is_used g.table u.home ≡ true → IsRightLexicon g.table g.lexicon.entries → dim ≡ features_dim g u → All (λ entry. dim < length entry) g.lexicon.entries
+wide g u dim typed_so used lexicon is n d less = subst (λ x. dim < length x) (get_or_default g.lexicon.entries n [] d less) (omega (arith, is, below, entry.count))
   where
-    one : Use g u (called u.principle)
-    one = use_of g u typed_so is_one
+    place : ℕ
+    place = get_or u.dims (feature_dim u.principle) 0
 
-    place : dim ≡ used_place g.table (get_or u.dims (feature_dim (called u.principle)) 0)
-    place = is ∙ ap₂ (λ us k. place_in us k) same_used (ap₂ (λ ds r. get_or ds (feature_dim r) 0) same_dims (same_q ∙ ap called same_name))
-
-    inside : feature_dim (called u.principle) < length u.dims
-    inside = omega (arith, dim_count g u (called u.principle) one, which_within (called u.principle))
-
-    below : used_place g.table (get_or u.dims (feature_dim (called u.principle)) 0) < length g.table.used
-    below = below_at g.table u typed_so is_one (get_or u.dims (feature_dim (called u.principle)) 0) (in_get u.dims (feature_dim (called u.principle)) 0 inside)
+    below : features_dim g u < length g.table.used
+    below = below_at g.table u typed_so used place (in_get u.dims (feature_dim u.principle) 0 (omega (arith, typed_so.count, which_within u.principle)))
 
     entry : IsEntry g.table (get_or g.lexicon.entries n [])
     entry = entry_at g.table g.lexicon.entries n lexicon.entries less
 
-    elsewhere : dim < length (get_or g.lexicon.entries n d)
-    elsewhere = subst (λ x. dim < length x) (get_or_default g.lexicon.entries n [] d less) (omega (arith, place, below, entry.count))
-
 -- the group that was made of its parts
-pub made_group : (g : Grammar) (candidates : List (List EntryNo)) (u : PrincipleUse) (q : Principle) (name dims again places : List ℕ) (args : List Arg) (used : List ℕ) (dim : ℕ) (made : List DimId) (attrs : List AttrId) (order : List LabelId) (truths : List Bool) (feats : List (List (List Feat)))
-    → used ≡ g.table.used → dims ≡ u.dims → again ≡ u.dims → name ≡ u.principle → args ≡ u.args → q ≡ called name → dim ≡ place_in used (get_or dims (feature_dim q) 0)
-    → made ≡ map (λ k. dim_id (place_in used k)) again → attrs ≡ flat_map attrs_in args → order ≡ flat_map labels_in args → truths ≡ flat_map truths_in args → places ≡ flat_map features_in args
+pub made_group : (g : Grammar) (candidates : List (List EntryNo)) (u : PrincipleUse) (q : Principle) (dims places : List ℕ) (args : List Arg) (used : List ℕ) (dim : ℕ)
+    (made : List DimId) (attrs : List AttrId) (order : List LabelId) (truths : List Bool) (feats : List (List (List Feat)))
+    → q ≡ u.principle → used ≡ g.table.used → dims ≡ u.dims → args ≡ u.args → dim ≡ features_dim g u
+    → made ≡ map (λ k. dim_id (place_in used k)) dims → attrs ≡ flat_map attrs_in args → order ≡ flat_map labels_in args → truths ≡ flat_map truths_in args → places ≡ flat_map features_in args
     → feats ≡ map (features_by_number g.lexicon.entries dim places) candidates
     → ◌≡◌ {A = Group} (record { principle = q; dims = made; attrs = attrs; order = order; truths = truths; feats = feats }) (group_of g candidates u)
-made_group g candidates u q name dims again places args used dim made attrs order truths feats e_used e_dims e_again e_name e_args e_q e_dim e_made e_attrs e_order e_truths e_places e_feats =
-    let p : q ≡ called u.principle = e_q ∙ ap called e_name in
-    let d : dim ≡ used_place g.table (get_or u.dims (feature_dim (called u.principle)) 0) =
-    e_dim ∙ ap₂ (λ us k. place_in us k) e_used (ap₂ (λ ds r. get_or ds (feature_dim r) 0) e_dims p) in
-    let a : made ≡ dims_of g u = e_made ∙ ap₂ (λ us ds. map (λ k. dim_id (place_in us k)) ds) e_used e_again in
+made_group g candidates u q dims places args used dim made attrs order truths feats e_q e_used e_dims e_args e_dim e_made e_attrs e_order e_truths e_places e_feats =
+    let a : made ≡ dims_of g u = e_made ∙ ap₂ (λ us ds. map (λ k. dim_id (place_in us k)) ds) e_used e_dims in
     let b : attrs ≡ flat_map attrs_in u.args = e_attrs ∙ ap (flat_map attrs_in) e_args in
     let c : order ≡ flat_map labels_in u.args = e_order ∙ ap (flat_map labels_in) e_args in
     let f : truths ≡ flat_map truths_in u.args = e_truths ∙ ap (flat_map truths_in) e_args in
     let h : feats ≡ (group_of g candidates u).feats =
-    e_feats ∙ ap₂ (λ n ks. map (features_by_number g.lexicon.entries n ks) candidates) d (e_places ∙ ap (flat_map features_in) e_args) in
-    λ i. record { principle = p i; dims = a i; attrs = b i; order = c i; truths = f i; feats = h i }
+    e_feats ∙ ap₂ (λ n ks. map (features_by_number g.lexicon.entries n ks) candidates) e_dim (e_places ∙ ap (flat_map features_in) e_args) in
+    λ i. record { principle = e_q i; dims = a i; attrs = b i; order = c i; truths = f i; feats = h i }
 
 pub if_made : {E : Type 0} (g : Grammar) (candidates : List (List EntryNo)) (uses : List PrincipleUse) (r : Result (List Group) E) → uses ≡ g.uses → IfOk r (λ made. made ≡ map (group_of g candidates) (filter (λ u. is_used g.table u.home) uses))
     → ((parts : Parts) → Suits g candidates parts → All (IsGroup parts) (groups_of g candidates)) → IfOk r (λ made. (parts : Parts) → Suits g candidates parts → All (IsGroup parts) made)

@@ -13,9 +13,9 @@ use Rattle.xdg_types.specs.Table.{Table, Typed, typed}
 use Rattle.xdg_packed.specs.Lexicon.{Record, Entry}
 use Rattle.xdg_packed.specs.Entries.{IsWhole, IsEntry, AreEntries, record_type}
 use Rattle.xdg_principles.specs.declared.building.PrincipleUse.{PrincipleUse}
-use Rattle.xdg_principles.specs.declared.principle.Sort.TheVariants as s
-use Rattle.xdg_principles.specs.declared.principle.Typing.{Typing}
-use Rattle.xdg_principles.specs.declared.principle.Which.{Which}
+use Rattle.xdg_problem.specs.declared.forms.Sort.TheVariants as s
+use Rattle.xdg_problem.specs.declared.forms.Typing.{Typing}
+use Rattle.xdg_problem.specs.declared.forms.Which.{Which}
 use Rattle.xdg_principles.specs.Typed.{IsTypedAs, IsTypedMember, number_of, labels_at}
 use Rattle.xdg_problem.specs.declared.parts.Feat.{Feat}
 use Rattle.xdg_build.specs.Features.{rows_of, feature}

@@ -33,28 +33,26 @@ use Rattle.xdg_packed.specs.Entries.{IsRightLexicon}
 use Rattle.xdg_principles.specs.declared.building.Arg.{Arg}
 use Rattle.xdg_principles.specs.declared.building.Arg.TheVariants as arg
 use Rattle.xdg_principles.specs.declared.building.PrincipleUse.{PrincipleUse}
-use Rattle.xdg_principles.specs.declared.principle.Element.{Element}
-use Rattle.xdg_principles.specs.declared.principle.Element.TheVariants as elements
-use Rattle.xdg_principles.specs.declared.principle.Form.{Form}
-use Rattle.xdg_principles.specs.declared.principle.Parameter.{Parameter}
-use Rattle.xdg_principles.specs.declared.principle.Sort.TheVariants as sorts
-use Rattle.xdg_principles.specs.declared.principle.Typing.{Typing}
-use Rattle.xdg_principles.specs.declared.principle.Typing.TheVariants as typings
-use Rattle.xdg_principles.specs.declared.principle.Wanted.TheVariants as wants
-use Rattle.xdg_principles.specs.declared.principle.Which.{Which}
-use Rattle.xdg_principles.specs.declared.principle.Which.TheVariants as nth
-use Rattle.xdg_principles.specs.Principles.{principle_named, parameters, dims_in, linking, labels_to_labels}
-use Rattle.xdg_principles.specs.Typed.{IsTypedUse, IsTypedMember, IsElementOf, number_of, labels_at}
+use Rattle.xdg_problem.specs.declared.forms.Element.{Element}
+use Rattle.xdg_problem.specs.declared.forms.Element.TheVariants as elements
+use Rattle.xdg_problem.specs.declared.forms.Form.{Form}
+use Rattle.xdg_problem.specs.declared.forms.Parameter.{Parameter}
+use Rattle.xdg_problem.specs.declared.forms.Sort.TheVariants as sorts
+use Rattle.xdg_problem.specs.declared.forms.Typing.{Typing}
+use Rattle.xdg_problem.specs.declared.forms.Typing.TheVariants as typings
+use Rattle.xdg_problem.specs.declared.forms.Wanted.TheVariants as wants
+use Rattle.xdg_problem.specs.declared.forms.Which.{Which}
+use Rattle.xdg_problem.specs.declared.forms.Which.TheVariants as nth
+use Rattle.xdg_problem.specs.Forms.{form_of, parameters, dims_in, linking, labels_to_labels}
+use Rattle.xdg_principles.specs.Typed.{IsTypedUse, AreTypedArgs, IsTypedMember, IsElementOf, number_of, labels_at}
 use Rattle.xdg_principles.specs.Wanted.{IsSame, IsSetOf, IsMapTo}
 use Rattle.xdg_build.specs.Features.{members_in, rows_in}
 use Rattle.xdg_build.specs.Grammars.{Grammar, is_used}
-use Rattle.xdg_build.specs.Groups.{called, features_in, attrs_in, labels_in, truths_in, group_of}
-use Rattle.xdg_build.proofs.Calling.{one_called}
-use Rattle.xdg_build.proofs.Forms.{form_of, form-name_of, one_of_them, of_texts, first_within}
-use Rattle.xdg_build.proofs.Right.{Use, use_of, dim_count, args_of}
+use Rattle.xdg_build.specs.Groups.{features_in, attrs_in, labels_in, truths_in, group_of}
+use Rattle.xdg_build.proofs.Forms.{first_within}
 use Rattle.xdg_build.proofs.TypeRows.{same_count}
 use Rattle.xdg_build.specs.Compiled.{candidates_of, compiled}
-use Rattle.xdg_build.specs.Readings.{argument, argument_with, dimension, label_text, value_texts, value_number, value_of, attribute_place, label_places, edges_in, IsMember, IsMemberAt, IsAllowedAt}
+use Rattle.xdg_build.specs.Readings.{argument, argument_among, dimension, label_text, value_texts, value_number, value_of, attribute_place, label_places, edges_in, IsMember, IsMemberAt, IsAllowedAt}
 use Rattle.xdg_build.specs.Principles.{D1, D2, D3, Is, attribute, InSet, InMap, Allows, order, HasDaughter, NoCycle, OneRoot, OneMother, OneLabel, InItem, Ordered, Projective, Agrees, AgreesAlong, Governs, Climbs, Blocked, IsLink, Linked, HasLink, StartsBy, Asks, Satisfies}
 use Rattle.xdg_build.specs.Solutions.{IsAnalysisOf}
 use Rattle.xdg_build.proofs.TypedArguments.{AreWanted, wanted_arguments, feature_argument, attribute_argument, labels_argument, truth_argument, one_argument, two_arguments, three_arguments}
@@ -67,7 +65,7 @@ use Rattle.xdg_build.proofs.FeatureRows.{same_number, Names, names_number, names
 use Rattle.xdg_facts.proofs.Facts.{then_iff}
 use Rattle.xdg_facts.specs.Membership.{In}
 use Rattle.xdg_terms.proofs.Meant.{one_place}
-use Rattle.xdg_problem.specs.Principles.{name_of, feature_dim, conditions_for}
+use Rattle.xdg_problem.specs.Principles.{feature_dim, conditions_for}
 
 -- ---- members
 
@@ -124,7 +122,7 @@ pub record Given (g : Grammar) (words : List SentenceWord) (a : Analysis) (u : P
   pub fit : IsAnalysis (compiled g words) a
   pub is : IsAnalysisOf g words a
 
-module _ (g : Grammar) (words : List SentenceWord) (a : Analysis) (u : PrincipleUse) (h : Given g words a u) (q : Principle) (named : name_of q ≡ u.principle) where
+module _ (g : Grammar) (words : List SentenceWord) (a : Analysis) (u : PrincipleUse) (h : Given g words a u) (q : Principle) (named : u.principle ≡ q) where
   abbrev own : List (List EntryNo)
   own = candidates_of g words
 
@@ -162,25 +160,19 @@ module _ (g : Grammar) (words : List SentenceWord) (a : Analysis) (u : Principle
   rows v j l = row group v (candidate v) j l
 
   is_of_texts : IsOfTexts q
-  is_of_texts = of_texts q u.principle h.right.form named h.right.known
-
-  called_is : called u.principle ≡ q
-  called_is = one_called u.principle q is_of_texts named
-
-  one_use : Use g u q
-  one_use = subst (Use g u) called_is (use_of g u h.right h.used)
+  is_of_texts = subst IsOfTexts named h.right.of_texts
 
   dims_are : length u.dims ≡ length (dims_in (form_of q).dims)
-  dims_are = dim_count g u q one_use
+  dims_are = h.right.count ∙ ap (λ (p : Principle). length (dims_in (form_of p).dims)) named
 
   abbrev shared : Shape
-  shared = one_use.typed.shared
+  shared = h.right.shared
 
-  arguments : AreWanted g.table u one_use.typed.shared (map (λ (p : Parameter). p.wanted) (parameters (form_of q))) u.args
-  arguments = wanted_arguments g.table u one_use.typed.shared (parameters (form_of q)) u.args (args_of g u q one_use)
+  arguments : AreWanted g.table u shared (map (λ (p : Parameter). p.wanted) (parameters (form_of q))) u.args
+  arguments = wanted_arguments g.table u shared (parameters (form_of q)) u.args (subst (λ (p : Principle). AreTypedArgs g.table u shared (parameters (form_of p)) u.args) named h.right.args)
 
-  argument_is : (xs : List Arg) (key : List ℕ) → u.args ≡ xs → argument u key ≡ argument_with (Some (form_of q)) xs key
-  argument_is xs key same = ap₂ (λ (f : Option Form) (ys : List Arg). argument_with f ys key) (ap principle_named (sym named) ∙ form-name_of q is_of_texts) same
+  argument_is : (xs : List Arg) (key : List ℕ) → u.args ≡ xs → argument u key ≡ argument_among (parameters (form_of q)) xs key
+  argument_is xs key same = ap₂ (λ (p : Principle) (ys : List Arg). argument_among (parameters (form_of p)) ys key) named same
 
   -- ---- dimensions
 
@@ -242,7 +234,7 @@ module _ (g : Grammar) (words : List SentenceWord) (a : Analysis) (u : Principle
       type_is = told.feature_type g words a u h.table h.lexicon h.used h.right h.is shared which typing f within member
 
       row_is : (l : ℕ) (type : Shape) (x : IsTold g a k v f type) → rows v j l ≡ get_or (rows_in (out-Value x.value)) l []
-      row_is l type x = told.row_is g words a u h.table h.lexicon h.used h.right h.is shared which q fs f v j l type own called_is which_is places_are listed at h.fit.entries node x
+      row_is l type x = told.row_is g words a u h.table h.lexicon h.used h.right h.is shared which q fs f v j l type own named which_is places_are listed at h.fit.entries node x
 
     set_has : (el : Element) (member : IsTypedMember g.table u shared sorts.Feature which (typings.Set el) f) (v : ℕ) → v < n → HasRow (InSet g words a u k key v) (element member.type) (rows v j 0)
     set_has el member v node =
@@ -379,7 +371,7 @@ module _ (g : Grammar) (words : List SentenceWord) (a : Analysis) (u : Principle
   C = Kept (compiled g words) G cs a.attrs a.edges
 
   abbrev Same : Principle → Type 0
-  Same q = name_of q ≡ u.principle → Asks g words a u q ↔ All C (conditions_for q G.truths)
+  Same q = u.principle ≡ q → Asks g words a u q ↔ All C (conditions_for q G.truths)
 
   abbrev F1 : List Edge
   F1 = edges_in g a (D1 g words a u)
@@ -608,7 +600,7 @@ module _ (g : Grammar) (words : List SentenceWord) (a : Analysis) (u : Principle
   -- ---- linking
 
   -- the principles that take a map, by what they ask of an edge on D1
-  by_map : (q : Principle) (way : Linking) (named : name_of q ≡ u.principle) → form_of q ≡ linking labels_to_labels → feature_dim q ≡ 2 → (P : Edge → Type 0)
+  by_map : (q : Principle) (way : Linking) (named : u.principle ≡ q) → form_of q ≡ linking labels_to_labels → feature_dim q ≡ 2 → (P : Edge → Type 0)
       → ((f : Edge) (row : List ℕ) → ((k : Edge) → Contains F2 k → IsLink g words a u f k ↔ Contains row k.label.0) → P f ↔ IsLinked way F2 f.mother.0 row f.daughter.0)
       → ((c x l v : ℕ) → AsksLink q G c F2 x l v ↔ (0 < length (map_row G x c l) → IsLinked way F2 x (map_row G x c l) v))
       → Linked g words a u P ↔ All C (conditions.Link ∷ [])
@@ -622,7 +614,7 @@ module _ (g : Grammar) (words : List SentenceWord) (a : Analysis) (u : Principle
       let x = feature_argument g.table u shape nth.Third labels_to_labels xs.0 xs.2 in
       let args : List Arg = arg.Feature x.0 ∷ [] in
       let same : u.args ≡ args = xs.1 ∙ ap (λ (s : Arg). s ∷ []) x.1 in
-      let under : argument u (codes "Link") ≡ Some (arg.Feature x.0) = argument_is g words a u h q named args (codes "Link") same ∙ ap (λ (f : Form). argument_with (Some f) args (codes "Link")) form in
+      let under : argument u (codes "Link") ≡ Some (arg.Feature x.0) = argument_is g words a u h q named args (codes "Link") same ∙ ap (λ (f : Form). argument_among (parameters f) args (codes "Link")) form in
       let parts = map_parts (IsElementOf (labels_at g.table u) shape (elements.Labels nth.Second)) (labels_at g.table u nth.First) x.2.type x.2.wanted in
       let s : Shape = element parts.0 in
       let s_is = element_right (IsElementOf (labels_at g.table u) shape (elements.Labels nth.Second)) parts.0 parts.2 in
@@ -632,7 +624,7 @@ module _ (g : Grammar) (words : List SentenceWord) (a : Analysis) (u : Principle
       let within2 = within_second g words a u h q named in
       one (Linked g words a u P) conditions.Link
       (kept.link_at (compiled g words) G cs a.attrs a.edges F1 F2 M1 (first_is g words a u h q named) (second_is g words a u h q named two) (labels_count g words a u h q named) q
-      (λ f. (some : List (List ℕ)) → InMap g words a u (D3 g words a u) (codes "Link") f.mother.0 (label_text g d f.label.0) some → P f) (called_is g words a u h q named) within (λ f is.
+      (λ f. (some : List (List ℕ)) → InMap g words a u (D3 g words a u) (codes "Link") f.mother.0 (label_text g d f.label.0) some → P f) named within (λ f is.
       let c : ℕ = slice_index cs f.mother.0 in
       let row : List ℕ = map_row G f.mother.0 c f.label.0 in
       let M : List (List ℕ) → Type 0 = InMap g words a u (D3 g words a u) (codes "Link") f.mother.0 (label_text g d f.label.0) in
@@ -664,7 +656,7 @@ module _ (g : Grammar) (words : List SentenceWord) (a : Analysis) (u : Principle
       let within = within_first g words a u h q named in
       one (Asks g words a u q) conditions.Link
       (kept.link_at (compiled g words) G cs a.attrs a.edges F1 F2 M1 (first_is g words a u h q named) (second_is g words a u h q named two) (labels_count g words a u h q named) q
-      (λ f. InSet g words a u (D3 g words a u) (codes "Link") f.mother.0 (label_text g d f.label.0 ∷ []) → IsDaughter F2 f.mother.0 f.daughter.0 → ⊥) (called_is g words a u h q named) within (λ f is.
+      (λ f. InSet g words a u (D3 g words a u) (codes "Link") f.mother.0 (label_text g d f.label.0 ∷ []) → IsDaughter F2 f.mother.0 f.daughter.0 → ⊥) named within (λ f is.
       let has = set_has g words a u h q named nth.Third three refl (x.0 ∷ []) (ap (flat_map features_in) same)
       0 x.0 (omega arith) refl (codes "Link") (argument_is g words a u h q named args (codes "Link") same) (elements.Labels nth.First) x.2 f.mother.0 (within.mother f is) in
       let member = label_is (labels_at g.table u) shape nth.First (InSet g words a u (D3 g words a u) (codes "Link") f.mother.0) s (set_row G f.mother.0 (slice_index cs f.mother.0))
@@ -706,13 +698,6 @@ module _ (g : Grammar) (words : List SentenceWord) (a : Analysis) (u : Principle
   same_for (principles.Rule formula) named = absurd (is_of_texts g words a u h (principles.Rule formula) named)
   same_for (principles.Bound costs bound) named = absurd (is_of_texts g words a u h (principles.Bound costs bound) named)
 
-  conditions_are : (q : Principle) → name_of q ≡ u.principle → conditions_for q G.truths ≡ conditions_for G.principle G.truths
-  conditions_are q named = ap (λ (p : Principle). conditions_for p G.truths) (sym (one_called u.principle q (is_of_texts g words a u h q named) named))
-
   -- the use is satisfied exactly where the relation of its group holds
   pub satisfied_same : Satisfies g words a u ↔ Relation (compiled g words) G a
-  satisfied_same =
-      let q = one_of_them u.principle h.right.form h.right.known in (
-        λ p. subst (All C) (conditions_are p.0 p.1) ((same_for p.0 p.1).0 p.2),
-        λ r. (q.0, sym q.1, (same_for q.0 (sym q.1)).1 (subst (All C) (sym (conditions_are q.0 (sym q.1))) r)),
-      )
+  satisfied_same = same_for u.principle refl

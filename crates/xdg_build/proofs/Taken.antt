@@ -2,20 +2,20 @@
 use Rattle.std.proofs.Common.{◌≡◌, ℕ, ◌<◌, List, [], ◌∷◌, length, refl, sym, ◌∙◌, subst, arith}
 use Rattle.std.specs.Prelude.{All}
 use Rattle.xdg_domain.specs.Shapes.{Shape, count}
-use Rattle.xdg_principles.specs.declared.principle.Element.{Element}
-use Rattle.xdg_principles.specs.declared.principle.Element.TheVariants as e
-use Rattle.xdg_principles.specs.declared.principle.Typing.{Typing}
-use Rattle.xdg_principles.specs.declared.principle.Typing.TheVariants as t
-use Rattle.xdg_principles.specs.declared.principle.Which.{Which}
-use Rattle.xdg_principles.specs.declared.principle.Which.TheVariants as w
-use Rattle.xdg_principles.specs.Principles.{dims_in}
+use Rattle.xdg_problem.specs.declared.forms.Element.{Element}
+use Rattle.xdg_problem.specs.declared.forms.Element.TheVariants as e
+use Rattle.xdg_problem.specs.declared.forms.Typing.{Typing}
+use Rattle.xdg_problem.specs.declared.forms.Typing.TheVariants as t
+use Rattle.xdg_problem.specs.declared.forms.Which.{Which}
+use Rattle.xdg_problem.specs.declared.forms.Which.TheVariants as w
+use Rattle.xdg_problem.specs.Forms.{dims_in, form_of}
 use Rattle.xdg_problem.specs.declared.parts.Feat.{Feat}
 use Rattle.xdg_problem.specs.declared.parts.Group.{Group}
 use Rattle.xdg_problem.specs.declared.parts.Parts.{Parts}
 use Rattle.xdg_problem.specs.declared.parts.Principle.{Principle}
 use Rattle.xdg_problem.specs.declared.parts.Principle.TheVariants as principles
 use Rattle.xdg_problem.specs.Arguments.{first_dim, second_dim, label_count, value_count, attr_of}
-use Rattle.xdg_build.proofs.Forms.{form_of, feature_typings, attr_typings}
+use Rattle.xdg_build.proofs.Forms.{feature_typings, attr_typings}
 use Rattle.xdg_build.proofs.Said.{FitAll}
 use Rattle.xdg_build.proofs.TypeRows.{size}
 use Rattle.xdg_facts.proofs.Lists.{all_cons, all_one}

@@ -27,13 +27,13 @@ use Rattle.xdg_packed.specs.Entries.{IsWhole, IsEntry, IsRightLexicon}
 use Rattle.xdg_principles.specs.declared.building.Arg.{Arg}
 use Rattle.xdg_principles.specs.declared.building.Arg.TheVariants as arg
 use Rattle.xdg_principles.specs.declared.building.PrincipleUse.{PrincipleUse}
-use Rattle.xdg_principles.specs.declared.principle.Sort.TheVariants as sorts
-use Rattle.xdg_principles.specs.declared.principle.Typing.{Typing}
-use Rattle.xdg_principles.specs.declared.principle.Which.{Which}
+use Rattle.xdg_problem.specs.declared.forms.Sort.TheVariants as sorts
+use Rattle.xdg_problem.specs.declared.forms.Typing.{Typing}
+use Rattle.xdg_problem.specs.declared.forms.Which.{Which}
 use Rattle.xdg_principles.specs.Typed.{IsTypedUse, IsTypedMember, number_of, labels_at}
 use Rattle.xdg_build.specs.Features.{rows_in, rows_of, feature}
 use Rattle.xdg_build.specs.Grammars.{Grammar, is_used, no_dim, used_place}
-use Rattle.xdg_build.specs.Groups.{called, features_in, features_at, group_of, dims_of}
+use Rattle.xdg_build.specs.Groups.{features_in, features_at, group_of, dims_of}
 use Rattle.xdg_build.proofs.Dimensions.{Home, home_of, has_place, is_used_home, labels-home, members-home}
 use Rattle.xdg_build.proofs.Said as reading
 use Rattle.xdg_build.specs.Readings.{dimension, type_at, record_for, entry_at, said_for, OnFeature, feature_place}
@@ -127,14 +127,15 @@ module _ (g : Grammar) (words : List SentenceWord) (a : Analysis) (u : Principle
         }
 
     -- the rows of a feature of a node's entry, compiled
-    pub row_is : (which : Which) (q : Principle) (places : List ℕ) (f v j l : ℕ) (type : Shape) (candidates : List (List EntryNo)) → called u.principle ≡ q → feature_dim q ≡ number_of which → flat_map features_in u.args ≡ places → j < length places → get_or places j 0 ≡ f
+    pub row_is : (which : Which) (q : Principle) (places : List ℕ) (f v j l : ℕ) (type : Shape) (candidates : List (List EntryNo))
+        → u.principle ≡ q → feature_dim q ≡ number_of which → flat_map features_in u.args ≡ places → j < length places → get_or places j 0 ≡ f
         → HasCandidates candidates a.entries → v < length words → (x : IsTold g a (dim_number which) v f type)
         → row (group_of g candidates u) v (slice_index (entry_places candidates a.entries) v) j l ≡ get_or (rows_in (out-Value x.value)) l []
     row_is which q places f v j l type candidates is_called which_is places_are within at has node x =
         let k : ℕ = dim_number which in
         let e : EntryNo = get_or a.entries v (record { 0 = 0 }) in
         let one : ℕ → ℕ → Feat = λ d place. feature g.table (entry_at g a v) d place in
-        let kd : get_or u.dims (feature_dim (called u.principle)) 0 ≡ k = ap (λ p. get_or u.dims (feature_dim p) 0) is_called ∙ ap (λ n. get_or u.dims n 0) which_is in
+        let kd : get_or u.dims (feature_dim u.principle) 0 ≡ k = ap (λ p. get_or u.dims (feature_dim p) 0) is_called ∙ ap (λ n. get_or u.dims n 0) which_is in
         let feats : features_at g u e ≡ map (one k) places = ap₂ (λ d ps. map (one d) ps) kd places_are in
         let here : get_or (features_at g u e) j (record { rows = [] }) ≡ one k f = ap (λ (fs : List Feat). get_or fs j (record { rows = [] })) feats ∙ get_or-map (one k) places j 0 (record { rows = [] }) within ∙ ap (one k) at in
         let rows : (one k f).rows ≡ rows_in (out-Value x.value) = ap rows_of (ap (λ (r : Record). said_at r f) (sym (record_is k v node)) ∙ x.said) in

@@ -6,12 +6,12 @@ use Rattle.std.specs.Prelude.{Bool, length}
 use Rattle.xdg_principles.specs.declared.building.Arg.{Arg}
 use Rattle.xdg_principles.specs.declared.building.Arg.TheVariants as arg
 use Rattle.xdg_principles.specs.declared.building.PrincipleUse.{PrincipleUse}
-use Rattle.xdg_principles.specs.declared.principle.Parameter.{Parameter}
-use Rattle.xdg_principles.specs.declared.principle.Sort.TheVariants as sorts
-use Rattle.xdg_principles.specs.declared.principle.Typing.{Typing}
-use Rattle.xdg_principles.specs.declared.principle.Wanted.{Wanted}
-use Rattle.xdg_principles.specs.declared.principle.Wanted.TheVariants as wants
-use Rattle.xdg_principles.specs.declared.principle.Which.{Which}
+use Rattle.xdg_problem.specs.declared.forms.Parameter.{Parameter}
+use Rattle.xdg_problem.specs.declared.forms.Sort.TheVariants as sorts
+use Rattle.xdg_problem.specs.declared.forms.Typing.{Typing}
+use Rattle.xdg_problem.specs.declared.forms.Wanted.{Wanted}
+use Rattle.xdg_problem.specs.declared.forms.Wanted.TheVariants as wants
+use Rattle.xdg_problem.specs.declared.forms.Which.{Which}
 use Rattle.xdg_principles.specs.Typed.{IsTypedArg, AreTypedArgs, IsTypedMember, labels_at}
 
 module _ (table : Table) (u : PrincipleUse) (shared : Shape) where

@@ -1,31 +1,18 @@
 -- Principle uses compiled.
-use Rattle.std.specs.Prelude.{ℕ, Bool, List, [], ◌∷◌, cond, map, filter, flat_map, get_or, bytes_eq}
+use Rattle.std.specs.Prelude.{ℕ, Bool, List, [], ◌∷◌, map, filter, flat_map, get_or}
 use Rattle.xdg_base.specs.declared.ids.AttrId.{AttrId}
 use Rattle.xdg_base.specs.declared.ids.DimId.{DimId}
 use Rattle.xdg_base.specs.declared.ids.EntryNo.{EntryNo}
 use Rattle.xdg_base.specs.declared.ids.LabelId.{LabelId}
 use Rattle.xdg_problem.specs.declared.parts.Feat.{Feat}
 use Rattle.xdg_problem.specs.declared.parts.Group.{Group}
-use Rattle.xdg_problem.specs.declared.parts.Principle.{Principle}
-use Rattle.xdg_problem.specs.declared.parts.Principle.TheVariants as principles
 use Rattle.xdg_principles.specs.declared.building.Arg.{Arg}
 use Rattle.xdg_principles.specs.declared.building.Arg.TheVariants as g
 use Rattle.xdg_principles.specs.declared.building.PrincipleUse.{PrincipleUse}
 use Rattle.xdg_packed.specs.Lexicon.{Entry}
 use Rattle.xdg_build.specs.Grammars.{Grammar, is_used, used_place}
 use Rattle.xdg_build.specs.Features.{feature}
-use Rattle.xdg_problem.specs.Principles.{name_of, feature_dim, all_principles}
-
--- ---- principles by name
-
--- the first of these principles with that name, and graph where there is none
-abbrev pub called_in : List Principle → List ℕ → Principle
-called_in [] name = principles.Graph
-called_in (p ∷ more) name = cond (bytes_eq (name_of p) name) p (called_in more name)
-
--- the principle with that name
-abbrev pub called : List ℕ → Principle
-called name = called_in all_principles name
+use Rattle.xdg_problem.specs.Principles.{feature_dim}
 
 -- ---- arguments
 
@@ -53,7 +40,7 @@ dims_of g u = map (λ k. record { 0 = used_place g.table k }) u.dims
 
 -- the features that a principle use takes of an entry
 abbrev pub features_of : Grammar → PrincipleUse → Entry → List Feat
-features_of g u entry = map (λ place. feature g.table entry (get_or u.dims (feature_dim (called u.principle)) 0) place) (flat_map features_in u.args)
+features_of g u entry = map (λ place. feature g.table entry (get_or u.dims (feature_dim u.principle) 0) place) (flat_map features_in u.args)
 
 -- of the entry with that number
 abbrev pub features_at : Grammar → PrincipleUse → EntryNo → List Feat
@@ -64,7 +51,7 @@ features_at g u entry = features_of g u (get_or g.lexicon.entries entry.0 [])
 -- a principle use over nodes that may have these entries
 abbrev pub group_of : Grammar → List (List EntryNo) → PrincipleUse → Group
 group_of g candidates u = record {
-  principle = called u.principle;
+  principle = u.principle;
   dims = dims_of g u;
   attrs = flat_map attrs_in u.args;
   order = flat_map labels_in u.args;

@@ -1,13 +1,13 @@
 -- The used dimensions of a grammar, compiled.
-use Rattle.std.specs.Prelude.{ℕ, ◌==◌, ◌&&◌, Bool, List, [], map, get_or, bytes_eq}
+use Rattle.std.specs.Prelude.{ℕ, ◌==◌, ◌&&◌, Bool, true, false, List, [], map, get_or}
 use Rattle.std.specs.List.{list_any, range_with_len}
 use Rattle.xdg_domain.specs.Shapes.{Shape, domain, tuple, count}
 use Rattle.xdg_problem.specs.declared.parts.AttrPlan.{AttrPlan}
 use Rattle.xdg_problem.specs.declared.parts.DimPlan.{DimPlan}
+use Rattle.xdg_problem.specs.declared.parts.Principle.{Principle}
 use Rattle.xdg_problem.specs.declared.parts.Principle.TheVariants as principles
 use Rattle.xdg_problem.specs.declared.parts.Shown.{Shown}
 use Rattle.xdg_problem.specs.declared.parts.Shown.TheVariants as shown
-use Rattle.xdg_problem.specs.Principles.{name_of}
 use Rattle.xdg_terms.specs.Means.{tuple_texts}
 use Rattle.xdg_types.specs.declared.table.DimType.{DimType}
 use Rattle.xdg_types.specs.Table.{Table, Typed, typed}
@@ -27,9 +27,14 @@ attr_plan name s = record { name = name; values = map (shown_as s) (range_with_l
 abbrev pub attr_plans : Typed → List AttrPlan
 attr_plans attrs = map (λ attr. attr_plan attr.0 attr.1) attrs
 
+-- the principle is graph
+abbrev pub is_graph : Principle → Bool
+is_graph principles.Graph = true
+is_graph principle = false
+
 -- the use, which stands in a used dimension, is of the principle graph on the dimension with that place among all
 abbrev pub makes_graph : Table → ℕ → PrincipleUse → Bool
-makes_graph table k u = is_used table u.home && bytes_eq u.principle (name_of principles.Graph) && list_any (λ dim. dim == k) u.dims
+makes_graph table k u = is_used table u.home && is_graph u.principle && list_any (λ dim. dim == k) u.dims
 
 -- the dimension with that place has edges: some use in a used dimension is of the principle graph on it
 abbrev pub has_graph : Grammar → ℕ → Bool

@@ -14,7 +14,6 @@ use Rattle.xdg_principles.specs.declared.building.PrincipleUse.{PrincipleUse}
 use Rattle.xdg_build.specs.Grammars.{Grammar}
 use Rattle.xdg_build.specs.Readings.{IsMember, IsMemberAt, IsAllowedAt, argument, feature_place, attribute_place, label_places}
 use Rattle.xdg_build.specs.Readings.{dimension, label_text, edges_in, OnFeature, value_of}
-use Rattle.xdg_problem.specs.Principles.{name_of}
 
 -- ---- paths
 
@@ -206,6 +205,6 @@ module _ (g : Grammar) (words : List SentenceWord) (a : Analysis) (u : Principle
   Asks (principles.Rule formula) = ⊥
   Asks (principles.Bound costs bound) = ⊥
 
--- the analysis satisfies the use: it is one of a principle of the table, and what that principle asks is so
+-- the analysis satisfies the use: what its principle asks is so
 abbrev pub Satisfies : Grammar → List SentenceWord → Analysis → PrincipleUse → Type 0
-Satisfies g words a u = (p : Principle) × (name_of p ≡ u.principle) × Asks g words a u p
+Satisfies g words a u = Asks g words a u u.principle

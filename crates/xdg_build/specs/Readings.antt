@@ -15,9 +15,8 @@ use Rattle.xdg_types.specs.Table.{Typed, typed}
 use Rattle.xdg_principles.specs.declared.building.Arg.{Arg}
 use Rattle.xdg_principles.specs.declared.building.Arg.TheVariants as arg
 use Rattle.xdg_principles.specs.declared.building.PrincipleUse.{PrincipleUse}
-use Rattle.xdg_principles.specs.declared.principle.Form.{Form}
-use Rattle.xdg_principles.specs.declared.principle.Parameter.{Parameter}
-use Rattle.xdg_principles.specs.Principles.{principle_named, parameters, key_text}
+use Rattle.xdg_problem.specs.declared.forms.Parameter.{Parameter}
+use Rattle.xdg_problem.specs.Forms.{form_of, parameters, key_text}
 use Rattle.xdg_build.specs.Grammars.{Grammar, no_dim}
 
 -- ---- values of types
@@ -53,12 +52,8 @@ abbrev pub argument_among : List Parameter → List Arg → List ℕ → Option 
 argument_among (p ∷ ps) (x ∷ xs) key = cond (bytes_eq (key_text p.key) key) (Some x) (argument_among ps xs key)
 argument_among _ _ key = None
 
-abbrev pub argument_with : Option Form → List Arg → List ℕ → Option Arg
-argument_with None args key = None
-argument_with (Some form) args key = argument_among (parameters form) args key
-
 abbrev pub argument : PrincipleUse → List ℕ → Option Arg
-argument u key = argument_with (principle_named u.principle) u.args key
+argument u key = argument_among (parameters (form_of u.principle)) u.args key
 
 -- the place of a feature, or of an attribute, among those of its dimension
 abbrev pub feature_place : Option Arg → Option ℕ

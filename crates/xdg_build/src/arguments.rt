@@ -5,11 +5,11 @@ ghost use Rattle.xdg_base.specs.declared.ids.LabelId.{LabelId};
 ghost use Rattle.xdg_build.specs.Groups as groups;
 ghost use Rattle.xdg_build.specs.Rows.{IsSmallArg};
 
-use std::alloc::{AllocError, Global};
-use xdg_base::{AttrId, LabelId, List};
+use std::alloc::Global;
+use xdg_base::{AttrId, LabelId, List, OutOfMemory};
 use xdg_check::Arg;
 
-fn add_feature(arg: &Arg, made: &mut List<usize>) -> Result<(), AllocError>
+fn add_feature(arg: &Arg, made: &mut List<usize>) -> Result<(), OutOfMemory>
     ensures { IfOk result (λ _. made.new ≡ made.old ++ groups.features_in arg.now) }
 {
     match arg {
@@ -20,7 +20,7 @@ fn add_feature(arg: &Arg, made: &mut List<usize>) -> Result<(), AllocError>
 
 /// The places of the features that the arguments name.
 #[tactic(auto, using(crate::proofs::ListTurns::flat_turn))]
-pub(crate) fn feature_places(alloc: Global, args: &[Arg]) -> Result<List<usize>, AllocError>
+pub(crate) fn feature_places(alloc: Global, args: &[Arg]) -> Result<List<usize>, OutOfMemory>
     ensures { IfOk result (λ made. made ≡ flat_map groups.features_in args.now) }
 {
     let mut made = List::new(alloc);
@@ -30,7 +30,7 @@ pub(crate) fn feature_places(alloc: Global, args: &[Arg]) -> Result<List<usize>,
     Ok(made)
 }
 
-fn add_attr(arg: &Arg, made: &mut List<AttrId>) -> Result<(), AllocError>
+fn add_attr(arg: &Arg, made: &mut List<AttrId>) -> Result<(), OutOfMemory>
     requires { IsSmallArg arg.now }
     ensures { IfOk result (λ _. made.new ≡ made.old ++ groups.attrs_in arg.now) }
 {
@@ -42,7 +42,7 @@ fn add_attr(arg: &Arg, made: &mut List<AttrId>) -> Result<(), AllocError>
 
 /// The attributes that the arguments name.
 #[tactic(auto, using(crate::proofs::ListTurns::flat_turn))]
-pub(crate) fn attrs(alloc: Global, args: &[Arg]) -> Result<List<AttrId>, AllocError>
+pub(crate) fn attrs(alloc: Global, args: &[Arg]) -> Result<List<AttrId>, OutOfMemory>
     requires { All IsSmallArg args.now }
     ensures { IfOk result (λ made. made ≡ flat_map groups.attrs_in args.now) }
 {
@@ -53,7 +53,7 @@ pub(crate) fn attrs(alloc: Global, args: &[Arg]) -> Result<List<AttrId>, AllocEr
     Ok(made)
 }
 
-fn add_numbers(numbers: &[u8], made: &mut List<LabelId>) -> Result<(), AllocError>
+fn add_numbers(numbers: &[u8], made: &mut List<LabelId>) -> Result<(), OutOfMemory>
     ensures { IfOk result (λ _. made.new ≡ made.old ++ map (λ n. record { 0 = n }) numbers.now) }
 {
     for number in numbers {
@@ -62,7 +62,7 @@ fn add_numbers(numbers: &[u8], made: &mut List<LabelId>) -> Result<(), AllocErro
     Ok(())
 }
 
-fn add_labels(arg: &Arg, made: &mut List<LabelId>) -> Result<(), AllocError>
+fn add_labels(arg: &Arg, made: &mut List<LabelId>) -> Result<(), OutOfMemory>
     ensures { IfOk result (λ _. made.new ≡ made.old ++ groups.labels_in arg.now) }
 {
     match arg {
@@ -73,7 +73,7 @@ fn add_labels(arg: &Arg, made: &mut List<LabelId>) -> Result<(), AllocError>
 
 /// The labels that the arguments list.
 #[tactic(auto, using(crate::proofs::ListTurns::flat_turn))]
-pub(crate) fn labels(alloc: Global, args: &[Arg]) -> Result<List<LabelId>, AllocError>
+pub(crate) fn labels(alloc: Global, args: &[Arg]) -> Result<List<LabelId>, OutOfMemory>
     ensures { IfOk result (λ made. made ≡ flat_map groups.labels_in args.now) }
 {
     let mut made = List::new(alloc);
@@ -83,7 +83,7 @@ pub(crate) fn labels(alloc: Global, args: &[Arg]) -> Result<List<LabelId>, Alloc
     Ok(made)
 }
 
-fn add_truth(arg: &Arg, made: &mut List<bool>) -> Result<(), AllocError>
+fn add_truth(arg: &Arg, made: &mut List<bool>) -> Result<(), OutOfMemory>
     ensures { IfOk result (λ _. made.new ≡ made.old ++ groups.truths_in arg.now) }
 {
     match arg {
@@ -94,7 +94,7 @@ fn add_truth(arg: &Arg, made: &mut List<bool>) -> Result<(), AllocError>
 
 /// The truth values among the arguments.
 #[tactic(auto, using(crate::proofs::ListTurns::flat_turn))]
-pub(crate) fn truths(alloc: Global, args: &[Arg]) -> Result<List<bool>, AllocError>
+pub(crate) fn truths(alloc: Global, args: &[Arg]) -> Result<List<bool>, OutOfMemory>
     ensures { IfOk result (λ made. made ≡ flat_map groups.truths_in args.now) }
 {
     let mut made = List::new(alloc);

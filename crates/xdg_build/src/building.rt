@@ -15,8 +15,8 @@ use crate::candidates::candidates;
 use crate::nodes::over_nodes;
 use crate::refusals::refusal;
 use crate::stock::Stock;
-use std::alloc::{AllocError, Global};
-use xdg_base::{List, Stop};
+use std::alloc::Global;
+use xdg_base::{List, OutOfMemory, Stop};
 use xdg_check::Checked;
 use xdg_packed::Packed;
 use xdg_problem::{Parts, Problem, SentenceWord};
@@ -28,7 +28,7 @@ fn compile(
     packed: &Packed,
     stock: &mut Stock,
     words: List<SentenceWord>,
-) -> Result<Problem, AllocError>
+) -> Result<Problem, OutOfMemory>
     requires lexicon { IsRightLexicon checked.now.types packed.now.entries }
     requires place { IsWordPlace checked.now.types packed.now.dim packed.now.field }
     requires stock { IsStock (grammar_of checked.now packed.now) stock.old }
@@ -62,7 +62,7 @@ fn compile_alone(
     checked: &Checked,
     packed: &Packed,
     words: List<SentenceWord>,
-) -> Result<Problem, AllocError>
+) -> Result<Problem, OutOfMemory>
     requires lexicon { IsRightLexicon checked.now.types packed.now.entries }
     requires place { IsWordPlace checked.now.types packed.now.dim packed.now.field }
     requires admitted { refusal (grammar_of checked.now packed.now) words ≡ None }

@@ -7,8 +7,8 @@ ghost use Rattle.xdg_domain.specs.declared.values.Value.{out-Value};
 ghost use Rattle.xdg_packed.specs.Lexicon.{Entry};
 ghost use Rattle.xdg_build.specs.Tables as spec;
 
-use std::alloc::{AllocError, Global};
-use xdg_base::{EntryNo, List};
+use std::alloc::Global;
+use xdg_base::{EntryNo, List, OutOfMemory};
 use xdg_domain::Value;
 use xdg_packed::Packed;
 use xdg_problem::SharedList;
@@ -45,7 +45,7 @@ fn row(
     dim: usize,
     place: usize,
     number: u16,
-) -> Result<List<bool>, AllocError>
+) -> Result<List<bool>, OutOfMemory>
     requires entries { All (λ no. no.0 < length packed.now.entries) candidates.now }
     requires dim { (no : ℕ) → no < length packed.now.entries → dim < length (get_or packed.now.entries no []) }
     ensures { IfOk result (λ made. made ≡ map (spec.entry_says packed.now.entries dim place number) candidates.now) }
@@ -67,7 +67,7 @@ pub(crate) fn feat_table(
     dim: usize,
     place: usize,
     number: u16,
-) -> Result<List<List<bool>>, AllocError>
+) -> Result<List<List<bool>>, OutOfMemory>
     requires entries { All (All (λ (no : EntryNo). no.0 < length packed.now.entries)) candidates.now }
     requires dim { (no : ℕ) → no < length packed.now.entries → dim < length (get_or packed.now.entries no []) }
     ensures { IfOk result (λ made. made ≡ spec.table_of packed.now.entries candidates.now dim place number) }

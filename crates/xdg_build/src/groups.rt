@@ -12,12 +12,12 @@ ghost use Rattle.xdg_problem.specs.declared.parts.Parts.{Parts};
 ghost use Rattle.xdg_problem.specs.Problems.{IsGroup};
 
 use crate::arguments::{attrs, feature_places, labels, truths};
-use crate::places::{dims_in, feature_place, is_used, principle_called};
+use crate::places::{dims_in, feature_place, is_used};
 use crate::records::Records;
 use crate::rows::all_features;
 use indexmap::IndexMap;
-use std::alloc::{AllocError, Global};
-use xdg_base::{EntryNo, List};
+use std::alloc::Global;
+use xdg_base::{EntryNo, List, OutOfMemory};
 use xdg_check::{Checked, PrincipleUse};
 use xdg_packed::Packed;
 use xdg_problem::{Feat, Group, SharedList};
@@ -31,7 +31,7 @@ pub fn compile_uses(
     packed: &Packed,
     candidates: &[SharedList<EntryNo>],
     records: &mut Records,
-) -> Result<List<Group>, AllocError>
+) -> Result<List<Group>, OutOfMemory>
     requires lexicon { IsRightLexicon checked.now.types packed.now.entries }
     requires candidates { All (All (λ no. no.0 < length packed.now.entries)) candidates.now }
     requires records { AreRecords (grammar_of checked.now packed.now) records.old }
@@ -51,7 +51,7 @@ fn compile_all(
     candidates: &[SharedList<EntryNo>],
     uses: &[PrincipleUse],
     kept: &mut [IndexMap<u32, List<Feat>>],
-) -> Result<List<Group>, AllocError>
+) -> Result<List<Group>, OutOfMemory>
     requires lexicon { IsRightLexicon checked.now.types packed.now.entries }
     requires candidates { All (All (λ no. no.0 < length packed.now.entries)) candidates.now }
     requires typed { All (IsTypedUse checked.now.types) uses.now }
@@ -80,7 +80,7 @@ fn compile_use(
     candidates: &[SharedList<EntryNo>],
     one: &PrincipleUse,
     kept: &mut IndexMap<u32, List<Feat>>,
-) -> Result<Group, AllocError>
+) -> Result<Group, OutOfMemory>
     requires lexicon { IsRightLexicon checked.now.types packed.now.entries }
     requires candidates { All (All (λ no. no.0 < length packed.now.entries)) candidates.now }
     requires typed { IsTypedUse checked.now.types one.now }
@@ -90,13 +90,12 @@ fn compile_use(
     ensures kept { OnOk result (IsKnownFor (grammar_of checked.now packed.now) one.now kept.new.entries) }
 {
     let used = checked.types().used();
-    let principle = principle_called(one.principle.as_str());
-    let dim = feature_place(used, &principle, one.dims.as_slice());
+    let dim = feature_place(used, &one.principle, one.dims.as_slice());
     let args = one.args.as_slice();
     let places = feature_places(alloc, args)?;
     let feats = all_features(alloc, packed, dim, places.as_slice(), candidates, kept)?;
     Ok(Group {
-        principle,
+        principle: one.principle.copy(alloc)?,
         dims: dims_in(alloc, used, one.dims.as_slice())?,
         attrs: attrs(alloc, args)?,
         order: labels(alloc, args)?,

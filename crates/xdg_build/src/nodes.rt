@@ -12,8 +12,8 @@ ghost use Rattle.xdg_problem.specs.Problems.{IsGroup};
 
 use crate::groups::compile_uses;
 use crate::records::Records;
-use std::alloc::{AllocError, Global};
-use xdg_base::{EntryNo, List};
+use std::alloc::Global;
+use xdg_base::{EntryNo, List, OutOfMemory};
 use xdg_check::Checked;
 use xdg_packed::Packed;
 use xdg_problem::{Feat, Group, SharedList};
@@ -29,7 +29,7 @@ pub struct NodePlan {
 
 impl NodePlan {
     /// The same once more. It copies nothing and takes no memory; an error says that it has as many owners as can be counted.
-    pub fn share(&self) -> Result<NodePlan, AllocError>
+    pub fn share(&self) -> Result<NodePlan, OutOfMemory>
         ensures { IfOk result (λ made. made ≡ self.now) }
     {
         Ok(NodePlan {
@@ -40,7 +40,7 @@ impl NodePlan {
 }
 
 /// The features of the only node of groups.
-fn only_feats(alloc: Global, groups: &[Group]) -> Result<List<SharedList<List<Feat>>>, AllocError>
+fn only_feats(alloc: Global, groups: &[Group]) -> Result<List<SharedList<List<Feat>>>, OutOfMemory>
     requires { All (λ group. 0 < length group.feats) groups.now }
     ensures { IfOk result (λ made. made ≡ spec.only_feats groups.now) }
 {
@@ -58,7 +58,7 @@ pub fn plan_node(
     packed: &Packed,
     numbers: &[EntryNo],
     records: &mut Records,
-) -> Result<NodePlan, AllocError>
+) -> Result<NodePlan, OutOfMemory>
     requires lexicon { IsRightLexicon checked.now.types packed.now.entries }
     requires numbers { All (λ no. no.0 < length packed.now.entries) numbers.now }
     requires records { AreRecords (grammar_of checked.now packed.now) records.old }
@@ -81,7 +81,7 @@ fn feats_at(
     alloc: Global,
     place: usize,
     nodes: &[NodePlan],
-) -> Result<List<SharedList<List<Feat>>>, AllocError>
+) -> Result<List<SharedList<List<Feat>>>, OutOfMemory>
     requires { All (λ node. place < length node.feats) nodes.now }
     ensures { IfOk result (λ made. made ≡ spec.feats_at place nodes.now) }
 {
@@ -93,7 +93,12 @@ fn feats_at(
 }
 
 /// A group over these nodes.
-fn over(alloc: Global, place: usize, nodes: &[NodePlan], group: &Group) -> Result<Group, AllocError>
+fn over(
+    alloc: Global,
+    place: usize,
+    nodes: &[NodePlan],
+    group: &Group,
+) -> Result<Group, OutOfMemory>
     requires { All (λ node. place < length node.feats) nodes.now }
     ensures { IfOk result (λ made. made ≡ spec.over place nodes.now group.now) }
 {
@@ -115,7 +120,7 @@ pub fn over_nodes(
     packed: &Packed,
     uses: &[Group],
     nodes: &[NodePlan],
-) -> Result<List<Group>, AllocError>
+) -> Result<List<Group>, OutOfMemory>
     requires lexicon { IsRightLexicon checked.now.types packed.now.entries }
     requires uses { uses.now ≡ groups_of (grammar_of checked.now packed.now) [] }
     requires nodes { All (spec.IsNodePlan (grammar_of checked.now packed.now)) nodes.now }

@@ -1,25 +1,14 @@
-//! Principles by name, and dimensions by their places among the used ones.
+//! Dimensions by their places among the used ones.
 
 ghost use Rattle.std.specs.Prelude.{◌≡◌, ◌≤◌, ◌==◌, length, map, get_or, IfOk};
 ghost use Rattle.std.specs.List.{list_any};
 ghost use Rattle.xdg_base.specs.declared.ids.DimId.{DimId};
 ghost use Rattle.xdg_problem.specs.Principles as rows;
 ghost use Rattle.xdg_build.specs.Grammars as grammars;
-ghost use Rattle.xdg_build.specs.Groups as groups;
 
-use std::alloc::{AllocError, Global};
-use xdg_base::{DimId, List};
-use xdg_problem::{Principle, feature_dim, principle_named};
-
-/// The principle with that name, and graph where there is none.
-pub(crate) fn principle_called(name: &str) -> Principle
-    ensures { result ≡ groups.called name.now }
-{
-    match principle_named(name) {
-        None => Principle::Graph,
-        Some(principle) => principle,
-    }
-}
+use std::alloc::Global;
+use xdg_base::{DimId, List, OutOfMemory};
+use xdg_problem::{Principle, feature_dim};
 
 /// Whether the dimension with that place among all is used.
 pub(crate) fn is_used(used: &[usize], place: usize) -> bool
@@ -57,7 +46,7 @@ pub(crate) fn dims_in(
     alloc: Global,
     used: &[usize],
     places: &[usize],
-) -> Result<List<DimId>, AllocError>
+) -> Result<List<DimId>, OutOfMemory>
     requires { length used.now ≤ 8 }
     ensures { IfOk result (λ made. made ≡ map (λ k. record { 0 = grammars.place_in used.now k }) places.now) }
 {

@@ -10,14 +10,14 @@ ghost use Rattle.xdg_packed.specs.Lexicon.{Lexicon};
 ghost use Rattle.xdg_types.specs.Table.{typed, AreAttributes, KeepDims};
 
 use crate::shown::shown;
-use std::alloc::{AllocError, Global};
-use xdg_base::{List, Text};
+use std::alloc::Global;
+use xdg_base::{List, OutOfMemory, Text};
 use xdg_check::{Checked, PrincipleUse};
 use xdg_domain::{Ty, count};
-use xdg_problem::{AttrPlan, DimPlan, Principle, principle_name};
+use xdg_problem::{AttrPlan, DimPlan, Principle};
 use xdg_types::{DimType, TypeTable};
 
-fn copied(alloc: Global, texts: &[Text]) -> Result<List<Text>, AllocError>
+fn copied(alloc: Global, texts: &[Text]) -> Result<List<Text>, OutOfMemory>
     ensures { IfOk result (λ made. made ≡ texts.now) }
 {
     let mut made = List::new(alloc);
@@ -29,7 +29,7 @@ fn copied(alloc: Global, texts: &[Text]) -> Result<List<Text>, AllocError>
 
 /// An attribute with the values of its type.
 #[tactic(auto, using(crate::proofs::Turns::values_more))]
-fn attr_plan(alloc: Global, name: &Text, ty: &Ty) -> Result<AttrPlan, AllocError>
+fn attr_plan(alloc: Global, name: &Text, ty: &Ty) -> Result<AttrPlan, OutOfMemory>
     requires { IsSmall (shape ty.now) }
     ensures { IfOk result (λ made. made ≡ spec.attr_plan name.now (shape ty.now)) }
 {
@@ -43,7 +43,7 @@ fn attr_plan(alloc: Global, name: &Text, ty: &Ty) -> Result<AttrPlan, AllocError
     })
 }
 
-fn attr_plans(alloc: Global, attrs: &[(Text, Ty)]) -> Result<List<AttrPlan>, AllocError>
+fn attr_plans(alloc: Global, attrs: &[(Text, Ty)]) -> Result<List<AttrPlan>, OutOfMemory>
     requires { AreAttributes (typed attrs.now) }
     ensures { IfOk result (λ made. made ≡ spec.attr_plans (typed attrs.now)) }
 {
@@ -54,13 +54,22 @@ fn attr_plans(alloc: Global, attrs: &[(Text, Ty)]) -> Result<List<AttrPlan>, All
     Ok(made)
 }
 
+/// Whether it is the principle graph.
+fn is_graph(principle: &Principle) -> bool
+    ensures { result ≡ spec.is_graph principle.now }
+{
+    match principle {
+        Principle::Graph => true,
+        _ => false,
+    }
+}
+
 /// Whether the use stands in a used dimension, and is of the principle graph on the dimension with that place.
 fn makes_graph(types: &TypeTable, place: usize, one: &PrincipleUse) -> bool
     ensures { result ≡ spec.makes_graph types.now place one.now }
 {
-    let graph = principle_name(&Principle::Graph);
     types.used().contains(&one.home)
-        && one.principle.as_str() == graph
+        && is_graph(&one.principle)
         && one.dims.as_slice().contains(&place)
 }
 
@@ -81,7 +90,7 @@ fn dim_plan(
     checked: &Checked,
     place: usize,
     dim: &DimType,
-) -> Result<DimPlan, AllocError>
+) -> Result<DimPlan, OutOfMemory>
     requires { AreAttributes (typed dim.now.attrs) }
     ensures { IfOk result (λ made. (lexicon : Lexicon) → made ≡ spec.dim_plan (grammar_of checked.now lexicon) place dim.now) }
 {
@@ -99,7 +108,7 @@ fn plans_of(
     checked: &Checked,
     dims: &[DimType],
     used: &[usize],
-) -> Result<List<DimPlan>, AllocError>
+) -> Result<List<DimPlan>, OutOfMemory>
     requires dims { KeepDims dims.now }
     requires used { All (λ k. k < length dims.now) used.now }
     ensures { IfOk result (λ made. (lexicon : Lexicon) → made ≡ map (spec.plan_at (grammar_of checked.now lexicon) dims.now) used.now) }
@@ -112,7 +121,7 @@ fn plans_of(
 }
 
 /// The used dimensions, in the order of their uses. They don't go by the lexicon.
-pub(crate) fn plans(alloc: Global, checked: &Checked) -> Result<List<DimPlan>, AllocError>
+pub(crate) fn plans(alloc: Global, checked: &Checked) -> Result<List<DimPlan>, OutOfMemory>
     ensures plans { IfOk result (λ made. (lexicon : Lexicon) → made ≡ spec.plans (grammar_of checked.now lexicon)) }
     ensures keeps { IsChecked checked.now }
 {

@@ -6,8 +6,8 @@ ghost use Rattle.xdg_build.specs.Known.{AreRecords};
 ghost use Rattle.xdg_packed.specs.Lexicon.{Lexicon};
 
 use indexmap::IndexMap;
-use std::alloc::{AllocError, Global};
-use xdg_base::List;
+use std::alloc::Global;
+use xdg_base::{List, OutOfMemory};
 use xdg_check::Checked;
 use xdg_problem::Feat;
 
@@ -20,7 +20,7 @@ pub struct Records {
 
 impl Records {
     /// None yet, for the principle uses of a grammar.
-    pub fn new(alloc: Global, checked: &Checked) -> Result<Records, AllocError>
+    pub fn new(alloc: Global, checked: &Checked) -> Result<Records, OutOfMemory>
         ensures { IfOk result (λ made. (lexicon : Lexicon) → AreRecords (grammar_of checked.now lexicon) made) }
     {
         let uses = checked.principles();

@@ -16,11 +16,7 @@ pub fn first_unknown(packed: &Packed, words: &[SentenceWord]) -> Option<Fault>
 {
     for word in words {
         if packed.of_word(word.text.as_str()).is_empty() {
-            return Some(Fault {
-                cause: Cause::UnknownWord,
-                at: word.at,
-                reached: 0,
-            });
+            return Some(Fault::at(Cause::UnknownWord, word.at));
         }
     }
     None
@@ -31,11 +27,7 @@ pub(crate) fn refusal(packed: &Packed, words: &[SentenceWord]) -> Option<Fault>
     ensures { result ≡ refusal_by packed.now words.now }
 {
     if words.is_empty() {
-        return Some(Fault {
-            cause: Cause::EmptySentence,
-            at: 0,
-            reached: 0,
-        });
+        return Some(Fault::at(Cause::EmptySentence, 0));
     }
     match words.get(WORDS) {
         Some(word) => Some(Fault {

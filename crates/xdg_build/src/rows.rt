@@ -6,14 +6,14 @@ ghost use Rattle.xdg_build.specs.Features as features;
 ghost use Rattle.xdg_build.specs.Rows.{record_of, feature_in, features_in_record, features_by_number, AreKept};
 
 use indexmap::IndexMap;
-use std::alloc::{AllocError, Global};
-use xdg_base::{EntryNo, List};
+use std::alloc::Global;
+use xdg_base::{EntryNo, List, OutOfMemory};
 use xdg_domain::{CardMap, CardSet, Fields, SetOf, Value, ValueMap};
 use xdg_packed::Packed;
 use xdg_problem::{Feat, Nums, SharedList};
 
 /// The numbers of a cardinality.
-fn cards_row(alloc: Global, cards: &CardSet) -> Result<Nums, AllocError>
+fn cards_row(alloc: Global, cards: &CardSet) -> Result<Nums, OutOfMemory>
     ensures { IfOk result (λ made. made ≡ cards.now) }
 {
     let least = cards.least();
@@ -29,7 +29,7 @@ fn cards_row(alloc: Global, cards: &CardSet) -> Result<Nums, AllocError>
 }
 
 /// The members of a set.
-fn set_row(alloc: Global, set: &SetOf) -> Result<Nums, AllocError>
+fn set_row(alloc: Global, set: &SetOf) -> Result<Nums, OutOfMemory>
     ensures { IfOk result (λ made. made ≡ set.now) }
 {
     let numbers = Vec::from_slice(alloc, set.as_slice())?;
@@ -37,7 +37,7 @@ fn set_row(alloc: Global, set: &SetOf) -> Result<Nums, AllocError>
 }
 
 /// The members of a value that is a set.
-fn members_row(alloc: Global, value: &Value) -> Result<Nums, AllocError>
+fn members_row(alloc: Global, value: &Value) -> Result<Nums, OutOfMemory>
     ensures { IfOk result (λ made. made ≡ features.members_in (out-Value value.now)) }
 {
     match value {
@@ -47,7 +47,7 @@ fn members_row(alloc: Global, value: &Value) -> Result<Nums, AllocError>
 }
 
 /// The row of a set.
-fn set_rows(alloc: Global, set: &SetOf) -> Result<List<Nums>, AllocError>
+fn set_rows(alloc: Global, set: &SetOf) -> Result<List<Nums>, OutOfMemory>
     ensures { IfOk result (λ made. made ≡ set.now ∷ []) }
 {
     let mut made = List::new(alloc);
@@ -56,7 +56,7 @@ fn set_rows(alloc: Global, set: &SetOf) -> Result<List<Nums>, AllocError>
 }
 
 /// The rows of a valency.
-fn valency_rows(alloc: Global, valency: &CardMap) -> Result<List<Nums>, AllocError>
+fn valency_rows(alloc: Global, valency: &CardMap) -> Result<List<Nums>, OutOfMemory>
     ensures { IfOk result (λ made. made ≡ map (λ said. said.1) valency.now) }
 {
     let mut made = List::new(alloc);
@@ -67,7 +67,7 @@ fn valency_rows(alloc: Global, valency: &CardMap) -> Result<List<Nums>, AllocErr
 }
 
 /// The rows of a map.
-fn map_rows(alloc: Global, values: &ValueMap) -> Result<List<Nums>, AllocError>
+fn map_rows(alloc: Global, values: &ValueMap) -> Result<List<Nums>, OutOfMemory>
     ensures { IfOk result (λ made. made ≡ map (λ said. features.members_in (out-Value said.1)) values.now) }
 {
     let mut made = List::new(alloc);
@@ -78,7 +78,7 @@ fn map_rows(alloc: Global, values: &ValueMap) -> Result<List<Nums>, AllocError>
 }
 
 /// The rows of a value.
-fn value_rows(alloc: Global, value: &Value) -> Result<List<Nums>, AllocError>
+fn value_rows(alloc: Global, value: &Value) -> Result<List<Nums>, OutOfMemory>
     ensures { IfOk result (λ made. made ≡ features.rows_in (out-Value value.now)) }
 {
     match value {
@@ -90,7 +90,7 @@ fn value_rows(alloc: Global, value: &Value) -> Result<List<Nums>, AllocError>
 }
 
 /// The feature with these rows.
-fn feature_of(alloc: Global, rows: List<Nums>) -> Result<Feat, AllocError>
+fn feature_of(alloc: Global, rows: List<Nums>) -> Result<Feat, OutOfMemory>
     ensures { IfOk result (λ made. made ≡ record { rows = rows }) }
 {
     Ok(Feat {
@@ -99,7 +99,7 @@ fn feature_of(alloc: Global, rows: List<Nums>) -> Result<Feat, AllocError>
 }
 
 /// The feature with that place, as a record has it.
-fn feature(alloc: Global, fields: &Fields, place: usize) -> Result<Feat, AllocError>
+fn feature(alloc: Global, fields: &Fields, place: usize) -> Result<Feat, OutOfMemory>
     ensures { IfOk result (λ made. made ≡ feature_in fields.now place) }
 {
     for said in fields.as_slice() {
@@ -116,7 +116,7 @@ fn record_features(
     alloc: Global,
     fields: &Fields,
     places: &[usize],
-) -> Result<List<Feat>, AllocError>
+) -> Result<List<Feat>, OutOfMemory>
     ensures { IfOk result (λ made. made ≡ features_in_record places.now fields.now) }
 {
     let mut made = List::new(alloc);
@@ -127,7 +127,7 @@ fn record_features(
 }
 
 /// The same features once more. Their rows are shared and not copied.
-fn shared_features(alloc: Global, features: &[Feat]) -> Result<List<Feat>, AllocError>
+fn shared_features(alloc: Global, features: &[Feat]) -> Result<List<Feat>, OutOfMemory>
     ensures { IfOk result (λ made. made ≡ features.now) }
 {
     let mut made = Vec::with_capacity(alloc, features.len())?;
@@ -149,7 +149,7 @@ fn entry_features(
     places: &[usize],
     no: EntryNo,
     kept: &mut IndexMap<u32, List<Feat>>,
-) -> Result<List<Feat>, AllocError>
+) -> Result<List<Feat>, OutOfMemory>
     requires entry { no.0 < length packed.now.entries }
     requires dim { dim < length (get_or packed.now.entries no.0 []) }
     requires kept { AreKept packed.now.entries dim places.now kept.old.entries }
@@ -175,7 +175,7 @@ fn node_features(
     places: &[usize],
     numbers: &[EntryNo],
     kept: &mut IndexMap<u32, List<Feat>>,
-) -> Result<List<List<Feat>>, AllocError>
+) -> Result<List<List<Feat>>, OutOfMemory>
     requires dim { All (λ entry. dim < length entry) packed.now.entries }
     requires numbers { All (λ no. no.0 < length packed.now.entries) numbers.now }
     requires kept { AreKept packed.now.entries dim places.now kept.old.entries }
@@ -198,7 +198,7 @@ pub(crate) fn all_features(
     places: &[usize],
     candidates: &[SharedList<EntryNo>],
     kept: &mut IndexMap<u32, List<Feat>>,
-) -> Result<List<SharedList<List<Feat>>>, AllocError>
+) -> Result<List<SharedList<List<Feat>>>, OutOfMemory>
     requires dim { All (λ entry. dim < length entry) packed.now.entries }
     requires candidates { All (All (λ no. no.0 < length packed.now.entries)) candidates.now }
     requires kept { AreKept packed.now.entries dim places.now kept.old.entries }

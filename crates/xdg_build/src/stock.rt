@@ -10,8 +10,8 @@ use crate::groups::compile_uses;
 use crate::nodes::{NodePlan, plan_node};
 use crate::plans::plans;
 use crate::records::Records;
-use std::alloc::{AllocError, Global};
-use xdg_base::List;
+use std::alloc::Global;
+use xdg_base::{List, OutOfMemory};
 use xdg_check::Checked;
 use xdg_names::Index;
 use xdg_packed::Packed;
@@ -33,7 +33,7 @@ pub struct Stock {
 
 impl Stock {
     /// That of a grammar and its packed lexicon, before the first word.
-    pub fn new(alloc: Global, checked: &Checked, packed: &Packed) -> Result<Stock, AllocError>
+    pub fn new(alloc: Global, checked: &Checked, packed: &Packed) -> Result<Stock, OutOfMemory>
         requires { IsRightLexicon checked.now.types packed.now.entries }
         ensures { IfOk result (IsStock (grammar_of checked.now packed.now)) }
     {
@@ -56,7 +56,7 @@ impl Stock {
         checked: &Checked,
         packed: &Packed,
         word: &str,
-    ) -> Result<NodePlan, AllocError>
+    ) -> Result<NodePlan, OutOfMemory>
         requires lexicon { IsRightLexicon checked.now.types packed.now.entries }
         requires stock { IsStock (grammar_of checked.now packed.now) self.old }
         ensures node { IfOk result (λ node. node ≡ word_plan (grammar_of checked.now packed.now) word.now) }
@@ -75,7 +75,7 @@ impl Stock {
         checked: &Checked,
         packed: &Packed,
         word: &str,
-    ) -> Result<NodePlan, AllocError>
+    ) -> Result<NodePlan, OutOfMemory>
         requires lexicon { IsRightLexicon checked.now.types packed.now.entries }
         requires stock { IsStock (grammar_of checked.now packed.now) self.old }
         requires first { place_of self.old.words word.now ≡ None }
@@ -96,7 +96,7 @@ impl Stock {
         checked: &Checked,
         packed: &Packed,
         words: &[SentenceWord],
-    ) -> Result<List<NodePlan>, AllocError>
+    ) -> Result<List<NodePlan>, OutOfMemory>
         requires lexicon { IsRightLexicon checked.now.types packed.now.entries }
         requires stock { IsStock (grammar_of checked.now packed.now) self.old }
         ensures nodes { IfOk result (λ nodes. nodes ≡ map (λ word. word_plan (grammar_of checked.now packed.now) word.text) words.now) }

@@ -1,11 +1,11 @@
 -- Where no value in a body is wrong, all are right.
 use Rattle.std.proofs.Common.{◌≡◌, inl, inr, ℕ, List, [], Option, None, Some, refl}
+use Rattle.xdg_base.specs.Faults.{fault_at}
 use Rattle.xdg_ast.specs.declared.names.Pair.{Pair}
 use Rattle.xdg_base.specs.declared.faults.Cause.TheVariants as causes
 use Rattle.xdg_base.specs.declared.faults.Fault.{Fault}
 use Rattle.xdg_domain.specs.Shapes.{Shape}
 use Rattle.xdg_types.specs.Answers.{None_of}
-use Rattle.xdg_types.specs.Names.{fault_at}
 use Rattle.xdg_types.specs.Parts.{Statement, keys}
 use Rattle.xdg_types.specs.Table.{Table}
 use Rattle.xdg_types.proofs.Elements.{among_or_not, differ_unless}

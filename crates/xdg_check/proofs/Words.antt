@@ -1,9 +1,9 @@
 -- The dimension of words, and where entries say theirs.
 use Rattle.std.proofs.Common.{◌≡◌, ℕ, zero, suc, List, [], ◌∷◌, slice_get, Some, inl, inr, refl, sym, ap, subst, codes}
+use Rattle.xdg_base.specs.Faults.{fault_at}
 use Rattle.xdg_base.specs.declared.faults.Cause.TheVariants as causes
 use Rattle.xdg_domain.specs.Shapes.{Shape, text}
 use Rattle.xdg_names.specs.First.{IsFirstOf, Tells}
-use Rattle.xdg_types.specs.Names.{fault_at}
 use Rattle.xdg_types.specs.Table.{Table, Typed, typed}
 use Rattle.xdg_packed.specs.Entries.{IsWordPlace}
 use Rattle.xdg_check.specs.Lex.{HasLex, LexOffends}

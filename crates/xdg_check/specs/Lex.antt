@@ -1,9 +1,9 @@
 -- The dimension of words.
 use Rattle.std.specs.Prelude.{◌≡◌, ℕ, slice_get, Some, codes}
+use Rattle.xdg_base.specs.Faults.{fault_at}
 use Rattle.xdg_base.specs.declared.faults.Cause.TheVariants as causes
 use Rattle.xdg_base.specs.declared.faults.Fault.{Fault}
 use Rattle.xdg_domain.specs.Shapes.{text}
-use Rattle.xdg_types.specs.Names.{fault_at}
 use Rattle.xdg_types.specs.declared.table.DimType.{DimType}
 use Rattle.xdg_types.specs.Table.{Table, typed}
 use Rattle.xdg_facts.specs.Membership.{In}

@@ -58,12 +58,14 @@ impl Model for Checked {
     ghost use Rattle.xdg_ast.specs.contracts.terms.TermKind as term;
     ghost use Rattle.xdg_domain.specs.contracts.types.Ty as ty;
     ghost use Rattle.xdg_packed.specs.Entries.{IsWordPlace};
+    ghost use Rattle.xdg_problem.specs.contracts.formula.Formula as formula;
     ghost use Rattle.xdg_check.specs.Checked.{Parts, IsChecked};
     ghost use Rattle.xdg_check.specs.Counts.{class_texts};
 
     ghost Value = { Parts };
 
-    ghost coded = { Prim.hlevel (codes, ty.the_row.coded, generator.the_row.coded, elem.the_row.coded, term.the_row.coded, expr.the_row.coded) };
+    ghost coded = { Prim.hlevel
+        (codes, ty.the_row.coded, generator.the_row.coded, elem.the_row.coded, term.the_row.coded, expr.the_row.coded, formula.the_row.coded) };
 
     ghost view = { λ c. record { types = c.types; principles = c.principles; classes = c.classes; entries = c.entries; order = c.order } };
 

@@ -11,15 +11,15 @@ ghost use Rattle.xdg_check.specs.Completed.{completed, bound_by, left_out, prese
 ghost use Rattle.xdg_check.specs.Made.{IsNamed};
 
 use crate::copying::copy_pairs;
-use std::alloc::{AllocError, Global};
+use std::alloc::Global;
 use xdg_ast::{ClassParam, Expr, ExprKind, Pair, Spanned, Term};
-use xdg_base::List;
+use xdg_base::{List, OutOfMemory};
 use xdg_classes::Classes;
 use xdg_names::Index;
 use xdg_terms::{copy_name, copy_term};
 
 /// The keys that are given.
-pub(crate) fn known_keys(alloc: Global, args: &[Pair<Term>]) -> Result<Index, AllocError>
+pub(crate) fn known_keys(alloc: Global, args: &[Pair<Term>]) -> Result<Index, OutOfMemory>
     ensures { IfOk result (λ made. made ≡ different (keys args.now)) }
 {
     let mut known = Index::new(alloc);
@@ -34,7 +34,7 @@ fn add_preset(
     alloc: Global,
     param: &ClassParam,
     made: &mut List<Pair<Term>>,
-) -> Result<(), AllocError>
+) -> Result<(), OutOfMemory>
     ensures { IfOk result (λ _. made.new ≡ made.old ++ preset_pair param.now.name param.now.preset) }
 {
     match &param.preset {
@@ -54,7 +54,7 @@ fn add_unless(
     known: &Index,
     param: &ClassParam,
     made: &mut List<Pair<Term>>,
-) -> Result<(), AllocError>
+) -> Result<(), OutOfMemory>
     ensures { IfOk result (λ _. made.new ≡ made.old ++ left_out known.now (param.now ∷ [])) }
 {
     if known.contains(param.name.text.as_str()) {
@@ -69,7 +69,7 @@ fn add_left_out(
     known: &Index,
     params: &[ClassParam],
     made: &mut List<Pair<Term>>,
-) -> Result<(), AllocError>
+) -> Result<(), OutOfMemory>
     ensures { IfOk result (λ _. made.new ≡ made.old ++ left_out known.now params.now) }
 {
     for param in params {
@@ -84,7 +84,7 @@ fn bind_all(
     alloc: Global,
     params: &[ClassParam],
     args: &[Pair<Term>],
-) -> Result<List<Pair<Term>>, AllocError>
+) -> Result<List<Pair<Term>>, OutOfMemory>
     ensures { IfOk result (λ made. made ≡ args.now ++ left_out (texts (keys args.now)) params.now) }
 {
     let known = known_keys(alloc, args)?;
@@ -99,7 +99,7 @@ fn bind(
     classes: &Classes<'_>,
     name: &str,
     args: &[Pair<Term>],
-) -> Result<List<Pair<Term>>, AllocError>
+) -> Result<List<Pair<Term>>, OutOfMemory>
     ensures { IfOk result (λ made. IsNamed classes.now → made ≡ bound_by (class_named (map class_def classes.now.definitions) name.now) args.now) }
 {
     match classes.find(name) {
@@ -122,7 +122,7 @@ fn given_args(args: &Option<List<Pair<Term>>>) -> &[Pair<Term>]
 }
 
 /// A copy of an expression, in which the bindings of each use are completed.
-fn complete(alloc: Global, classes: &Classes<'_>, expr: &ExprKind) -> Result<ExprKind, AllocError>
+fn complete(alloc: Global, classes: &Classes<'_>, expr: &ExprKind) -> Result<ExprKind, OutOfMemory>
     ensures { IfOk result (λ made. IsNamed classes.now → body made ≡ completed (map class_def classes.now.definitions) (body expr.now)) }
 {
     match expr {
@@ -166,7 +166,7 @@ pub(crate) fn complete_body(
     alloc: Global,
     classes: &Classes<'_>,
     expr: &Expr,
-) -> Result<Expr, AllocError>
+) -> Result<Expr, OutOfMemory>
     ensures tree { IfOk result (λ made. IsNamed classes.now → body made.kind ≡ completed (map class_def classes.now.definitions) (body expr.now.kind)) }
     ensures span { IfOk result (λ made. made.span ≡ expr.now.span) }
 {

@@ -1,9 +1,9 @@
 //! The dimension of words.
 
 ghost use Rattle.std.specs.Prelude.{◌≡◌, Some, IfErr, IfOk};
+ghost use Rattle.xdg_base.specs.Faults.{fault_at};
 ghost use Rattle.xdg_base.specs.declared.faults.Cause.TheVariants as causes;
 ghost use Rattle.xdg_names.specs.First.{Tells};
-ghost use Rattle.xdg_types.specs.Names.{fault_at};
 ghost use Rattle.xdg_types.specs.Table.{IsTable};
 ghost use Rattle.xdg_packed.specs.Entries.{IsWordPlace};
 ghost use Rattle.xdg_check.specs.Lex.{LexOffends};
@@ -16,11 +16,7 @@ use xdg_types::TypeTable;
 fn no_lex() -> Fault
     ensures { result ≡ fault_at causes.NoLex 0 }
 {
-    Fault {
-        cause: Cause::NoLex,
-        at: 0,
-        reached: 0,
-    }
+    Fault::at(Cause::NoLex, 0)
 }
 
 /// Where entries say their words: the place of the dimension `lex` among the used dimensions, and that of its feature `word` of type

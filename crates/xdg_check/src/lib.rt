@@ -15,6 +15,4 @@ mod weighing;
 pub use checked::{Checked, Class, EntryDef};
 pub use counts::{combos_of, uses_of};
 pub use passes::check;
-pub use xdg_principles::{
-    Arg, Dims, Element, Form, Key, Parameter, Preset, PrincipleUse, Sort, Typing, Wanted, Which,
-};
+pub use xdg_principles::{Arg, PrincipleUse};

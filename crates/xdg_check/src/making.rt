@@ -11,14 +11,14 @@ ghost use Rattle.xdg_check.specs.Made.{IsNamed, AddsEntries};
 
 use crate::checked::{Class, EntryDef};
 use crate::completing::complete_body;
-use std::alloc::{AllocError, Global};
+use std::alloc::Global;
 use xdg_ast::{ClassParam, Statement, StatementKind};
-use xdg_base::{List, Text};
+use xdg_base::{List, OutOfMemory, Text};
 use xdg_classes::{ClassDef, Classes};
 use xdg_names::Index;
 
 /// The names of parameters.
-fn param_texts(alloc: Global, params: &[ClassParam]) -> Result<List<Text>, AllocError>
+fn param_texts(alloc: Global, params: &[ClassParam]) -> Result<List<Text>, OutOfMemory>
     ensures { IfOk result (λ made. made ≡ texts (d.param_names params.now)) }
 {
     let mut made = List::new(alloc);
@@ -33,7 +33,7 @@ fn make_class(
     alloc: Global,
     classes: &Classes<'_>,
     class: &ClassDef<'_>,
-) -> Result<Class, AllocError>
+) -> Result<Class, OutOfMemory>
     ensures { IfOk result (λ made. IsNamed classes.now → IsClassOf (map class_def classes.now.definitions) (class_def class.now) made) }
 {
     let name = class.name.text.copy(alloc)?;
@@ -49,7 +49,7 @@ fn make_class(
 }
 
 /// The classes with completed bindings, in the order of the text, not yet counted.
-pub(crate) fn make_classes(alloc: Global, classes: &Classes<'_>) -> Result<Vec<Class>, AllocError>
+pub(crate) fn make_classes(alloc: Global, classes: &Classes<'_>) -> Result<Vec<Class>, OutOfMemory>
     ensures { IfOk result
         (λ made. IsNamed classes.now → AreClassesOf (map class_def classes.now.definitions) (map class_def classes.now.definitions) made.items) }
 {
@@ -61,7 +61,7 @@ pub(crate) fn make_classes(alloc: Global, classes: &Classes<'_>) -> Result<Vec<C
 }
 
 /// The names of the classes, in the order of the text, where they differ.
-pub(crate) fn index_names(alloc: Global, classes: &[Class]) -> Result<Index, AllocError>
+pub(crate) fn index_names(alloc: Global, classes: &[Class]) -> Result<Index, OutOfMemory>
     ensures { IfOk result (λ made. Differ (class_texts classes.now) → made ≡ class_texts classes.now) }
 {
     let mut made = Index::new(alloc);
@@ -77,7 +77,7 @@ fn add_entry(
     classes: &Classes<'_>,
     statement: &Statement,
     made: &mut List<EntryDef>,
-) -> Result<(), AllocError>
+) -> Result<(), OutOfMemory>
     ensures { IfOk result (λ _. IsNamed classes.now → AddsEntries (map class_def classes.now.definitions) (d.entry statement.now) made.old made.new) }
 {
     match &statement.kind {
@@ -97,7 +97,7 @@ pub(crate) fn make_entries(
     alloc: Global,
     classes: &Classes<'_>,
     statements: &[Statement],
-) -> Result<List<EntryDef>, AllocError>
+) -> Result<List<EntryDef>, OutOfMemory>
     ensures { IfOk result (λ made. IsNamed classes.now → AreEntriesOf (map class_def classes.now.definitions) (d.entries statements.now) made) }
 {
     let mut made = List::new(alloc);

@@ -18,9 +18,9 @@ use crate::filling::fill_counts;
 use crate::lex::place_of_words;
 use crate::making::{index_names, make_classes, make_entries};
 use crate::weighing::are_small;
-use std::alloc::{AllocError, Global};
+use std::alloc::Global;
 use xdg_ast::{Grammar, Statement};
-use xdg_base::{Fault, List, Stop};
+use xdg_base::{Fault, List, OutOfMemory, Stop};
 use xdg_classes::{Classes, classes};
 use xdg_names::earlier;
 use xdg_types::TypeTable;
@@ -30,7 +30,7 @@ fn names_wrong(
     alloc: Global,
     statements: &[Statement],
     table: &TypeTable,
-) -> Result<Option<Fault>, AllocError>
+) -> Result<Option<Fault>, OutOfMemory>
     ensures { IfOk result (λ found. TellsFault (NameOffends statements.now table.now) found) }
 {
     let in_bodies = xdg_classes::check_names(alloc, statements, table)?;
@@ -44,7 +44,7 @@ fn values_wrong<'a>(
     statements: &'a [Statement],
     table: &'a TypeTable,
     classes: &Classes<'a>,
-) -> Result<Option<Fault>, AllocError>
+) -> Result<Option<Fault>, OutOfMemory>
     requires named { None_of (NameOffends statements.now table.now) }
     requires ordered { OrdersClasses statements.now classes.now }
     ensures { IfOk result (λ found. TellsFault (ValueOffends statements.now table.now) found) }
@@ -61,7 +61,7 @@ fn assemble(
     table: TypeTable,
     words: (usize, usize),
     classes: &Classes<'_>,
-) -> Result<Checked, AllocError>
+) -> Result<Checked, OutOfMemory>
     requires table { HasTable statements.now table }
     requires types { IsTable table }
     requires named { None_of (NameOffends statements.now table) }
@@ -73,7 +73,7 @@ fn assemble(
 {
     let small = are_small(alloc, classes, statements)?;
     if !small {
-        return Err(AllocError);
+        return Err(OutOfMemory);
     }
     let principles = xdg_principles::uses(alloc, statements, &table)?;
     let mut made = make_classes(alloc, classes)?;

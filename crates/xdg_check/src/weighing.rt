@@ -12,8 +12,9 @@ ghost use Rattle.xdg_check.specs.Weights as w;
 ghost use Rattle.xdg_check.specs.Weights.{IsCountOf, most_bytes};
 
 use crate::completing::known_keys;
-use std::alloc::{AllocError, Global};
+use std::alloc::Global;
 use xdg_ast::{ClassParam, Expr, Pair, Statement, StatementKind, Term};
+use xdg_base::OutOfMemory;
 use xdg_classes::{Classes, calls};
 use xdg_names::Index;
 
@@ -61,7 +62,7 @@ fn with_use(
     params: &[ClassParam],
     args: &[Pair<Term>],
     so_far: u64,
-) -> Result<u64, AllocError>
+) -> Result<u64, OutOfMemory>
     ensures { IfOk result (λ made. (all : ℕ) → IsCountOf so_far all → IsCountOf made (all + w.left_out_bytes (texts (keys args.now)) params.now)) }
 {
     let known = known_keys(alloc, args)?;
@@ -89,7 +90,7 @@ fn with_call(
     name: &str,
     args: &[Pair<Term>],
     so_far: u64,
-) -> Result<u64, AllocError>
+) -> Result<u64, OutOfMemory>
     ensures { IfOk result (λ made. IsNamed classes.now → (all : ℕ) → IsCountOf so_far all
         → IsCountOf made (all + w.use_bytes (class_named (map class_def classes.now.definitions) name.now) args.now)) }
 {
@@ -104,7 +105,7 @@ fn with_body(
     classes: &Classes<'_>,
     body: &Expr,
     so_far: u64,
-) -> Result<u64, AllocError>
+) -> Result<u64, OutOfMemory>
     ensures { IfOk result (λ made. IsNamed classes.now → (all : ℕ) → IsCountOf so_far all
         → IsCountOf made (all + w.body_bytes (map class_def classes.now.definitions) (spec.body body.now.kind))) }
 {
@@ -123,7 +124,7 @@ fn with_statement(
     classes: &Classes<'_>,
     statement: &Statement,
     so_far: u64,
-) -> Result<u64, AllocError>
+) -> Result<u64, OutOfMemory>
     ensures { IfOk result (λ made. IsNamed classes.now → (all : ℕ) → IsCountOf so_far all
         → IsCountOf made (all + w.statement_bytes (map class_def classes.now.definitions) statement.now.kind)) }
 {
@@ -139,7 +140,7 @@ fn bytes_of(
     alloc: Global,
     classes: &Classes<'_>,
     statements: &[Statement],
-) -> Result<u64, AllocError>
+) -> Result<u64, OutOfMemory>
     ensures { IfOk result (λ made. IsNamed classes.now → IsCountOf made (w.default_bytes (map class_def classes.now.definitions) statements.now)) }
 {
     let mut bytes = 0;
@@ -155,7 +156,7 @@ pub(crate) fn are_small(
     alloc: Global,
     classes: &Classes<'_>,
     statements: &[Statement],
-) -> Result<bool, AllocError>
+) -> Result<bool, OutOfMemory>
     ensures { IfOk result
         (λ small. IsNamed classes.now → IsTrue small ↔ (w.default_bytes (map class_def classes.now.definitions) statements.now ≤ most_bytes)) }
 {

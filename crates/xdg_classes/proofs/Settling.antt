@@ -6,6 +6,7 @@ use Rattle.std.proofs.lemmas.Bool.{true≢false, cases_eq, or_left, or_right}
 use Rattle.std.proofs.lemmas.List.{length-map}
 use Rattle.std.proofs.lemmas.Option.{slice_get-map, slice_get_within, get_or_from_slice_get}
 use Rattle.std.proofs.lemmas.Slice.Eq.{bytes_eq-Decides}
+use Rattle.xdg_base.specs.Faults.{fault_at}
 use Rattle.xdg_ast.specs.declared.names.Name.{Name}
 use Rattle.xdg_ast.specs.declared.names.Pair.{Pair}
 use Rattle.xdg_base.specs.declared.faults.Cause.TheVariants as causes
@@ -17,7 +18,6 @@ use Rattle.xdg_names.specs.declared.graph.Use.{Use}
 use Rattle.xdg_terms.specs.Wanted.{params_in}
 use Rattle.xdg_types.specs.Answers.{None_of}
 use Rattle.xdg_types.specs.Graph.{use_of, use_at}
-use Rattle.xdg_types.specs.Names.{fault_at}
 use Rattle.xdg_types.specs.Parts.{Statement}
 use Rattle.xdg_types.specs.Table.{Table, dim_named}
 use Rattle.xdg_types.specs.declared.table.DimType.{DimType}

@@ -1,10 +1,10 @@
 -- What is wrong with the names of dimensions, classes and parameters in the bodies of classes and entries.
 use Rattle.std.specs.Prelude.{◌≡◌, ◌⊎◌, ℕ, List, ◌∷◌, ◌++◌, map, flat_map, None, Some}
+use Rattle.xdg_base.specs.Faults.{fault_at}
 use Rattle.xdg_ast.specs.declared.names.Name.{Name}
 use Rattle.xdg_ast.specs.declared.grammar.ClassParam.{ClassParam}
 use Rattle.xdg_base.specs.declared.faults.Cause.TheVariants as causes
 use Rattle.xdg_base.specs.declared.faults.Fault.{Fault}
-use Rattle.xdg_types.specs.Names.{fault_at}
 use Rattle.xdg_types.specs.Parts.{Statement, keys}
 use Rattle.xdg_types.specs.Table.{Table}
 use Rattle.xdg_classes.specs.Bodies.{Said, Called, records, calls}

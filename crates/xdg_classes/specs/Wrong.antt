@@ -1,6 +1,7 @@
 -- What is wrong with the values in bodies, part by part, as the code goes through them, where it is known which types
 -- features have and which types are wanted of the parameters of classes.
 use Rattle.std.specs.Prelude.{◌≡◌, ◌⊎◌, ℕ, List, [], ◌∷◌, ◌++◌, Option, None, Some}
+use Rattle.xdg_base.specs.Faults.{fault_at}
 use Rattle.xdg_ast.specs.declared.names.Name.{Name}
 use Rattle.xdg_ast.specs.declared.names.Pair.{Pair}
 use Rattle.xdg_ast.specs.declared.grammar.ClassParam.{ClassParam}
@@ -9,7 +10,6 @@ use Rattle.xdg_base.specs.declared.faults.Fault.{Fault}
 use Rattle.xdg_domain.specs.Shapes.{Shape}
 use Rattle.xdg_terms.specs.Offences.{OpenOffends}
 use Rattle.xdg_terms.specs.Stray.{IsStrayParam}
-use Rattle.xdg_types.specs.Names.{fault_at}
 use Rattle.xdg_types.specs.Parts.{Statement, keys}
 use Rattle.xdg_classes.specs.Bodies.{Term, Body, Said, Called, records, calls}
 use Rattle.xdg_classes.specs.Definitions.{ClassDef, Scoped, class, scoped}

@@ -6,9 +6,9 @@ ghost use Rattle.xdg_classes.specs.Definitions.{scoped};
 ghost use Rattle.xdg_classes.specs.Names as all;
 ghost use Rattle.xdg_classes.specs.Lent.{said, called};
 
-use std::alloc::{AllocError, Global};
+use std::alloc::Global;
 use xdg_ast::{Expr, ExprKind, Name, Pair, Statement, StatementKind, Term};
-use xdg_base::List;
+use xdg_base::{List, OutOfMemory};
 
 /// What a body says of a dimension, `dim d {f: t}`, lent from the tree.
 #[derive(Clone, Copy, Debug)]
@@ -30,7 +30,7 @@ pub struct Call<'a> {
 
 /// Adds the records in an expression, in the order of the text.
 #[tactic(auto, using(crate::proofs::Bodied::records_use))]
-fn add_records<'a>(expr: &'a ExprKind, made: &mut List<Record<'a>>) -> Result<(), AllocError>
+fn add_records<'a>(expr: &'a ExprKind, made: &mut List<Record<'a>>) -> Result<(), OutOfMemory>
     ensures { IfOk result (λ _. map said made.new ≡ map said made.old ++ spec.records (spec.body expr.now)) }
 {
     match expr {
@@ -57,8 +57,8 @@ fn add_records<'a>(expr: &'a ExprKind, made: &mut List<Record<'a>>) -> Result<()
     }
 }
 
-/// The arguments of a use of a class.
-fn args_of(args: &Option<List<Pair<Term>>>) -> &[Pair<Term>]
+/// The arguments of a use of a class; none where it gives none.
+pub fn args_of(args: &Option<List<Pair<Term>>>) -> &[Pair<Term>]
     ensures { result.now ≡ spec.given args.now }
 {
     match args {
@@ -69,7 +69,7 @@ fn args_of(args: &Option<List<Pair<Term>>>) -> &[Pair<Term>]
 
 /// Adds the uses of classes in an expression, in the order of the text.
 #[tactic(auto, using(crate::proofs::Bodied::calls_dim))]
-fn add_calls<'a>(expr: &'a ExprKind, made: &mut List<Call<'a>>) -> Result<(), AllocError>
+fn add_calls<'a>(expr: &'a ExprKind, made: &mut List<Call<'a>>) -> Result<(), OutOfMemory>
     ensures { IfOk result (λ _. map called made.new ≡ map called made.old ++ spec.calls (spec.body expr.now)) }
 {
     match expr {
@@ -98,7 +98,7 @@ fn add_calls<'a>(expr: &'a ExprKind, made: &mut List<Call<'a>>) -> Result<(), Al
 
 /// The records `dim d {..}` in a body, in the order of the text. The time is linear in the length of the body, the
 /// depth of the stack that of its brackets. The error is want of memory.
-pub fn records<'a>(alloc: Global, expr: &'a Expr) -> Result<List<Record<'a>>, AllocError>
+pub fn records<'a>(alloc: Global, expr: &'a Expr) -> Result<List<Record<'a>>, OutOfMemory>
     ensures { IfOk result (λ made. map said made ≡ spec.records (spec.body expr.now.kind)) }
 {
     let mut made = List::new(alloc);
@@ -108,7 +108,7 @@ pub fn records<'a>(alloc: Global, expr: &'a Expr) -> Result<List<Record<'a>>, Al
 
 /// The uses of classes in a body, in the order of the text. The time is linear in the length of the body, the depth of
 /// the stack that of its brackets. The error is want of memory.
-pub fn calls<'a>(alloc: Global, expr: &'a Expr) -> Result<List<Call<'a>>, AllocError>
+pub fn calls<'a>(alloc: Global, expr: &'a Expr) -> Result<List<Call<'a>>, OutOfMemory>
     ensures { IfOk result (λ made. map called made ≡ spec.calls (spec.body expr.now.kind)) }
 {
     let mut made = List::new(alloc);
@@ -121,7 +121,7 @@ pub fn calls<'a>(alloc: Global, expr: &'a Expr) -> Result<List<Call<'a>>, AllocE
 fn add_records_of<'a>(
     statement: &'a Statement,
     made: &mut List<Record<'a>>,
-) -> Result<(), AllocError>
+) -> Result<(), OutOfMemory>
     ensures { IfOk result (λ _. map said made.new ≡ map said made.old ++ flat_map (λ one. spec.records one.body) (scoped statement.now)) }
 {
     match &statement.kind {
@@ -135,7 +135,7 @@ fn add_records_of<'a>(
 pub(crate) fn all_records<'a>(
     alloc: Global,
     statements: &'a [Statement],
-) -> Result<List<Record<'a>>, AllocError>
+) -> Result<List<Record<'a>>, OutOfMemory>
     ensures { IfOk result (λ made. map said made ≡ all.all_records statements.now) }
 {
     let mut made = List::new(alloc);
@@ -145,7 +145,7 @@ pub(crate) fn all_records<'a>(
     Ok(made)
 }
 
-fn add_calls_of<'a>(statement: &'a Statement, made: &mut List<Call<'a>>) -> Result<(), AllocError>
+fn add_calls_of<'a>(statement: &'a Statement, made: &mut List<Call<'a>>) -> Result<(), OutOfMemory>
     ensures { IfOk result (λ _. map called made.new ≡ map called made.old ++ flat_map (λ one. spec.calls one.body) (scoped statement.now)) }
 {
     match &statement.kind {
@@ -159,7 +159,7 @@ fn add_calls_of<'a>(statement: &'a Statement, made: &mut List<Call<'a>>) -> Resu
 pub(crate) fn all_calls<'a>(
     alloc: Global,
     statements: &'a [Statement],
-) -> Result<List<Call<'a>>, AllocError>
+) -> Result<List<Call<'a>>, OutOfMemory>
     ensures { IfOk result (λ made. map called made ≡ all.all_calls statements.now) }
 {
     let mut made = List::new(alloc);

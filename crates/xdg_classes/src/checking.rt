@@ -18,9 +18,9 @@ use crate::feature_repeats::check_keys;
 use crate::features::Features;
 use crate::lookup::Classes;
 use crate::wanted::WantedTypes;
-use std::alloc::{AllocError, Global};
+use std::alloc::Global;
 use xdg_ast::{ClassParam, Expr, Pair, Params, Statement, StatementKind, Term};
-use xdg_base::{Cause, Fault};
+use xdg_base::{Cause, Fault, OutOfMemory};
 use xdg_domain::Ty;
 use xdg_names::earlier;
 use xdg_terms::{check_open, check_stray};
@@ -124,11 +124,7 @@ fn check_feature(
     ensures { Tells (wrong.FeatureWrong (feature_of features.now dim.now pair.now.key.text) params.now pair.now) result }
 {
     match features.get(dim, pair.key.text.as_str()) {
-        None => Some(Fault {
-            cause: Cause::UnknownName,
-            at: pair.key.span.start,
-            reached: 0,
-        }),
+        None => Some(Fault::at(Cause::UnknownName, pair.key.span.start)),
         Some(ty) => check_open(ty, &pair.value, params),
     }
 }
@@ -165,7 +161,7 @@ fn check_record(
     features: &Features,
     one: &Record,
     params: &Params,
-) -> Result<Option<Fault>, AllocError>
+) -> Result<Option<Fault>, OutOfMemory>
     ensures { IfOk result (λ found. Tells (wrong.RecordWrong (feature_of features.now) params.now (said one.now)) found) }
 {
     let again = check_keys(alloc, one.pairs)?;
@@ -181,7 +177,7 @@ fn check_records(
     features: &Features,
     records: &[Record],
     params: &Params,
-) -> Result<Option<Fault>, AllocError>
+) -> Result<Option<Fault>, OutOfMemory>
     ensures { IfOk result (λ found. Tells (wrong.SomeOf (map said records.now) (wrong.RecordWrong (feature_of features.now) params.now)) found) }
 {
     let mut found = None;
@@ -199,7 +195,7 @@ fn check_body(
     known: &[WantedTypes],
     expr: &Expr,
     params: &Params,
-) -> Result<Option<Fault>, AllocError>
+) -> Result<Option<Fault>, OutOfMemory>
     ensures { IfOk result
         (λ found. Tells (wrong.BodyWrong (feature_of features.now) (told classes.now.names known.now) params.now (body expr.now.kind)) found) }
 {
@@ -258,7 +254,7 @@ fn check_statement(
     classes: &Classes,
     known: &[WantedTypes],
     statement: &Statement,
-) -> Result<Option<Fault>, AllocError>
+) -> Result<Option<Fault>, OutOfMemory>
     ensures { IfOk result (λ found. Tells (wrong.StatementWrong (feature_of features.now) (told classes.now.names known.now) statement.now) found) }
 {
     let nothing = Params::none(alloc);
@@ -289,7 +285,7 @@ fn check_statements(
     classes: &Classes,
     known: &[WantedTypes],
     statements: &[Statement],
-) -> Result<Option<Fault>, AllocError>
+) -> Result<Option<Fault>, OutOfMemory>
     ensures { IfOk result
         (λ found. Tells (wrong.SomeOf statements.now (wrong.StatementWrong (feature_of features.now) (told classes.now.names known.now))) found) }
 {
@@ -322,7 +318,7 @@ pub fn check_values<'a>(
     statements: &'a [Statement],
     table: &'a TypeTable,
     classes: &Classes<'a>,
-) -> Result<Option<Fault>, AllocError>
+) -> Result<Option<Fault>, OutOfMemory>
     requires named { None_of (NameOffends statements.now table.now) }
     requires ordered { OrdersClasses statements.now classes.now }
     ensures { IfOk result (λ found. Tells (ValueOffends statements.now table.now) found) }

@@ -21,8 +21,9 @@ use crate::definitions::ClassDef;
 use crate::features::Features;
 use crate::lookup::Classes;
 use crate::wanted::WantedTypes;
-use std::alloc::{AllocError, Global};
+use std::alloc::Global;
 use xdg_ast::{Pair, Params, Term};
+use xdg_base::OutOfMemory;
 use xdg_domain::Ty;
 use xdg_terms::{Wanted, params_in};
 
@@ -31,7 +32,7 @@ fn add_all<'a>(
     alloc: Global,
     found: &[Wanted<'a>],
     wants: &mut WantedTypes<'a>,
-) -> Result<(), AllocError>
+) -> Result<(), OutOfMemory>
     ensures { IfOk result (λ _. spec.Grows wants.old wants.new (wants_of found.now)) }
 {
     for one in found {
@@ -48,7 +49,7 @@ fn add_pair<'a>(
     pair: &'a Pair<Term>,
     params: &Params,
     wants: &mut WantedTypes<'a>,
-) -> Result<(), AllocError>
+) -> Result<(), OutOfMemory>
     ensures { IfOk result (λ _. spec.Grows wants.old wants.new (all.pair_wants (all.feature_of features.now) params.now dim.now pair.now)) }
 {
     match features.get(dim, pair.key.text.as_str()) {
@@ -67,7 +68,7 @@ fn add_record<'a>(
     one: &Record<'a>,
     params: &Params,
     wants: &mut WantedTypes<'a>,
-) -> Result<(), AllocError>
+) -> Result<(), OutOfMemory>
     ensures { IfOk result (λ _. spec.Grows wants.old wants.new (all.record_wants (all.feature_of features.now) params.now (said one.now))) }
 {
     for pair in one.pairs {
@@ -83,7 +84,7 @@ fn add_records<'a>(
     records: &[Record<'a>],
     params: &Params,
     wants: &mut WantedTypes<'a>,
-) -> Result<(), AllocError>
+) -> Result<(), OutOfMemory>
     ensures { IfOk result (λ _. spec.Grows wants.old wants.new (flat_map (all.record_wants (all.feature_of features.now) params.now) (map said records.now))) }
 {
     for one in records {
@@ -99,7 +100,7 @@ fn add_types<'a>(
     term: &'a Term,
     params: &Params,
     wants: &mut WantedTypes<'a>,
-) -> Result<(), AllocError>
+) -> Result<(), OutOfMemory>
     ensures { IfOk result (λ _. spec.Grows wants.old wants.new (all.type_wants params.now term.now (spec.shapes types.now))) }
 {
     for ty in types {
@@ -117,7 +118,7 @@ fn add_arg<'a>(
     arg: &'a Pair<Term>,
     params: &Params,
     wants: &mut WantedTypes<'a>,
-) -> Result<(), AllocError>
+) -> Result<(), OutOfMemory>
     ensures { IfOk result (λ _. spec.Grows wants.old wants.new (all.arg_wants (spec.given used.now) params.now arg.now)) }
 {
     match used.of(arg.key.text.as_str()) {
@@ -133,7 +134,7 @@ fn add_args<'a>(
     args: &'a [Pair<Term>],
     params: &Params,
     wants: &mut WantedTypes<'a>,
-) -> Result<(), AllocError>
+) -> Result<(), OutOfMemory>
     ensures { IfOk result (λ _. spec.Grows wants.old wants.new (flat_map (all.arg_wants (spec.given used.now) params.now) args.now)) }
 {
     for arg in args {
@@ -164,7 +165,7 @@ fn add_call<'a>(
     call: &Call<'a>,
     params: &Params,
     wants: &mut WantedTypes<'a>,
-) -> Result<(), AllocError>
+) -> Result<(), OutOfMemory>
     ensures { IfOk result (λ _. spec.Grows wants.old wants.new (all.call_wants (spec.told classes.now.names known.now) params.now (called call.now))) }
 {
     match of_class(classes, known, call.name.text.as_str()) {
@@ -181,7 +182,7 @@ fn add_calls<'a>(
     calls: &[Call<'a>],
     params: &Params,
     wants: &mut WantedTypes<'a>,
-) -> Result<(), AllocError>
+) -> Result<(), OutOfMemory>
     ensures { IfOk result
         (λ _. spec.Grows wants.old wants.new (flat_map (all.call_wants (spec.told classes.now.names known.now) params.now) (map called calls.now))) }
 {
@@ -198,7 +199,7 @@ fn wants_of_class<'a>(
     classes: &Classes<'a>,
     known: &[WantedTypes<'a>],
     class: &ClassDef<'a>,
-) -> Result<WantedTypes<'a>, AllocError>
+) -> Result<WantedTypes<'a>, OutOfMemory>
     ensures { IfOk result (λ made. (param : List ℕ) (s : Shape) → In (spec.given made param) s
         ↔ In
         (all.body_wants (all.feature_of features.now) (spec.told classes.now.names known.now) (texts (param_names class.now.params.now))
@@ -215,7 +216,7 @@ fn wants_of_class<'a>(
 }
 
 /// Nothing for each class.
-fn nothing<'a>(alloc: Global, classes: &Classes<'a>) -> Result<Vec<WantedTypes<'a>>, AllocError>
+fn nothing<'a>(alloc: Global, classes: &Classes<'a>) -> Result<Vec<WantedTypes<'a>>, OutOfMemory>
     ensures { IfOk result (λ made. length made.items ≡ length classes.now.definitions) }
 {
     let mut known = Vec::new(alloc);
@@ -230,11 +231,11 @@ fn put<'a>(
     known: &mut Vec<WantedTypes<'a>>,
     at: usize,
     made: WantedTypes<'a>,
-) -> Result<(), AllocError>
+) -> Result<(), OutOfMemory>
     ensures { IfOk result (λ _. (at < length known.old.items) × (known.new.items ≡ slice_set known.old.items at made.entry)) }
 {
     let Some(place) = known.get_mut(at) else {
-        return Err(AllocError);
+        return Err(OutOfMemory);
     };
     *place = made;
     Ok(())
@@ -246,14 +247,14 @@ pub(crate) fn all_wants<'a>(
     alloc: Global,
     features: &Features<'a>,
     classes: &Classes<'a>,
-) -> Result<Vec<WantedTypes<'a>>, AllocError>
+) -> Result<Vec<WantedTypes<'a>>, OutOfMemory>
     ensures { (statements : List Statement) (table : Table) → Fits statements table features.now classes.now
         → IfOk result (λ made. IsKnown statements table classes.now.names made.items) }
 {
     let mut known = nothing(alloc, classes)?;
     for at in classes.order() {
         let Some(class) = classes.definitions().get(*at) else {
-            return Err(AllocError);
+            return Err(OutOfMemory);
         };
         let made = wants_of_class(alloc, features, classes, known.as_slice(), class)?;
         put(&mut known, *at, made)?;

@@ -4,9 +4,9 @@ ghost use Rattle.std.specs.Prelude.{◌≡◌, map, IfOk};
 ghost use Rattle.xdg_classes.specs.Definitions as spec;
 ghost use Rattle.xdg_classes.specs.Lent.{class_def};
 
-use std::alloc::{AllocError, Global};
+use std::alloc::Global;
 use xdg_ast::{ClassParam, Expr, Name, Statement, StatementKind};
-use xdg_base::List;
+use xdg_base::{List, OutOfMemory};
 
 /// A class of a grammar, `defclass c P Q: t {e}`, lent from its statement.
 #[derive(Clone, Copy, Debug)]
@@ -23,7 +23,7 @@ pub struct ClassDef<'a> {
 pub(crate) fn definitions<'a>(
     alloc: Global,
     statements: &'a [Statement],
-) -> Result<List<ClassDef<'a>>, AllocError>
+) -> Result<List<ClassDef<'a>>, OutOfMemory>
     ensures { IfOk result (λ made. map class_def made ≡ spec.classes statements.now) }
 {
     let mut made = List::new(alloc);

@@ -5,13 +5,13 @@ ghost use Rattle.xdg_names.specs.First.{Tells};
 ghost use Rattle.xdg_types.specs.Parts.{keys};
 ghost use Rattle.xdg_classes.specs.Wrong.{IsAgain};
 
-use std::alloc::{AllocError, Global};
+use std::alloc::Global;
 use xdg_ast::{Pair, Term};
-use xdg_base::Fault;
+use xdg_base::{Fault, OutOfMemory};
 use xdg_types::keys_again;
 
 /// The first key that an earlier pair has too.
-pub(crate) fn check_keys(alloc: Global, pairs: &[Pair<Term>]) -> Result<Option<Fault>, AllocError>
+pub(crate) fn check_keys(alloc: Global, pairs: &[Pair<Term>]) -> Result<Option<Fault>, OutOfMemory>
     ensures { IfOk result (λ found. Tells (IsAgain (keys pairs.now)) found) }
 {
     keys_again(alloc, pairs)

@@ -4,8 +4,8 @@ ghost use Rattle.std.specs.Prelude.{◌≡◌, map, IfOk};
 ghost use Rattle.xdg_classes.specs.Collected.{feature_of, shape_of};
 ghost use Rattle.xdg_classes.specs.Wants.{feature_shape, type_named};
 
-use std::alloc::{AllocError, Global};
-use xdg_base::Text;
+use std::alloc::Global;
+use xdg_base::{OutOfMemory, Text};
 use xdg_domain::Ty;
 use xdg_names::Index;
 use xdg_types::{DimType, TypeTable};
@@ -21,7 +21,7 @@ pub(crate) struct Features<'a> {
 
 impl<'a> Features<'a> {
     /// Of a grammar with this table.
-    pub(crate) fn new(alloc: Global, table: &'a TypeTable) -> Result<Features<'a>, AllocError>
+    pub(crate) fn new(alloc: Global, table: &'a TypeTable) -> Result<Features<'a>, OutOfMemory>
         ensures dims { IfOk result (λ made. made.dims.now ≡ table.now.dims) }
         ensures names { IfOk result (λ made. made.names ≡ map (λ dim. dim.name) table.now.dims) }
     {
@@ -29,7 +29,7 @@ impl<'a> Features<'a> {
         let mut names = Index::new(alloc);
         for dim in dims {
             if !names.add(alloc, dim.name.as_str())? {
-                return Err(AllocError);
+                return Err(OutOfMemory);
             }
         }
         Ok(Features { dims, names })

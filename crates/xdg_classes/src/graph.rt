@@ -1,32 +1,18 @@
 //! The classes as a graph of uses.
 
 ghost use Rattle.std.specs.Prelude.{◌≡◌, ◌++◌, map, IfOk};
-ghost use Rattle.xdg_types.specs.Graph.{use_of};
 ghost use Rattle.xdg_classes.specs.Graph as spec;
 ghost use Rattle.xdg_classes.specs.Lent.{class_def};
 
 use crate::bodies::calls;
 use crate::definitions::ClassDef;
-use std::alloc::{AllocError, Global};
-use xdg_ast::Name;
-use xdg_base::List;
+use std::alloc::Global;
+use xdg_base::{List, OutOfMemory};
 use xdg_names::{Index, Use};
-
-/// Adds the use of a class, where the class is defined.
-fn add_use(known: &Index, name: &Name, made: &mut List<Use>) -> Result<(), AllocError>
-    ensures { IfOk result (λ _. made.new ≡ made.old ++ use_of known.now name.now) }
-{
-    match known.find(name.text.as_str()) {
-        None => Ok(()),
-        Some(to) => made.push(Use {
-            to,
-            at: name.span.start,
-        }),
-    }
-}
+use xdg_types::add_use;
 
 /// The uses of classes in a class, in the order of the text.
-fn class_uses(alloc: Global, known: &Index, definition: &ClassDef) -> Result<List<Use>, AllocError>
+fn class_uses(alloc: Global, known: &Index, definition: &ClassDef) -> Result<List<Use>, OutOfMemory>
     ensures { IfOk result (λ made. made ≡ spec.class_uses known.now (class_def definition.now)) }
 {
     let calls = calls(alloc, definition.body)?;
@@ -42,7 +28,7 @@ pub(crate) fn class_graph(
     alloc: Global,
     known: &Index,
     definitions: &[ClassDef],
-) -> Result<Vec<List<Use>>, AllocError>
+) -> Result<Vec<List<Use>>, OutOfMemory>
     ensures { IfOk result (λ made. made.items ≡ map (spec.class_uses known.now) (map class_def definitions.now)) }
 {
     let mut made = Vec::new(alloc);

@@ -18,7 +18,7 @@ mod same;
 mod uses;
 mod wanted;
 
-pub use bodies::{Call, Record, calls, records};
+pub use bodies::{Call, Record, args_of, calls, records};
 pub use checking::check_values;
 pub use definitions::ClassDef;
 pub use lookup::Classes;

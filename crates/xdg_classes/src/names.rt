@@ -14,9 +14,9 @@ use crate::definitions::{ClassDef, definitions};
 use crate::params::Known;
 use crate::repeats::{classes_again, params_again};
 use crate::uses::check_calls;
-use std::alloc::{AllocError, Global};
+use std::alloc::Global;
 use xdg_ast::Statement;
-use xdg_base::Fault;
+use xdg_base::{Fault, OutOfMemory};
 use xdg_names::{Index, earlier};
 use xdg_types::{TypeTable, index_dims};
 
@@ -35,7 +35,7 @@ pub fn check_names(
     alloc: Global,
     statements: &[Statement],
     table: &TypeTable,
-) -> Result<Option<Fault>, AllocError>
+) -> Result<Option<Fault>, OutOfMemory>
     ensures { IfOk result (λ found. Tells (NameOffends statements.now table.now) found) }
 {
     names_wrong(alloc, statements, table)
@@ -47,7 +47,7 @@ fn names_wrong(
     alloc: Global,
     statements: &[Statement],
     table: &TypeTable,
-) -> Result<Option<Fault>, AllocError>
+) -> Result<Option<Fault>, OutOfMemory>
     ensures { IfOk result (λ found. found ≡ first (spec.name_faults statements.now table.now)) }
 {
     let dimensions = dims_wrong(alloc, statements, table)?;
@@ -61,7 +61,7 @@ fn dims_wrong(
     alloc: Global,
     statements: &[Statement],
     table: &TypeTable,
-) -> Result<Option<Fault>, AllocError>
+) -> Result<Option<Fault>, OutOfMemory>
     ensures { IfOk result (λ found. found ≡ first (flat_map (spec.said_faults (dim_texts table.now)) (sites.all_records statements.now))) }
 {
     let dims = index_dims(alloc, table.dims())?;
@@ -75,7 +75,7 @@ fn classes_wrong(
     alloc: Global,
     statements: &[Statement],
     definitions: &[ClassDef],
-) -> Result<Option<Fault>, AllocError>
+) -> Result<Option<Fault>, OutOfMemory>
     ensures { IfOk result (λ found. found ≡ first (repeats [] (class_names (map class_def definitions.now))
         ++
         (flat_map spec.param_faults (map class_def definitions.now)
@@ -88,7 +88,7 @@ fn classes_wrong(
 }
 
 /// The first class whose name another class before it has.
-fn class_names_again(alloc: Global, definitions: &[ClassDef]) -> Result<Option<Fault>, AllocError>
+fn class_names_again(alloc: Global, definitions: &[ClassDef]) -> Result<Option<Fault>, OutOfMemory>
     ensures { IfOk result (λ found. found ≡ first (repeats [] (class_names (map class_def definitions.now)))) }
 {
     let mut names = Index::new(alloc);
@@ -101,7 +101,7 @@ fn uses_wrong(
     alloc: Global,
     statements: &[Statement],
     definitions: &[ClassDef],
-) -> Result<Option<Fault>, AllocError>
+) -> Result<Option<Fault>, OutOfMemory>
     ensures { IfOk result (λ found. found ≡ first (flat_map (spec.call_faults (map class_def definitions.now)) (sites.all_calls statements.now))) }
 {
     let known = Known::new(alloc, definitions)?;
@@ -111,7 +111,7 @@ fn uses_wrong(
 }
 
 /// The first parameter of a class whose name another parameter before it has.
-fn all_params_again(alloc: Global, definitions: &[ClassDef]) -> Result<Option<Fault>, AllocError>
+fn all_params_again(alloc: Global, definitions: &[ClassDef]) -> Result<Option<Fault>, OutOfMemory>
     ensures { IfOk result (λ found. found ≡ first (flat_map spec.param_faults (map class_def definitions.now))) }
 {
     let mut found = None;

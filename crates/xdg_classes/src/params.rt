@@ -10,9 +10,9 @@ ghost use Rattle.xdg_classes.specs.Lent.{class_def};
 
 use crate::definitions::ClassDef;
 use crate::repeats::params_again;
-use std::alloc::{AllocError, Global};
+use std::alloc::Global;
 use xdg_ast::ClassParam;
-use xdg_base::List;
+use xdg_base::{List, OutOfMemory};
 use xdg_names::Index;
 
 /// What a class asks of its uses.
@@ -39,7 +39,7 @@ fn add_needed<'a>(
     seen: &mut Index,
     param: &'a ClassParam,
     made: &mut List<&'a str>,
-) -> Result<(), AllocError>
+) -> Result<(), OutOfMemory>
     ensures seen { IfOk result (λ _. seen.new ≡ with_all seen.old (spec.bare param.now)) }
     ensures made { map (λ text. text.now) made.old ≡ seen.old → IfOk result (λ _. map (λ text. text.now) made.new ≡ seen.new) }
 {
@@ -54,7 +54,7 @@ fn add_needed<'a>(
 }
 
 /// The different names of the parameters without default, in the order of the text.
-fn needed<'a>(alloc: Global, params: &'a [ClassParam]) -> Result<List<&'a str>, AllocError>
+fn needed<'a>(alloc: Global, params: &'a [ClassParam]) -> Result<List<&'a str>, OutOfMemory>
     ensures { IfOk result (λ made. map (λ text. text.now) made ≡ different (spec.bare_names params.now)) }
 {
     let mut seen = Index::new(alloc);
@@ -66,7 +66,7 @@ fn needed<'a>(alloc: Global, params: &'a [ClassParam]) -> Result<List<&'a str>, 
 }
 
 /// What a class with these parameters asks.
-fn asked<'a>(alloc: Global, params: &'a [ClassParam]) -> Result<Params<'a>, AllocError>
+fn asked<'a>(alloc: Global, params: &'a [ClassParam]) -> Result<Params<'a>, OutOfMemory>
     ensures { IfOk result (λ made. shown made ≡ spec.asked params.now) }
 {
     let mut known = Index::new(alloc);
@@ -77,7 +77,7 @@ fn asked<'a>(alloc: Global, params: &'a [ClassParam]) -> Result<Params<'a>, Allo
 
 impl<'a> Known<'a> {
     /// What these classes ask.
-    pub(crate) fn new(alloc: Global, definitions: &[ClassDef<'a>]) -> Result<Known<'a>, AllocError>
+    pub(crate) fn new(alloc: Global, definitions: &[ClassDef<'a>]) -> Result<Known<'a>, OutOfMemory>
         ensures { IfOk result (λ made. KnowsClasses (map class_def definitions.now) made.names (map shown made.params)) }
     {
         let mut names = Index::new(alloc);

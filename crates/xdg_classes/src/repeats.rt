@@ -7,9 +7,9 @@ ghost use Rattle.xdg_classes.specs.Definitions.{class_names, param_names};
 ghost use Rattle.xdg_classes.specs.Lent.{class_def};
 
 use crate::definitions::ClassDef;
-use std::alloc::{AllocError, Global};
+use std::alloc::Global;
 use xdg_ast::ClassParam;
-use xdg_base::Fault;
+use xdg_base::{Fault, OutOfMemory};
 use xdg_names::{Index, earlier};
 use xdg_types::repeated;
 
@@ -18,7 +18,7 @@ pub(crate) fn classes_again(
     alloc: Global,
     seen: &mut Index,
     definitions: &[ClassDef],
-) -> Result<Option<Fault>, AllocError>
+) -> Result<Option<Fault>, OutOfMemory>
     ensures found { IfOk result (λ found. found ≡ first (spec.repeats seen.old (class_names (map class_def definitions.now)))) }
     ensures seen { IfOk result (λ _. seen.new ≡ spec.with_all seen.old (class_names (map class_def definitions.now))) }
 {
@@ -34,7 +34,7 @@ pub(crate) fn params_again(
     alloc: Global,
     seen: &mut Index,
     params: &[ClassParam],
-) -> Result<Option<Fault>, AllocError>
+) -> Result<Option<Fault>, OutOfMemory>
     ensures found { IfOk result (λ found. found ≡ first (spec.repeats seen.old (param_names params.now))) }
     ensures seen { IfOk result (λ _. seen.new ≡ spec.with_all seen.old (param_names params.now)) }
 {

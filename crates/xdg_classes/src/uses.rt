@@ -12,9 +12,9 @@ ghost use Rattle.xdg_classes.specs.Lent.{called};
 
 use crate::bodies::Call;
 use crate::params::{Known, Params};
-use std::alloc::{AllocError, Global};
+use std::alloc::Global;
 use xdg_ast::{Name, Pair, Term};
-use xdg_base::{Cause, Fault};
+use xdg_base::{Cause, Fault, OutOfMemory};
 use xdg_names::{Index, earlier};
 use xdg_types::keys_seen;
 
@@ -25,11 +25,7 @@ fn unknown_param(known: &Index, key: &Name) -> Option<Fault>
     if known.contains(key.text.as_str()) {
         return None;
     }
-    Some(Fault {
-        cause: Cause::WrongParams,
-        at: key.span.start,
-        reached: 0,
-    })
+    Some(Fault::at(Cause::WrongParams, key.span.start))
 }
 
 /// The first key that isn't among the parameters of the class.
@@ -62,11 +58,7 @@ fn left_out(given: &Index, params: &Params, name: &Name) -> Option<Fault>
     if !lacks(given, params.needed.as_slice()) {
         return None;
     }
-    Some(Fault {
-        cause: Cause::WrongParams,
-        at: name.span.start,
-        reached: 0,
-    })
+    Some(Fault::at(Cause::WrongParams, name.span.start))
 }
 
 /// The first fault of a use by what its class asks. These are the names of the parameters that it gives.
@@ -75,11 +67,7 @@ fn class_wrong(found: Option<&Params>, given: &Index, call: &Call) -> Option<Fau
         → result ≡ first (spec.class_faults (option_map shown (option_copied found.entry)) (called call.now)) }
 {
     match found {
-        None => Some(Fault {
-            cause: Cause::UnknownName,
-            at: call.name.span.start,
-            reached: 0,
-        }),
+        None => Some(Fault::at(Cause::UnknownName, call.name.span.start)),
         Some(params) => earlier(
             unknown_params(&params.known, call.args),
             left_out(given, params, call.name),
@@ -88,7 +76,7 @@ fn class_wrong(found: Option<&Params>, given: &Index, call: &Call) -> Option<Fau
 }
 
 /// The first fault of a use.
-fn check_call(alloc: Global, known: &Known, call: &Call) -> Result<Option<Fault>, AllocError>
+fn check_call(alloc: Global, known: &Known, call: &Call) -> Result<Option<Fault>, OutOfMemory>
     ensures { (cs : List ClassDef) → KnowsClasses cs known.now.names (map shown known.now.params)
         → IfOk result (λ found. found ≡ first (spec.call_faults cs (called call.now))) }
 {
@@ -103,7 +91,7 @@ pub(crate) fn check_calls(
     alloc: Global,
     known: &Known,
     calls: &[Call],
-) -> Result<Option<Fault>, AllocError>
+) -> Result<Option<Fault>, OutOfMemory>
     ensures { (cs : List ClassDef) → KnowsClasses cs known.now.names (map shown known.now.params)
         → IfOk result (λ found. found ≡ first (flat_map (spec.call_faults cs) (map called calls.now))) }
 {

@@ -5,8 +5,8 @@ ghost use Rattle.xdg_domain.specs.Shapes.{shape};
 ghost use Rattle.xdg_classes.specs.Given.{given, shapes_of, Grows};
 
 use crate::same::has_type;
-use std::alloc::{AllocError, Global};
-use xdg_base::List;
+use std::alloc::Global;
+use xdg_base::{List, OutOfMemory};
 use xdg_domain::Ty;
 use xdg_names::Index;
 
@@ -42,7 +42,7 @@ impl<'a> WantedTypes<'a> {
     }
 
     /// Adds a type of a parameter, unless it has that type already.
-    pub(crate) fn add(&mut self, alloc: Global, param: &str, ty: &'a Ty) -> Result<(), AllocError>
+    pub(crate) fn add(&mut self, alloc: Global, param: &str, ty: &'a Ty) -> Result<(), OutOfMemory>
         ensures { IfOk result (λ _. Grows self.old self.new ((param.now, shape ty.now) ∷ [])) }
     {
         if self.params.add(alloc, param)? {
@@ -52,10 +52,10 @@ impl<'a> WantedTypes<'a> {
             return Ok(());
         }
         let Some(at) = self.params.find(param) else {
-            return Err(AllocError);
+            return Err(OutOfMemory);
         };
         let Some(types) = self.types.get_mut(at) else {
-            return Err(AllocError);
+            return Err(OutOfMemory);
         };
         if has_type(types.as_slice(), ty) {
             return Ok(());

@@ -2,12 +2,13 @@
 //! output, and ends with the status that `run` answers.
 #![tactic(auto)]
 
-use std::alloc::{AllocError, Global};
+use std::alloc::Global;
 use std::io::{Input, Print};
 use std::process::ExitCode;
 use std::rt::{Env, Files};
 use std::thread::{Builder, Threads};
 use std::{env, io};
+use xdg_base::OutOfMemory;
 use xdg_io::{FileShelf, StdinSource, StdoutSink};
 use xdg_top::{Status, run};
 
@@ -22,12 +23,12 @@ const STACKS: [usize; 5] = [
 ];
 
 /// The words after the program's name. Where one is not UTF-8 there are none, which is no command either.
-fn command_words<R: Env + Alloc<A = Global>>(rt: &R) -> Result<Vec<String>, AllocError> {
+fn command_words<R: Env + Alloc<A = Global>>(rt: &R) -> Result<Vec<String>, OutOfMemory> {
     match env::args(rt) {
         Ok(words) => words.skip(1).collect(rt.alloc()),
         Err(error) => match error.kind() {
             io::ErrorKind::InvalidData => Ok(Vec::new(rt.alloc())),
-            _ => Err(AllocError),
+            _ => Err(OutOfMemory),
         },
     }
 }

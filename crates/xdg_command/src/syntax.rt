@@ -7,7 +7,8 @@ ghost use Rattle.xdg_command.specs.Syntax.{app_in, arranged, bare, corpused, cos
 
 use clap::builder::ValueParser;
 use clap::{Arg, ArgAction, Command};
-use std::alloc::{AllocError, Global};
+use std::alloc::Global;
+use xdg_base::OutOfMemory;
 
 /// A command that has no help and no version, and whose words are those after its name.
 fn bare<'a>(alloc: Global) -> Command<'a>
@@ -48,14 +49,14 @@ fn flag<'a>(alloc: Global, name: &'a str) -> Arg<'a>
 }
 
 /// One operand, the grammar file.
-pub(crate) fn one_file<'a>(alloc: Global) -> Result<Command<'a>, AllocError>
+pub(crate) fn one_file<'a>(alloc: Global) -> Result<Command<'a>, OutOfMemory>
     ensures { IfOk result (λ made. app_of made ≡ app_in one_file) }
 {
     bare(alloc).arg(operand(alloc, "grammar"))
 }
 
 /// The grammar file, the file of an analysis, and the option of `explain`.
-pub(crate) fn explain<'a>(alloc: Global) -> Result<Command<'a>, AllocError>
+pub(crate) fn explain<'a>(alloc: Global) -> Result<Command<'a>, OutOfMemory>
     ensures { IfOk result (λ made. app_of made ≡ app_in explained) }
 {
     bare(alloc)
@@ -65,7 +66,7 @@ pub(crate) fn explain<'a>(alloc: Global) -> Result<Command<'a>, AllocError>
 }
 
 /// The grammar file and the options of `parse`.
-pub(crate) fn parse<'a>(alloc: Global) -> Result<Command<'a>, AllocError>
+pub(crate) fn parse<'a>(alloc: Global) -> Result<Command<'a>, OutOfMemory>
     ensures { IfOk result (λ made. app_of made ≡ app_in parsed) }
 {
     bare(alloc)
@@ -79,7 +80,7 @@ pub(crate) fn parse<'a>(alloc: Global) -> Result<Command<'a>, AllocError>
 }
 
 /// The grammar file and the options of `corpus`.
-pub(crate) fn corpus<'a>(alloc: Global) -> Result<Command<'a>, AllocError>
+pub(crate) fn corpus<'a>(alloc: Global) -> Result<Command<'a>, OutOfMemory>
     ensures { IfOk result (λ made. app_of made ≡ app_in corpused) }
 {
     bare(alloc)
@@ -90,7 +91,7 @@ pub(crate) fn corpus<'a>(alloc: Global) -> Result<Command<'a>, AllocError>
 }
 
 /// The grammar file and the options of `arrange`.
-pub(crate) fn arrange<'a>(alloc: Global) -> Result<Command<'a>, AllocError>
+pub(crate) fn arrange<'a>(alloc: Global) -> Result<Command<'a>, OutOfMemory>
     ensures { IfOk result (λ made. app_of made ≡ app_in arranged) }
 {
     bare(alloc)
@@ -100,7 +101,7 @@ pub(crate) fn arrange<'a>(alloc: Global) -> Result<Command<'a>, AllocError>
 }
 
 /// The grammar file, the costs file, and the options of `best`.
-pub(crate) fn best<'a>(alloc: Global) -> Result<Command<'a>, AllocError>
+pub(crate) fn best<'a>(alloc: Global) -> Result<Command<'a>, OutOfMemory>
     ensures { IfOk result (λ made. app_of made ≡ app_in costed) }
 {
     bare(alloc)
@@ -111,7 +112,7 @@ pub(crate) fn best<'a>(alloc: Global) -> Result<Command<'a>, AllocError>
 }
 
 /// The grammar file, the file of an analysis, and the options of `resume`.
-pub(crate) fn resume<'a>(alloc: Global) -> Result<Command<'a>, AllocError>
+pub(crate) fn resume<'a>(alloc: Global) -> Result<Command<'a>, OutOfMemory>
     ensures { IfOk result (λ made. app_of made ≡ app_in resumed) }
 {
     bare(alloc)

@@ -3,8 +3,8 @@
 ghost use Rattle.std.specs.Prelude.{◌≡◌, ◌≢◌, ◌≤◌, ◌⊎◌, ℕ, List, [], Option, Some, length};
 ghost use Rattle.xdg_corpus.specs.Outcomes.{CorpusEnds, CorpusOf, LinesThen};
 ghost use Rattle.xdg_corpus.specs.Texts.{CanSearch};
-ghost use Rattle.xdg_packed.specs.Entries.{IsRightLexicon};
 ghost use Rattle.xdg_inputs.specs.Answers.{meaning_of};
+ghost use Rattle.xdg_inputs.specs.RightLexicons.{HasRightLexicon};
 ghost use Rattle.xdg_io.specs.Rose.{Rose};
 ghost use Rattle.xdg_inputs.specs.Loaded.{read_of};
 ghost use Rattle.xdg_inputs.specs.Outcomes.{MeaningThen};
@@ -14,11 +14,8 @@ use crate::input::{read_input, text_of};
 use crate::printing::print_lines;
 use std::alloc::Global;
 use std::thread::Threads;
-use xdg_base::OutOfMemory;
 use xdg_command::CorpusOptions;
-use xdg_inputs::{
-    Expanded, Loaded, Status, expand_tree, load_tree, pack_entries, refuse, stopped_in,
-};
+use xdg_inputs::{Expanded, Loaded, Status, expand_tree, load_tree, refuse, stopped_in};
 use xdg_io::{Shelf, Sink, Source};
 
 /// Reads the lines of the input and prints them, or the fault line of what is refused.
@@ -30,7 +27,7 @@ fn corpus_expanded<R: Threads + Sync, S: Source, K: Sink>(
     input: &mut S,
     out: &mut K,
 ) -> Status
-    requires lexicon { IsRightLexicon expanded.now.checked.types expanded.now.entries }
+    requires lexicon { HasRightLexicon expanded.now }
     requires range { CanSearch options.now }
     ensures leaves { (content : List ℕ) → S.left input.old ≡ Some content
         → LeavesPart (LinesThen options.now content (meaning_of expanded.now)) result (K.held out.old) (K.held out.new) }
@@ -45,16 +42,12 @@ fn corpus_expanded<R: Threads + Sync, S: Source, K: Sink>(
     ensures all_read { (content : List ℕ) → result ≡ Status.Done → S.left input.old ≡ Some content → S.left input.new ≡ Some [] }
     ensures accepted { (result ≡ Status.BadText → ⊥) × (result ≡ Status.BadGrammar → ⊥) }
 {
-    let packed = match pack_entries(alloc, expanded) {
-        Ok(packed) => packed,
-        Err(OutOfMemory) => return Status::OutOfMemory,
-    };
     let bytes = match read_input(alloc, input) {
         Ok(bytes) => bytes,
         Err(refusal) => return refuse(refusal, Status::BadSentence, out),
     };
     match text_of(&bytes) {
-        Ok(text) => print_lines(rt, alloc, options, expanded, &packed, text, out),
+        Ok(text) => print_lines(rt, alloc, options, expanded, text, out),
         Err(refusal) => refuse(refusal, Status::BadSentence, out),
     }
 }

@@ -6,20 +6,17 @@ ghost use Rattle.xdg_base.specs.declared.faults.Stop.TheVariants as stops;
 ghost use Rattle.xdg_build.specs.Stocks.{IsStock};
 ghost use Rattle.xdg_corpus.specs.Groups.{AsksFor, HasLines, TakesLines};
 ghost use Rattle.xdg_corpus.specs.Texts.{CanSearch};
-ghost use Rattle.xdg_packed.specs.Entries.{IsRightLexicon};
-ghost use Rattle.xdg_inputs.specs.Answers.{meaning_of};
-ghost use Rattle.xdg_inputs.specs.Packed.{IsPackedOf};
-ghost use Rattle.xdg_build.specs.Grammars.{grammar_of};
+ghost use Rattle.xdg_inputs.specs.Answers.{grammar_in, meaning_of};
+ghost use Rattle.xdg_inputs.specs.RightLexicons.{HasRightLexicon};
 ghost use Rattle.xdg_inputs.specs.Sentences.{StopsWords};
 
 use crate::lines::first_line;
-use std::alloc::{AllocError, Global};
+use std::alloc::Global;
 use xdg_base::{Fault, LineColumn, OutOfMemory, Stop};
 use xdg_build::Stock;
 use xdg_command::CorpusOptions;
 use xdg_engine::{AnyProp, props};
 use xdg_inputs::{Expanded, Refusal, problem_from, stopped_in};
-use xdg_packed::Packed;
 use xdg_split::Job;
 
 /// What stands for a line.
@@ -53,7 +50,7 @@ impl Group {
     }
 
     /// Adds a line that is refused.
-    fn refuse(&mut self, fault: Fault, place: LineColumn) -> Result<(), AllocError>
+    fn refuse(&mut self, fault: Fault, place: LineColumn) -> Result<(), OutOfMemory>
         ensures sentences { OnOk result (self.new.sentences.items ≡ self.old.sentences.items ++ Sentence.Refused fault place ∷ []) }
         ensures jobs { OnOk result (self.new.jobs.items ≡ self.old.jobs.items) }
     {
@@ -62,7 +59,7 @@ impl Group {
     }
 
     /// Adds a line with its search.
-    fn ask(&mut self, job: Job<AnyProp>) -> Result<(), AllocError>
+    fn ask(&mut self, job: Job<AnyProp>) -> Result<(), OutOfMemory>
         ensures sentences { OnOk result (self.new.sentences.items ≡ self.old.sentences.items ++ Sentence.Job (length self.old.jobs.items) ∷ []) }
         ensures jobs { OnOk result (self.new.jobs.items ≡ self.old.jobs.items ++ job ∷ []) }
     {
@@ -78,21 +75,19 @@ fn job_of(
     alloc: Global,
     options: &CorpusOptions,
     expanded: &Expanded,
-    packed: &Packed,
     stock: &mut Stock,
     line: &str,
 ) -> Result<Job<AnyProp>, Stop>
     requires small { length line.now ≤ 4194304 }
-    requires lexicon { IsRightLexicon expanded.now.checked.types expanded.now.entries }
-    requires packed { IsPackedOf expanded.now packed.now }
+    requires lexicon { HasRightLexicon expanded.now }
     requires range { CanSearch options.now }
-    requires stock { IsStock (grammar_of expanded.now.checked packed.now) stock.old }
+    requires stock { IsStock (grammar_in expanded.now) stock.old }
     ensures found { IfOk result (AsksFor (meaning_of expanded.now) options.now line.now) }
     ensures refused { IfErr result (StopsWords (meaning_of expanded.now) options.now.segment line.now) }
-    ensures stock { MatchResult result (λ _. IsStock (grammar_of expanded.now.checked packed.now) stock.new) (λ stop.
-        (fault : faults.Fault) → stop ≡ stops.Fault fault → IsStock (grammar_of expanded.now.checked packed.now) stock.new) }
+    ensures stock { MatchResult result (λ _. IsStock (grammar_in expanded.now) stock.new) (λ stop.
+        (fault : faults.Fault) → stop ≡ stops.Fault fault → IsStock (grammar_in expanded.now) stock.new) }
 {
-    let problem = problem_from(alloc, expanded, packed, stock, options.segment, line)?;
+    let problem = problem_from(alloc, expanded, stock, options.segment, line)?;
     let Ok(propagators) = props(alloc, &problem) else {
         return Err(Stop::OutOfMemory);
     };
@@ -104,26 +99,24 @@ fn add_line(
     alloc: Global,
     options: &CorpusOptions,
     expanded: &Expanded,
-    packed: &Packed,
     stock: &mut Stock,
     line: &str,
     group: &mut Group,
-) -> Result<(), AllocError>
+) -> Result<(), OutOfMemory>
     requires small { length line.now ≤ 4194304 }
-    requires lexicon { IsRightLexicon expanded.now.checked.types expanded.now.entries }
-    requires packed { IsPackedOf expanded.now packed.now }
+    requires lexicon { HasRightLexicon expanded.now }
     requires range { CanSearch options.now }
-    requires stock { IsStock (grammar_of expanded.now.checked packed.now) stock.old }
-    ensures stock { OnOk result (IsStock (grammar_of expanded.now.checked packed.now) stock.new) }
+    requires stock { IsStock (grammar_in expanded.now) stock.old }
+    ensures stock { OnOk result (IsStock (grammar_in expanded.now) stock.new) }
     ensures lines { OnOk result
         ((taken : List (List ℕ)) → HasLines (meaning_of expanded.now) options.now taken group.old
         → HasLines (meaning_of expanded.now) options.now (taken ++ line.now ∷ []) group.new) }
 {
-    match job_of(alloc, options, expanded, packed, stock, line) {
+    match job_of(alloc, options, expanded, stock, line) {
         Ok(job) => group.ask(job),
         Err(stop) => match stopped_in(line.as_bytes(), stop) {
             Refusal::Text(fault, place) => group.refuse(fault, place),
-            _ => Err(AllocError),
+            _ => Err(OutOfMemory),
         },
     }
 }
@@ -133,18 +126,16 @@ pub(crate) fn take_group<'a>(
     alloc: Global,
     options: &CorpusOptions,
     expanded: &Expanded,
-    packed: &Packed,
     stock: &mut Stock,
     size: usize,
     text: &'a str,
 ) -> Result<(Group, &'a str), OutOfMemory>
     requires small { length text.now ≤ 4194304 }
-    requires lexicon { IsRightLexicon expanded.now.checked.types expanded.now.entries }
-    requires packed { IsPackedOf expanded.now packed.now }
+    requires lexicon { HasRightLexicon expanded.now }
     requires range { CanSearch options.now }
-    requires stock { IsStock (grammar_of expanded.now.checked packed.now) stock.old }
+    requires stock { IsStock (grammar_in expanded.now) stock.old }
     requires size { 1 ≤ size }
-    ensures stock { OnOk result (IsStock (grammar_of expanded.now.checked packed.now) stock.new) }
+    ensures stock { OnOk result (IsStock (grammar_in expanded.now) stock.new) }
     ensures takes { IfOk result (λ made. TakesLines (meaning_of expanded.now) options.now text.entry.now made.0 made.1.now) }
     ensures some { IfOk result (λ made. 0 < length text.entry.now → length made.1.now < length text.entry.now) }
 {
@@ -152,7 +143,7 @@ pub(crate) fn take_group<'a>(
     let mut rest = text;
     while group.sentences.len() < size && !rest.is_empty() {
         let (line, later) = first_line(rest);
-        add_line(alloc, options, expanded, packed, stock, line, &mut group)?;
+        add_line(alloc, options, expanded, stock, line, &mut group)?;
         rest = later;
     }
     Ok((group, rest))

@@ -4,10 +4,8 @@ ghost use Rattle.std.specs.Prelude.{◌≡◌, ◌≢◌, ◌≤◌, ◌⊎◌, 
 ghost use Rattle.xdg_build.specs.Stocks.{IsStock};
 ghost use Rattle.xdg_corpus.specs.Outcomes.{AreSearched};
 ghost use Rattle.xdg_corpus.specs.Texts.{CanSearch};
-ghost use Rattle.xdg_packed.specs.Entries.{IsRightLexicon};
-ghost use Rattle.xdg_inputs.specs.Answers.{meaning_of};
-ghost use Rattle.xdg_inputs.specs.Packed.{IsPackedOf};
-ghost use Rattle.xdg_build.specs.Grammars.{grammar_of};
+ghost use Rattle.xdg_inputs.specs.Answers.{grammar_in, meaning_of};
+ghost use Rattle.xdg_inputs.specs.RightLexicons.{HasRightLexicon};
 ghost use Rattle.xdg_io.specs.Rose.{Rose};
 ghost use Rattle.xdg_corpus.specs.Runs.{LeavesPart};
 
@@ -15,13 +13,13 @@ use crate::ahead::answer_and_take;
 use crate::group::{Group, take_group};
 use crate::sizes::{FEWEST, bytes_before, next_size};
 use crate::writing::write_group;
-use std::alloc::{AllocError, Global};
+use std::alloc::Global;
 use std::thread::Threads;
+use xdg_base::OutOfMemory;
 use xdg_build::Stock;
 use xdg_command::CorpusOptions;
 use xdg_inputs::{Expanded, Status};
 use xdg_io::Sink;
-use xdg_packed::Packed;
 
 /// Prints the lines of a text in groups, one after the other, of which the first line has number 1.
 fn print_groups<R: Threads + Sync, K: Sink>(
@@ -29,25 +27,22 @@ fn print_groups<R: Threads + Sync, K: Sink>(
     alloc: Global,
     options: &CorpusOptions,
     expanded: &Expanded,
-    packed: &Packed,
     mut stock: Stock,
     text: &str,
     out: &mut K,
 ) -> Status
     requires small { length text.now ≤ 4194304 }
-    requires lexicon { IsRightLexicon expanded.now.checked.types expanded.now.entries }
-    requires packed { IsPackedOf expanded.now packed.now }
+    requires lexicon { HasRightLexicon expanded.now }
     requires range { CanSearch options.now }
-    requires stock { IsStock (grammar_of expanded.now.checked packed.now) stock }
+    requires stock { IsStock (grammar_in expanded.now) stock }
     ensures leaves { LeavesPart (AreSearched options.now (meaning_of expanded.now) text.now) result (K.held out.old) (K.held out.new) }
     ensures write_fault { result ≡ Status.WriteFault → Rose (K.faults out.old) (K.faults out.new) }
     ensures out_lasting { K.faults out.old ≤ K.faults out.new }
     ensures out_quiet { result ≢ Status.WriteFault → K.faults out.new ≡ K.faults out.old }
     ensures ends { (result ≡ Status.Done) ⊎ ((result ≡ Status.WriteFault) ⊎ (result ≡ Status.OutOfMemory)) }
 {
-    let Ok((mut group, mut rest)) = take_group(
-        alloc, options, expanded, packed, &mut stock, FEWEST, text,
-    ) else {
+    let Ok((mut group, mut rest)) = take_group(alloc, options, expanded, &mut stock, FEWEST, text)
+    else {
         return Status::OutOfMemory;
     };
     let mut number: u64 = 1;
@@ -57,7 +52,7 @@ fn print_groups<R: Threads + Sync, K: Sink>(
     while !from.is_empty() {
         let jobs = group.jobs.as_slice();
         let (answered, taken) = answer_and_take(
-            rt, alloc, options, expanded, packed, jobs, before, stock, size, rest,
+            rt, alloc, options, expanded, jobs, before, stock, size, rest,
         );
         let Ok(answered) = answered else {
             return Status::OutOfMemory;
@@ -97,13 +92,11 @@ pub(crate) fn print_lines<R: Threads + Sync, K: Sink>(
     alloc: Global,
     options: &CorpusOptions,
     expanded: &Expanded,
-    packed: &Packed,
     text: &str,
     out: &mut K,
 ) -> Status
     requires small { length text.now ≤ 4194304 }
-    requires lexicon { IsRightLexicon expanded.now.checked.types expanded.now.entries }
-    requires packed { IsPackedOf expanded.now packed.now }
+    requires lexicon { HasRightLexicon expanded.now }
     requires range { CanSearch options.now }
     ensures leaves { LeavesPart (AreSearched options.now (meaning_of expanded.now) text.now) result (K.held out.old) (K.held out.new) }
     ensures write_fault { result ≡ Status.WriteFault → Rose (K.faults out.old) (K.faults out.new) }
@@ -111,8 +104,8 @@ pub(crate) fn print_lines<R: Threads + Sync, K: Sink>(
     ensures out_quiet { result ≢ Status.WriteFault → K.faults out.new ≡ K.faults out.old }
     ensures ends { (result ≡ Status.Done) ⊎ ((result ≡ Status.WriteFault) ⊎ (result ≡ Status.OutOfMemory)) }
 {
-    match Stock::new(alloc, &expanded.checked, packed) {
-        Ok(stock) => print_groups(rt, alloc, options, expanded, packed, stock, text, out),
-        Err(AllocError) => Status::OutOfMemory,
+    match Stock::new(alloc, &expanded.checked, &expanded.lexicon) {
+        Ok(stock) => print_groups(rt, alloc, options, expanded, stock, text, out),
+        Err(OutOfMemory) => Status::OutOfMemory,
     }
 }

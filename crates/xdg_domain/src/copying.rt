@@ -3,13 +3,13 @@
 ghost use Rattle.std.specs.Prelude.{◌≡◌, ◌++◌, IfOk, OnOk};
 
 use crate::values::{Fields, Value, ValueMap};
-use std::alloc::{AllocError, Global};
-use xdg_base::List;
+use std::alloc::Global;
+use xdg_base::{List, OutOfMemory};
 
 impl Value {
     /// A copy.
     #[cycle(copy)]
-    pub fn copy(&self, alloc: Global) -> Result<Value, AllocError>
+    pub fn copy(&self, alloc: Global) -> Result<Value, OutOfMemory>
         ensures { IfOk result (λ made. made ≡ self.now) }
     {
         match self {
@@ -41,7 +41,7 @@ pub(crate) fn add_entries(
     alloc: Global,
     entries: &[(u8, Value)],
     made: &mut ValueMap,
-) -> Result<(), AllocError>
+) -> Result<(), OutOfMemory>
     ensures { OnOk result (made.new ≡ made.old ++ entries.now) }
 {
     for entry in entries {
@@ -56,7 +56,7 @@ pub(crate) fn add_fields(
     alloc: Global,
     entries: &[(u32, Value)],
     made: &mut Fields,
-) -> Result<(), AllocError>
+) -> Result<(), OutOfMemory>
     ensures { OnOk result (made.new ≡ made.old ++ entries.now) }
 {
     for entry in entries {

@@ -11,7 +11,7 @@ use crate::tuples::{count, members};
 use crate::types::Ty;
 use crate::valencies::CardMap;
 use crate::values::Value;
-use std::alloc::{AllocError, Global};
+use std::alloc::Global;
 use xdg_base::{List, OutOfMemory, Text};
 
 /// How many parts a default may have.
@@ -131,7 +131,7 @@ fn keys(ty: &Ty) -> u8
 }
 
 /// The number 0 alone for each key below the bound.
-fn zeros(alloc: Global, keys: u8) -> Result<CardMap, AllocError>
+fn zeros(alloc: Global, keys: u8) -> Result<CardMap, OutOfMemory>
     ensures { IfOk result (λ made. made ≡ for_each_key keys (0 ∷ [])) }
 {
     let mut map = CardMap::none(alloc);

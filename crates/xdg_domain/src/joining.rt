@@ -12,7 +12,7 @@ use crate::sets::SetOf;
 use crate::types::Ty;
 use crate::valencies::CardMap;
 use crate::values::{Fields, Value, ValueMap};
-use std::alloc::{AllocError, Global};
+use std::alloc::Global;
 use xdg_base::{List, OutOfMemory, Text};
 
 /// What two values of a type say together, in a value of its own: of two plain values the same
@@ -48,7 +48,7 @@ pub(crate) fn join_values(
     ty: &Ty,
     one: &Value,
     other: &Value,
-) -> Result<Option<Value>, AllocError>
+) -> Result<Option<Value>, OutOfMemory>
     ensures { IfOk result (λ told. told ≡ joined (shape ty.now) one.now other.now) }
 {
     match (ty, one, other) {
@@ -125,7 +125,7 @@ fn join_entries(
     ty: &Ty,
     mine: &[(u8, Value)],
     theirs: &[(u8, Value)],
-) -> Result<Option<ValueMap>, AllocError>
+) -> Result<Option<ValueMap>, OutOfMemory>
     ensures { IfOk result (λ told. told ≡ merged (λ key. joined (shape ty.now)) mine.now theirs.now) }
 {
     let mut made = List::new(alloc);
@@ -164,7 +164,7 @@ fn join_fields(
     types: &[(Text, Ty)],
     mine: &[(u32, Value)],
     theirs: &[(u32, Value)],
-) -> Result<Option<Fields>, AllocError>
+) -> Result<Option<Fields>, OutOfMemory>
     ensures { IfOk result (λ told. told ≡ merged (joined_field (fields_in types.now)) mine.now theirs.now) }
 {
     let mut made = List::new(alloc);
@@ -204,7 +204,7 @@ fn join_field(
     place: u32,
     one: &Value,
     other: &Value,
-) -> Result<Option<Value>, AllocError>
+) -> Result<Option<Value>, OutOfMemory>
     ensures { IfOk result (λ told. told ≡ joined_field (fields_in types.now) place one.now other.now) }
 {
     let at = place as usize;
@@ -222,14 +222,14 @@ fn is_same(one: &Text, other: &Text) -> bool
 }
 
 // The members of either set.
-fn in_either(alloc: Global, one: &SetOf, other: &SetOf) -> Result<SetOf, AllocError>
+fn in_either(alloc: Global, one: &SetOf, other: &SetOf) -> Result<SetOf, OutOfMemory>
     ensures { IfOk result (λ made. made ≡ either one.now other.now) }
 {
     one.union(alloc, other)
 }
 
 // The members of both sets.
-fn in_both(alloc: Global, one: &SetOf, other: &SetOf) -> Result<SetOf, AllocError>
+fn in_both(alloc: Global, one: &SetOf, other: &SetOf) -> Result<SetOf, OutOfMemory>
     ensures { IfOk result (λ made. made ≡ both one.now other.now) }
 {
     one.meet(alloc, other)
@@ -247,7 +247,7 @@ fn join_valencies(
     alloc: Global,
     one: &CardMap,
     other: &CardMap,
-) -> Result<Option<CardMap>, AllocError>
+) -> Result<Option<CardMap>, OutOfMemory>
     ensures { IfOk result (λ told. told ≡ merged (λ key. allowed) one.now other.now) }
 {
     one.rises();

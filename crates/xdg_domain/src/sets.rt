@@ -5,8 +5,9 @@ ghost use Rattle.std.specs.List.{range_with_len};
 ghost use Rattle.std.specs.List.Sorted.{IsStrictlyIncreasing};
 ghost use Rattle.xdg_facts.specs.Rises.{has};
 
-use std::alloc::{AllocError, Global};
+use std::alloc::Global;
 use std::marker::Model;
+use xdg_base::OutOfMemory;
 
 /// A set of the numbers of constants or of tuples, seen as the list of its members, which rises
 /// strictly.
@@ -40,7 +41,7 @@ impl SetOf {
     }
 
     /// The numbers below the count.
-    pub fn full(alloc: Global, count: u16) -> Result<SetOf, AllocError>
+    pub fn full(alloc: Global, count: u16) -> Result<SetOf, OutOfMemory>
         ensures { IfOk result (λ made. made ≡ range_with_len 0 count) }
     {
         let mut numbers = Vec::new(alloc);
@@ -53,7 +54,7 @@ impl SetOf {
     }
 
     /// The set of the numbers of a slice, which may stand there in any order and more than once.
-    pub fn of(alloc: Global, numbers: &[u16]) -> Result<SetOf, AllocError>
+    pub fn of(alloc: Global, numbers: &[u16]) -> Result<SetOf, OutOfMemory>
         ensures members { IfOk result (λ made. (n : ℕ) → has made n ≡ has numbers.now n) }
         ensures rising { IfOk result IsStrictlyIncreasing }
     {
@@ -72,7 +73,7 @@ impl SetOf {
     }
 
     /// The members of both sets together. The time is linear.
-    pub fn union(&self, alloc: Global, other: &SetOf) -> Result<SetOf, AllocError>
+    pub fn union(&self, alloc: Global, other: &SetOf) -> Result<SetOf, OutOfMemory>
         ensures members { IfOk result (λ made. (n : ℕ) → has made n ≡ (has self.now n || has other.now n)) }
         ensures rising { IfOk result IsStrictlyIncreasing }
     {
@@ -104,7 +105,7 @@ impl SetOf {
     }
 
     /// The members that both sets have. The time is linear.
-    pub fn meet(&self, alloc: Global, other: &SetOf) -> Result<SetOf, AllocError>
+    pub fn meet(&self, alloc: Global, other: &SetOf) -> Result<SetOf, OutOfMemory>
         ensures members { IfOk result (λ made. (n : ℕ) → has made n ≡ (has self.now n && has other.now n)) }
         ensures rising { IfOk result IsStrictlyIncreasing }
     {
@@ -138,7 +139,7 @@ impl SetOf {
     }
 
     /// A copy.
-    pub fn copy(&self, alloc: Global) -> Result<SetOf, AllocError>
+    pub fn copy(&self, alloc: Global) -> Result<SetOf, OutOfMemory>
         ensures { IfOk result (λ made. made ≡ self.now) }
     {
         let numbers = Vec::from_slice(alloc, self.numbers.as_slice())?;

@@ -1,5 +1,8 @@
 //! Types without names.
 
+ghost use Rattle.std.specs.Prelude.{◌≡◌};
+ghost use Rattle.xdg_domain.specs.Shapes.{constants, shape};
+
 use xdg_base::{Boxed, List, Text};
 
 /// A type without names: what a grammar's type terms stand for.
@@ -28,4 +31,16 @@ pub enum Ty {
     Map(Boxed<Ty>, Boxed<Ty>),
     /// `{f: T g: U}`: a value for each field.
     Rec(List<(Text, Ty)>),
+}
+
+impl Ty {
+    /// The constants of a domain, in order; none of another type.
+    pub fn constants(&self) -> &[Text]
+        ensures { result.now ≡ constants (shape self.now) }
+    {
+        match self {
+            Ty::Domain(constants) => constants.as_slice(),
+            _ => &[],
+        }
+    }
 }

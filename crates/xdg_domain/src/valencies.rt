@@ -5,8 +5,9 @@ ghost use Rattle.xdg_domain.specs.Keys.{KeysBelow};
 ghost use Rattle.xdg_domain.specs.Valencies.{said_at, KeysRise, both_say, Clash};
 
 use crate::cards::CardSet;
-use std::alloc::{AllocError, Global};
+use std::alloc::Global;
 use std::marker::Model;
+use xdg_base::OutOfMemory;
 
 /// Cardinalities by key, seen as the list of the keys with what each allows. The keys rise strictly.
 #[derive(Debug, Drop)]
@@ -39,7 +40,7 @@ impl CardMap {
     }
 
     /// The map that says something of one key alone.
-    pub fn said(alloc: Global, key: u8, cards: CardSet) -> Result<CardMap, AllocError>
+    pub fn said(alloc: Global, key: u8, cards: CardSet) -> Result<CardMap, OutOfMemory>
         ensures { IfOk result (λ made. made ≡ (key, cards) ∷ []) }
     {
         let mut entries = Vec::new(alloc);
@@ -62,7 +63,7 @@ impl CardMap {
     /// Both maps together, key by key: what one alone says of a key is taken over, and what both
     /// say of it are the numbers that both allow. None where they allow no number in common for
     /// some key. The time is linear.
-    pub fn join(&self, alloc: Global, other: &CardMap) -> Result<Option<CardMap>, AllocError>
+    pub fn join(&self, alloc: Global, other: &CardMap) -> Result<Option<CardMap>, OutOfMemory>
         ensures { IfOk result (λ told. MatchOption told
             ((key : ℕ) × Clash (said_at self.now key) (said_at other.now key))
             (λ made. (key : ℕ) → (said_at made key ≡ both_say (said_at self.now key) (said_at other.now key))
@@ -102,7 +103,7 @@ impl CardMap {
 
     /// Adds what is said of a key above all of which something is said. On want of memory the map
     /// stays as it was.
-    pub fn add(&mut self, key: u8, cards: CardSet) -> Result<(), AllocError>
+    pub fn add(&mut self, key: u8, cards: CardSet) -> Result<(), OutOfMemory>
         requires above { KeysBelow key self.old }
         ensures ok { OnOk result (self.new ≡ self.old ++ (key, cards) ∷ []) }
         ensures err { OnErr result (self.new ≡ self.old) }
@@ -120,7 +121,7 @@ impl CardMap {
     }
 
     /// A copy.
-    pub fn copy(&self, alloc: Global) -> Result<CardMap, AllocError>
+    pub fn copy(&self, alloc: Global) -> Result<CardMap, OutOfMemory>
         ensures { IfOk result (λ made. made ≡ self.now) }
     {
         let entries = Vec::from_slice(alloc, self.entries.as_slice())?;

@@ -4,12 +4,12 @@ ghost use Rattle.std.specs.Prelude.{◌≡◌, ◌<◌, ℕ, [], IfOk, slice_ind
 ghost use Rattle.xdg_problem.specs.Costs.{label_cost};
 ghost use Rattle.xdg_engine.specs.CostRows as spec;
 
-use std::alloc::{AllocError, Global};
-use xdg_base::{DimId, EntryNo, LabelId, List};
+use std::alloc::Global;
+use xdg_base::{DimId, EntryNo, LabelId, List, OutOfMemory};
 use xdg_problem::{Costs, Parts};
 
 /// What candidates cost, one after another.
-fn row_of(alloc: Global, costs: &Costs, candidates: &[EntryNo]) -> Result<List<u32>, AllocError>
+fn row_of(alloc: Global, costs: &Costs, candidates: &[EntryNo]) -> Result<List<u32>, OutOfMemory>
     ensures { IfOk result (λ row. row ≡ spec.entry_row costs.now candidates.now) }
 {
     let mut row = List::new(alloc);
@@ -24,7 +24,7 @@ pub(crate) fn entry_rows(
     alloc: Global,
     costs: &Costs,
     parts: &Parts,
-) -> Result<List<List<u32>>, AllocError>
+) -> Result<List<List<u32>>, OutOfMemory>
     ensures { IfOk result (λ rows. rows ≡ spec.entry_rows costs.now parts.now) }
 {
     let mut rows = List::new(alloc);

@@ -1,6 +1,7 @@
 -- What is wrong with rules where a table of types is given: a line for each thing that may be wrong.
 use Rattle.std.specs.Prelude.{ℕ, ◌==◌, List, [], ◌∷◌, ◌++◌, length, map, slice_get, Option, Some, None, if◌then◌else◌}
 use Rattle.std.specs.List.{flat_map}
+use Rattle.xdg_base.specs.Faults.{fault_at}
 use Rattle.xdg_base.specs.declared.faults.Cause.TheVariants as causes
 use Rattle.xdg_base.specs.declared.faults.Fault.{Fault}
 use Rattle.xdg_ast.specs.declared.names.Name.{Name}
@@ -8,7 +9,6 @@ use Rattle.xdg_domain.specs.declared.types.Ty.{Ty}
 use Rattle.xdg_domain.specs.Shapes.{Shape, shape}
 use Rattle.xdg_terms.specs.Faults.{missing, all_twice, faults}
 use Rattle.xdg_terms.specs.Forms.{Term, with_open}
-use Rattle.xdg_terms.specs.Offences.{fault_at}
 use Rattle.xdg_types.specs.declared.table.DimType.{DimType}
 use Rattle.xdg_types.specs.Table.{Table, dim_named}
 use Rattle.xdg_formula.specs.declared.tree.Rule.{Rule}

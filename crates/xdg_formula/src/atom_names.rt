@@ -8,12 +8,12 @@ ghost use Rattle.xdg_terms.specs.Faults.{missing};
 ghost use Rattle.xdg_formula.specs.Formulas as spec;
 ghost use Rattle.xdg_formula.specs.Tables.{used_dims};
 
-use crate::faults::fault_at;
-use crate::tables::{dim_named, has_label, member_type, type_named};
+use crate::tables::{dim_named, member_type, type_named};
 use std::alloc::Global;
 use xdg_ast::{Name, Params, Term};
 use xdg_base::{Cause, Fault, Text};
 use xdg_domain::Ty;
+use xdg_names::has_text;
 use xdg_terms::check_open;
 use xdg_types::TypeTable;
 
@@ -22,10 +22,10 @@ use xdg_types::TypeTable;
 fn check_label(labels: &[Text], label: &Name) -> Option<Fault>
     ensures { result ≡ first (missing causes.NotMember labels.now label.now) }
 {
-    if has_label(labels, label.text.as_str()) {
+    if has_text(labels, label.text.as_str()) {
         return None;
     }
-    Some(fault_at(Cause::NotMember, label.span.start))
+    Some(Fault::at(Cause::NotMember, label.span.start))
 }
 
 /// The dimension of an edge, and its label.
@@ -33,7 +33,7 @@ pub(crate) fn check_edge(types: &TypeTable, dim: &Name, label: &Name) -> Option<
     ensures { result ≡ first (spec.edge_faults (used_dims types.now) dim.now label.now) }
 {
     match dim_named(types, dim.text.as_str()) {
-        None => Some(fault_at(Cause::UnknownName, dim.span.start)),
+        None => Some(Fault::at(Cause::UnknownName, dim.span.start)),
         Some(found) => check_label(found.labels.as_slice(), label),
     }
 }
@@ -43,7 +43,7 @@ pub(crate) fn check_dim(types: &TypeTable, dim: &Name) -> Option<Fault>
     ensures { result ≡ first (spec.dim_faults (used_dims types.now) dim.now) }
 {
     match dim_named(types, dim.text.as_str()) {
-        None => Some(fault_at(Cause::UnknownName, dim.span.start)),
+        None => Some(Fault::at(Cause::UnknownName, dim.span.start)),
         Some(_) => None,
     }
 }
@@ -61,7 +61,7 @@ fn check_attribute(alloc: Global, attrs: &[(Text, Ty)], attr: &Name, value: &Ter
     ensures { result ≡ first (spec.attribute_faults attrs.now attr.now value.now) }
 {
     match type_named(attrs, attr.text.as_str()) {
-        None => Some(fault_at(Cause::UnknownName, attr.span.start)),
+        None => Some(Fault::at(Cause::UnknownName, attr.span.start)),
         Some(ty) => check_value(alloc, ty, value),
     }
 }
@@ -77,7 +77,7 @@ pub(crate) fn check_attr(
     ensures { result ≡ first (spec.attr_faults (used_dims types.now) dim.now attr.now value.now) }
 {
     match dim_named(types, dim.text.as_str()) {
-        None => Some(fault_at(Cause::UnknownName, dim.span.start)),
+        None => Some(Fault::at(Cause::UnknownName, dim.span.start)),
         Some(found) => check_attribute(alloc, found.attrs.as_slice(), attr, value),
     }
 }
@@ -87,7 +87,7 @@ fn check_member(alloc: Global, ty: &Ty, feature: &Name, value: &Term) -> Option<
     ensures { result ≡ first (spec.feature_faults feature.now value.now (shape ty.now)) }
 {
     match member_type(ty) {
-        None => Some(fault_at(Cause::WrongKind, feature.span.start)),
+        None => Some(Fault::at(Cause::WrongKind, feature.span.start)),
         Some(wanted) => check_value(alloc, wanted, value),
     }
 }
@@ -97,7 +97,7 @@ fn check_field(alloc: Global, fields: &[(Text, Ty)], feature: &Name, value: &Ter
     ensures { result ≡ first (spec.field_faults fields.now feature.now value.now) }
 {
     match type_named(fields, feature.text.as_str()) {
-        None => Some(fault_at(Cause::UnknownName, feature.span.start)),
+        None => Some(Fault::at(Cause::UnknownName, feature.span.start)),
         Some(ty) => check_member(alloc, ty, feature, value),
     }
 }
@@ -113,7 +113,7 @@ pub(crate) fn check_feature(
     ensures { result ≡ first (spec.feat_faults (used_dims types.now) dim.now feature.now value.now) }
 {
     match dim_named(types, dim.text.as_str()) {
-        None => Some(fault_at(Cause::UnknownName, dim.span.start)),
+        None => Some(Fault::at(Cause::UnknownName, dim.span.start)),
         Some(found) => check_field(alloc, found.fields.as_slice(), feature, value),
     }
 }

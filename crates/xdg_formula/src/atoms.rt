@@ -175,7 +175,7 @@ fn feat(alloc: Global, cursor: &mut Cursor<'_, '_>, within: u32) -> Result<RuleK
 }
 
 /// An atom, in which `within` more brackets may be opened.
-#[tactic(auto, unfolding(crate::specs::Rules::atom, crate::specs::Rules::edge, crate::specs::Rules::above, crate::specs::Rules::left, crate::specs::Rules::same, crate::specs::Rules::attr))]
+#[tactic(auto, unfolding(crate::specs::Rules::atom, crate::specs::Rules::left, crate::specs::Rules::same), using(crate::proofs::Nexts::atom_firsts))]
 pub(crate) fn atom(alloc: Global, cursor: &mut Cursor<'_, '_>, within: u32) -> Result<RuleKind, Why>
     ensures { Reads ((grammar.atom (under within)).read cursor.old) result cursor.new }
 {

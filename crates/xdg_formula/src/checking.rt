@@ -12,8 +12,8 @@ ghost use Rattle.xdg_formula.specs.Tables.{used_dims};
 
 use crate::formula_checking::check_formula;
 use crate::tree::{Rule, Rules};
-use std::alloc::{AllocError, Global};
-use xdg_base::{Cause, Fault, Stop};
+use std::alloc::Global;
+use xdg_base::{Cause, Fault, OutOfMemory, Stop};
 use xdg_names::earlier;
 use xdg_types::TypeTable;
 
@@ -40,11 +40,7 @@ fn check_name(before: &[Rule], rule: &Rule) -> Option<Fault>
     if !has_name(before, rule.name.text.as_str()) {
         return None;
     }
-    Some(Fault {
-        cause: Cause::Twice,
-        at: rule.name.span.start,
-        reached: 0,
-    })
+    Some(Fault::at(Cause::Twice, rule.name.span.start))
 }
 
 /// The names that a rule before has too.
@@ -77,7 +73,7 @@ fn check_bodies(
     alloc: Global,
     types: &TypeTable,
     rules: &[Rule],
-) -> Result<Option<Fault>, AllocError>
+) -> Result<Option<Fault>, OutOfMemory>
     ensures { IfOk result (λ found. found ≡ first (flat_map (λ rule. spec.formula_faults (used_dims types.now) [] rule.body) rules.now)) }
 {
     let mut found = None;
@@ -89,7 +85,7 @@ fn check_bodies(
 
 /// What is wrong with rules.
 #[tactic(auto, using(xdg_names::proofs::First::first_append))]
-fn check_all(alloc: Global, types: &TypeTable, rules: &[Rule]) -> Result<Option<Fault>, AllocError>
+fn check_all(alloc: Global, types: &TypeTable, rules: &[Rule]) -> Result<Option<Fault>, OutOfMemory>
     ensures { IfOk result (λ found. found ≡ first (spec.rules_faults types.now rules.now)) }
 {
     let bodies = check_bodies(alloc, types, rules)?;

@@ -9,8 +9,8 @@ ghost use Rattle.xdg_formula.specs.Tables.{used_dims};
 use crate::atom_names::{check_attr, check_dim, check_edge, check_feature};
 use crate::scopes::{bind, check_binding, check_node, check_nodes};
 use crate::tree::{RuleKind, RuleTerm};
-use std::alloc::{AllocError, Global};
-use xdg_base::Fault;
+use std::alloc::Global;
+use xdg_base::{Fault, OutOfMemory};
 use xdg_names::earlier;
 use xdg_types::TypeTable;
 
@@ -21,7 +21,7 @@ fn check_kind<'a>(
     bound: &[&'a str],
     place: u32,
     kind: &'a RuleKind,
-) -> Result<Option<Fault>, AllocError>
+) -> Result<Option<Fault>, OutOfMemory>
     ensures { IfOk result (λ found. found ≡ first (spec.faults_in (used_dims types.now) (map (λ text. text.now) bound.now) place (tree kind.now))) }
 {
     match kind {
@@ -98,7 +98,7 @@ pub(crate) fn check_formula(
     alloc: Global,
     types: &TypeTable,
     term: &RuleTerm,
-) -> Result<Option<Fault>, AllocError>
+) -> Result<Option<Fault>, OutOfMemory>
     ensures { IfOk result (λ found. found ≡ first (spec.formula_faults (used_dims types.now) [] term.now)) }
 {
     check_kind(alloc, types, &[], term.span.start, &term.kind)

@@ -8,7 +8,6 @@
 mod atom_names;
 mod atoms;
 mod checking;
-mod faults;
 mod formula_checking;
 mod names;
 mod reading;

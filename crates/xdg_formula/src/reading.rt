@@ -2,8 +2,6 @@
 
 ghost use Rattle.std.specs.Prelude.{◌≡◌, ◌<◌, ◌^◌, Result, length};
 ghost use Rattle.xdg_base.specs.declared.faults.Fault as faults;
-ghost use Rattle.xdg_base.specs.declared.faults.Cause.TheVariants as causes;
-ghost use Rattle.xdg_base.specs.declared.faults.Stop.TheVariants as stops;
 ghost use Rattle.xdg_ast.specs.Lexemes.{lexemes_of};
 ghost use Rattle.xdg_formula.specs.declared.tree.Rules as trees;
 ghost use Rattle.xdg_formula.specs.Texts.{TellsSeen, Tells, IsAnswer};
@@ -15,34 +13,9 @@ use crate::tree::Rules;
 use crate::words::seen_all;
 use std::alloc::Global;
 use xdg_ast::Token;
-use xdg_base::{Cause, Fault, List, Stop};
+use xdg_base::{List, Stop};
 use xdg_lex::tokens;
-use xdg_parse::{Cursor, Why};
-
-/// How many brackets may be open at a time.
-const MOST_BRACKETS: u32 = 64;
-
-/// Nothing goes on with what stands at a place.
-fn unexpected(at: u32) -> Stop
-    ensures { result ≡ stops.Fault (record { cause = causes.Unexpected; at = at; reached = 0 }) }
-{
-    Stop::Fault(Fault {
-        cause: Cause::Unexpected,
-        at,
-        reached: 0,
-    })
-}
-
-/// A bracket at a place is one too many.
-fn too_deep(at: u32) -> Stop
-    ensures { result ≡ stops.Fault (record { cause = causes.TooDeep; at = at; reached = 65 }) }
-{
-    Stop::Fault(Fault {
-        cause: Cause::TooDeep,
-        at,
-        reached: u64::from(MOST_BRACKETS) + 1,
-    })
-}
+use xdg_parse::{Cursor, MOST_BRACKETS, Why, too_deep, unexpected};
 
 /// The tree of tokens with the kinds that they have in rules, of a text that ends at a place.
 fn parsed(alloc: Global, tokens: &[Token], end: u32) -> Result<Rules, Stop>
@@ -76,10 +49,10 @@ fn read(alloc: Global, tokens: &List<Token>, end: u32) -> Result<Rules, Stop>
 ///
 /// The first of these faults, in this order, or want of memory:
 ///
-/// - [`Cause::BadUtf8`] (20) at the first byte that belongs to no whole character;
-/// - [`Cause::BadChar`] (21), [`Cause::OpenText`] (22) and [`Cause::TooLong`] (40) of a token, the first in the text;
-/// - [`Cause::Unexpected`] (23) at the first token with which the tokens before it don't go on in any rules text, or at the end where
-///   they are no whole one, and [`Cause::TooDeep`] (41) at the first bracket that is the 65th open one, with `reached` 65, whichever
+/// - `Cause::BadUtf8` (20) at the first byte that belongs to no whole character;
+/// - `Cause::BadChar` (21), `Cause::OpenText` (22) and `Cause::TooLong` (40) of a token, the first in the text;
+/// - `Cause::Unexpected` (23) at the first token with which the tokens before it don't go on in any rules text, or at the end where
+///   they are no whole one, and `Cause::TooDeep` (41) at the first bracket that is the 65th open one, with `reached` 65, whichever
 ///   comes first in the text.
 pub fn formulas(alloc: Global, bytes: &[u8]) -> Result<Rules, Stop>
     requires { length bytes.now < 2 ^ 32 }

@@ -5,10 +5,9 @@ ghost use Rattle.xdg_names.specs.First.{first};
 ghost use Rattle.xdg_names.specs.Texts.{has_text};
 ghost use Rattle.xdg_formula.specs.Formulas as spec;
 
-use crate::faults::fault_at;
-use std::alloc::{AllocError, Global};
+use std::alloc::Global;
 use xdg_ast::Name;
-use xdg_base::{Cause, Fault};
+use xdg_base::{Cause, Fault, OutOfMemory};
 use xdg_names::earlier;
 
 /// How many quantifiers may stand open.
@@ -34,7 +33,7 @@ pub(crate) fn check_node(bound: &[&str], node: &Name) -> Option<Fault>
     if is_bound(bound, node.text.as_str()) {
         return None;
     }
-    Some(fault_at(Cause::UnknownName, node.span.start))
+    Some(Fault::at(Cause::UnknownName, node.span.start))
 }
 
 /// Of two nodes one that isn't bound.
@@ -64,7 +63,7 @@ fn check_again(bound: &[&str], name: &Name) -> Option<Fault>
     ensures { result ≡ first (spec.bound_again (map (λ text. text.now) bound.now) name.now) }
 {
     if is_bound(bound, name.text.as_str()) {
-        return Some(fault_at(Cause::Twice, name.span.start));
+        return Some(Fault::at(Cause::Twice, name.span.start));
     }
     None
 }
@@ -82,7 +81,7 @@ pub fn bind<'a>(
     alloc: Global,
     bound: &[&'a str],
     name: &'a Name,
-) -> Result<Vec<&'a str>, AllocError>
+) -> Result<Vec<&'a str>, OutOfMemory>
     ensures { IfOk result (λ made. map (λ text. text.now) made.items ≡ map (λ text. text.now) bound.now ++ name.now.text ∷ []) }
 {
     let mut made = Vec::new(alloc);

@@ -3,7 +3,6 @@
 ghost use Rattle.std.specs.Prelude.{◌≡◌, ◌<◌, length, All, option_map};
 ghost use Rattle.std.specs.Option.{option_copied};
 ghost use Rattle.xdg_domain.specs.Shapes.{shape};
-ghost use Rattle.xdg_names.specs.Texts.{has_text};
 ghost use Rattle.xdg_formula.specs.Tables as spec;
 ghost use Rattle.xdg_types.specs.Table.{dim_named};
 
@@ -30,18 +29,6 @@ pub(crate) fn dim_named<'a>(types: &'a TypeTable, name: &str) -> Option<&'a DimT
     ensures { option_copied result ≡ dim_named (spec.used_dims types.now) name.now }
 {
     dim_among(types.dims(), types.used(), name)
-}
-
-/// Whether a label has that name.
-pub(crate) fn has_label(labels: &[Text], name: &str) -> bool
-    ensures { result ≡ has_text labels.now name.now }
-{
-    for label in labels {
-        if label.as_str() == name {
-            return true;
-        }
-    }
-    false
 }
 
 /// The type of that name, of an attribute or a feature.

@@ -10,9 +10,9 @@ use crate::atoms::atom;
 use crate::names::node;
 use crate::tree::{RuleKind, RuleTerm};
 use crate::words::{ALL, SOME};
-use std::alloc::{AllocError, Global};
+use std::alloc::Global;
 use xdg_ast::{Kind, Name};
-use xdg_base::{Boxed, List, Span};
+use xdg_base::{Boxed, List, OutOfMemory, Span};
 use xdg_parse::{Cursor, Why};
 
 /// One member is that member, and more are all of them.
@@ -49,7 +49,7 @@ fn negated(
     span: Span,
     signs: List<Span>,
     term: RuleTerm,
-) -> Result<RuleTerm, AllocError>
+) -> Result<RuleTerm, OutOfMemory>
     ensures { IfOk result (λ made. made ≡ grammar.negated span (signs, term)) }
 {
     if signs.len() == 0 {

@@ -7,9 +7,9 @@ ghost use Rattle.std.specs.Prelude.{◌≡◌, IfOk};
 ghost use Rattle.xdg_ast.specs.Lexemes.{lexemes_of};
 ghost use Rattle.xdg_formula.specs.Words.{word_of, kind_in_rules, seen_all};
 
-use std::alloc::{AllocError, Global};
+use std::alloc::Global;
 use xdg_ast::{Kind, Token};
-use xdg_base::List;
+use xdg_base::{List, OutOfMemory};
 
 /// The kind of the word `rule`.
 pub(crate) const RULE: Kind = Kind::DefEntry;
@@ -84,7 +84,7 @@ fn kind_in_rules(kind: Kind, text: &str) -> Kind
 pub(crate) fn seen_all<'a>(
     alloc: Global,
     tokens: &[Token<'a>],
-) -> Result<List<Token<'a>>, AllocError>
+) -> Result<List<Token<'a>>, OutOfMemory>
     ensures { IfOk result (λ seen. lexemes_of seen ≡ seen_all (lexemes_of tokens.now)) }
 {
     let mut seen = List::new(alloc);

@@ -10,12 +10,11 @@ use Rattle.xdg_build.specs.Compiled.{compiled}
 use Rattle.xdg_build.specs.Refusals.{refusal, IsRefused, fault}
 use Rattle.xdg_build.specs.Solutions.{KeepsSolutions}
 use Rattle.xdg_reading.specs.Fits as fitting
-use Rattle.xdg_inputs.specs.Answers.{meaning_of}
-use Rattle.xdg_inputs.specs.Packed.{IsPackedOf}
+use Rattle.xdg_inputs.specs.Answers.{grammar_in, meaning_of}
+use Rattle.xdg_inputs.specs.RightLexicons.{HasRightLexicon}
 use Rattle.xdg_inputs.specs.declared.expanding.Expanded.{Expanded}
-use Rattle.xdg_build.specs.Grammars.{Grammar, grammar_of}
+use Rattle.xdg_build.specs.Grammars.{Grammar}
 use Rattle.xdg_io.specs.Files.{HasFile}
-use Rattle.xdg_packed.specs.Lexicon.{Lexicon}
 use Rattle.xdg_problem.specs.declared.analysis.Analysis.{Analysis}
 use Rattle.xdg_problem.specs.declared.parts.Parts.{Parts}
 use Rattle.xdg_problem.specs.declared.parts.SentenceWord.{SentenceWord}
@@ -89,21 +88,18 @@ long_fault g text h long (unfit t small r e s) = absurd (omega (arith, long, sma
 
 -- ---- steps
 
-module _ (made : Expanded) (lexicon : Lexicon) (packed : IsPackedOf made lexicon) (files : List ℕ → Option (List ℕ)) (name text : List ℕ) (file : files name ≡ Some text) where
-  own : with_words (meaning_of made) lexicon.dim lexicon.field ≡ grammar_of made.checked lexicon
-  own = grammar_is made lexicon lexicon.dim lexicon.field packed packed.place
-
+module _ (made : Expanded) (right : HasRightLexicon made) (files : List ℕ → Option (List ℕ)) (name text : List ℕ) (file : files name ≡ Some text) where
   -- what is refused here is refused of this text
-  of_text : (t : List ℕ) (h : Fault) → HasBadAnalysis files name (meaning_of made) t h → (t ≡ text) × IsNoAnalysis (grammar_of made.checked lexicon) text h
+  of_text : (t : List ℕ) (h : Fault) → HasBadAnalysis files name (meaning_of made) t h → (t ≡ text) × IsNoAnalysis (grammar_in made) text h
   of_text t h q =
       let e = same_text files name t text q.file file in
-      (e, subst (λ z. IsNoAnalysis z text h) (grammar_is made lexicon q.dim q.field packed q.place) (subst (λ z. IsNoAnalysis (with_words (meaning_of made) q.dim q.field) z h) e q.because))
+      (e, subst (λ z. IsNoAnalysis z text h) (grammar_is made q.dim q.field right q.place) (subst (λ z. IsNoAnalysis (with_words (meaning_of made) q.dim q.field) z h) e q.because))
 
-  has_bad : (f : Fault) → IsNoAnalysis (grammar_of made.checked lexicon) text f → HasBadAnalysis files name (meaning_of made) text f
-  has_bad f bad = record { dim = lexicon.dim; field = lexicon.field; place = packed.place; file = file; because = subst (λ z. IsNoAnalysis z text f) (sym own) bad }
+  has_bad : (f : Fault) → IsNoAnalysis (grammar_in made) text f → HasBadAnalysis files name (meaning_of made) text f
+  has_bad f bad = record { dim = made.lexicon.dim; field = made.lexicon.field; place = right.placed.place; file = file; because = bad }
 
   -- a fault that is the only one, where nothing is accepted
-  rejected : (f : Fault) → IsNoAnalysis (grammar_of made.checked lexicon) text f → ((h : Fault) → IsNoAnalysis (grammar_of made.checked lexicon) text h → h ≡ f) → ((b : Analysed) → HasAnalysis files name (meaning_of made) b → ⊥)
+  rejected : (f : Fault) → IsNoAnalysis (grammar_in made) text f → ((h : Fault) → IsNoAnalysis (grammar_in made) text h → h ≡ f) → ((b : Analysed) → HasAnalysis files name (meaning_of made) b → ⊥)
       → Rejects Analysed (HasBadAnalysis files name (meaning_of made)) (HasAnalysis files name (meaning_of made)) text f
   rejected f bad one never = record { is = has_bad f bad; one = λ t h q. let o = of_text t h q in (o.0, one h o.1); never = never }
 
@@ -111,27 +107,27 @@ module _ (made : Expanded) (lexicon : Lexicon) (packed : IsPackedOf made lexicon
   read_here : (b : Analysed) → (h : HasAnalysis files name (meaning_of made) b) → reading.IsAnswer text (Ok h.read)
   read_here b h = subst (λ z. reading.IsAnswer z (Ok h.read)) (same_text files name h.bytes text h.file file) h.reads
 
-  known_here : (b : Analysed) → (h : HasAnalysis files name (meaning_of made) b) → refusal (grammar_of made.checked lexicon) h.read.words ≡ None
-  known_here b h = subst (λ z. refusal z h.read.words ≡ None) (grammar_is made lexicon h.dim h.field packed h.place) h.known
+  known_here : (b : Analysed) → (h : HasAnalysis files name (meaning_of made) b) → refusal (grammar_in made) h.read.words ≡ None
+  known_here b h = subst (λ z. refusal z h.read.words ≡ None) (grammar_is made h.dim h.field right h.place) h.known
 
-  parts_here : (b : Analysed) → (h : HasAnalysis files name (meaning_of made) b) → b.parts ≡ compiled (grammar_of made.checked lexicon) h.read.words
-  parts_here b h = h.parts_are ∙ ap (λ z. compiled z h.read.words) (grammar_is made lexicon h.dim h.field packed h.place)
+  parts_here : (b : Analysed) → (h : HasAnalysis files name (meaning_of made) b) → b.parts ≡ compiled (grammar_in made) h.read.words
+  parts_here b h = h.parts_are ∙ ap (λ z. compiled z h.read.words) (grammar_is made h.dim h.field right h.place)
 
   pub reading_rejected : (f : Fault) → length text ≤ analysis_limit → reading.IsAnswer text (Err f) → OneReading text (Err f) → Rejects Analysed (HasBadAnalysis files name (meaning_of made)) (HasAnalysis files name (meaning_of made)) text f
   reading_rejected f within is one = rejected f (unreadable within is) (λ h bad. fault_of_reading _ text f h within one bad)
       (λ b h. let e : ◌≡◌ {A = Result AnalysisText Fault} (Ok h.read) (Err f) = one (Ok h.read) (read_here b h) in cc)
 
-  pub word_rejected : (t : AnalysisText) (w : Fault) → length text ≤ analysis_limit → reading.IsAnswer text (Ok t) → OneReading text (Ok t) → refusal (grammar_of made.checked lexicon) t.words ≡ Some w
+  pub word_rejected : (t : AnalysisText) (w : Fault) → length text ≤ analysis_limit → reading.IsAnswer text (Ok t) → OneReading text (Ok t) → refusal (grammar_in made) t.words ≡ Some w
       → Rejects Analysed (HasBadAnalysis files name (meaning_of made)) (HasAnalysis files name (meaning_of made)) text (fault causes.NotAnalysis w.at 0)
   word_rejected t w within is one known = rejected (fault causes.NotAnalysis w.at 0) (unknown_word t w within is known refl) (λ h bad. fault_of_word _ text t w h within one known bad)
-      (λ b h. let e : None ≡ Some w = sym (subst (λ z. refusal (grammar_of made.checked lexicon) z.words ≡ None) (same_reading text t h.read one (read_here b h)) (known_here b h)) ∙ known in cc)
+      (λ b h. let e : None ≡ Some w = sym (subst (λ z. refusal (grammar_in made) z.words ≡ None) (same_reading text t h.read one (read_here b h)) (known_here b h)) ∙ known in cc)
 
-  pub fit_rejected : (t : AnalysisText) (f : Fault) → length text ≤ analysis_limit → reading.IsAnswer text (Ok t) → OneReading text (Ok t) → refusal (grammar_of made.checked lexicon) t.words ≡ None
-      → fitting.IsAnswer (compiled (grammar_of made.checked lexicon) t.words) t (Err f) → OneFit (compiled (grammar_of made.checked lexicon) t.words) t (Err f)
+  pub fit_rejected : (t : AnalysisText) (f : Fault) → length text ≤ analysis_limit → reading.IsAnswer text (Ok t) → OneReading text (Ok t) → refusal (grammar_in made) t.words ≡ None
+      → fitting.IsAnswer (compiled (grammar_in made) t.words) t (Err f) → OneFit (compiled (grammar_in made) t.words) t (Err f)
       → Rejects Analysed (HasBadAnalysis files name (meaning_of made)) (HasAnalysis files name (meaning_of made)) text f
   fit_rejected t f within is one known misfit fits = rejected f (unfit t within is known misfit) (λ h bad. fault_of_fit _ text t f h within one known fits bad)
       (λ b h.
-      let g = grammar_of made.checked lexicon in
+      let g = grammar_in made in
       let same = same_reading text t h.read one (read_here b h) in
       let here : fitting.IsAnswer (compiled g h.read.words) h.read (Ok b.analysis) = subst (λ z. fitting.IsAnswer z h.read (Ok b.analysis)) (parts_here b h) h.fits in
       let e : ◌≡◌ {A = Result Analysis Fault} (Ok b.analysis) (Err f) = fits (Ok b.analysis) (subst (λ z. fitting.IsAnswer (compiled g z.words) z (Ok b.analysis)) same here) in cc)
@@ -144,25 +140,25 @@ module _ (made : Expanded) (lexicon : Lexicon) (packed : IsPackedOf made lexicon
     place_is = first_byte text (fault causes.TooLong 0 (analysis_limit + 1)) refl;
   }
 
-  pub analysis_accepted : (t : AnalysisText) (parts : Parts) (a : Analysis) → length text ≤ analysis_limit → reading.IsAnswer text (Ok t) → OneReading text (Ok t) → refusal (grammar_of made.checked lexicon) t.words ≡ None
-      → parts ≡ compiled (grammar_of made.checked lexicon) t.words → fitting.IsAnswer parts t (Ok a) → OneFit parts t (Ok a) → KeepsSolutions (grammar_of made.checked lexicon) t.words parts
+  pub analysis_accepted : (t : AnalysisText) (parts : Parts) (a : Analysis) → length text ≤ analysis_limit → reading.IsAnswer text (Ok t) → OneReading text (Ok t) → refusal (grammar_in made) t.words ≡ None
+      → parts ≡ compiled (grammar_in made) t.words → fitting.IsAnswer parts t (Ok a) → OneFit parts t (Ok a) → KeepsSolutions (grammar_in made) t.words parts
       → Accepts Analysed (HasBadAnalysis files name (meaning_of made)) (HasAnalysis files name (meaning_of made)) (record { parts = parts; analysis = a })
   analysis_accepted t parts a within is one known parts_are fits fits_one keeps =
-      let g = grammar_of made.checked lexicon in
+      let g = grammar_in made in
       record {
         has = record {
-          dim = lexicon.dim;
-          field = lexicon.field;
-          place = packed.place;
+          dim = made.lexicon.dim;
+          field = made.lexicon.field;
+          place = right.placed.place;
           bytes = text;
           file = file;
           within = within;
           read = t;
           reads = is;
-          known = subst (λ z. refusal z t.words ≡ None) (sym own) known;
-          parts_are = parts_are ∙ ap (λ z. compiled z t.words) (sym own);
+          known = known;
+          parts_are = parts_are;
           fits = fits;
-          keeps = subst (λ z. KeepsSolutions z t.words parts) (sym own) keeps;
+          keeps = keeps;
         };
         one = λ b h.
             let same = same_reading text t h.read one (read_here b h) in
@@ -198,10 +194,10 @@ misfits g t words problem (stops.Fault f) e k known tells only =
     not_fit f (subst (λ w. refusal g w ≡ None) e known) (subst (λ p. fitting.IsAnswer p t (Err f)) same tells) (λ answer a. only answer (subst (λ p. fitting.IsAnswer p t answer) (sym same) a))
 misfits g t words problem stops.OutOfMemory e k known tells only = no_memory
 
-module _ (made : Expanded) (lexicon : Lexicon) (packed : IsPackedOf made lexicon) (told : Option (List ℕ → Option (List ℕ))) (files : List ℕ → Option (List ℕ)) (name text : List ℕ) (old new : ℕ) (has : HasFile told name text) (within : length text ≤ analysis_limit) where
+module _ (made : Expanded) (right : HasRightLexicon made) (told : Option (List ℕ → Option (List ℕ))) (files : List ℕ → Option (List ℕ)) (name text : List ℕ) (old new : ℕ) (has : HasFile told name text) (within : length text ≤ analysis_limit) where
   reading_stops : (stop : Stop) → reading.Tells text (Err stop) → ((answer : Result AnalysisText Fault) → reading.IsAnswer text answer → Gives answer (Err stop))
       → Stops (told ≡ Some files) old new Analysed (HasBadAnalysis files name (meaning_of made)) (HasAnalysis files name (meaning_of made)) (refusal_of text stop)
-  reading_stops (stops.Fault f) tells only = λ t. record { text = text; rejects = reading_rejected made lexicon packed files name text (told_file told files name text t has) f within tells only; place_is = refl }
+  reading_stops (stops.Fault f) tells only = λ t. record { text = text; rejects = reading_rejected made right files name text (told_file told files name text t has) f within tells only; place_is = refl }
   reading_stops stops.OutOfMemory tells only = tt
 
   -- a text that isn't read stops the call
@@ -211,22 +207,22 @@ module _ (made : Expanded) (lexicon : Lexicon) (packed : IsPackedOf made lexicon
       subst (Stops (told ≡ Some files) old new Analysed (HasBadAnalysis files name (meaning_of made)) (HasAnalysis files name (meaning_of made))) (sym r)
       (reading_stops stop (subst (λ z. reading.Tells z (Err stop)) e tells) (λ answer a. only answer (subst (λ z. reading.IsAnswer z answer) (sym e) a)))
 
-  judging_stops : (t : AnalysisText) (stop : Stop) → reading.IsAnswer text (Ok t) → OneReading text (Ok t) → IsNotJudged (grammar_of made.checked lexicon) t stop
+  judging_stops : (t : AnalysisText) (stop : Stop) → reading.IsAnswer text (Ok t) → OneReading text (Ok t) → IsNotJudged (grammar_in made) t stop
       → Stops (told ≡ Some files) old new Analysed (HasBadAnalysis files name (meaning_of made)) (HasAnalysis files name (meaning_of made)) (refusal_of text stop)
   judging_stops t stops.OutOfMemory is one no_memory = tt
-  judging_stops t (stops.Fault f) is one (word_unknown w known) = λ k. record { text = text; rejects = word_rejected made lexicon packed files name text (told_file told files name text k has) t w within is one known; place_is = refl }
-  judging_stops t (stops.Fault f) is one (not_fit h known misfit fits) = λ k. record { text = text; rejects = fit_rejected made lexicon packed files name text (told_file told files name text k has) t f within is one known misfit fits; place_is = refl }
+  judging_stops t (stops.Fault f) is one (word_unknown w known) = λ k. record { text = text; rejects = word_rejected made right files name text (told_file told files name text k has) t w within is one known; place_is = refl }
+  judging_stops t (stops.Fault f) is one (not_fit h known misfit fits) = λ k. record { text = text; rejects = fit_rejected made right files name text (told_file told files name text k has) t f within is one known misfit fits; place_is = refl }
 
   -- so does a text that isn't judged
-  pub unjudged_stops : (read : List ℕ) (t : AnalysisText) (stop : Stop) (refusal : Refusal) → read ≡ text → reading.Tells read (Ok t) → ((answer : Result AnalysisText Fault) → reading.IsAnswer read answer → Gives answer (Ok t)) → IsNotJudged (grammar_of made.checked lexicon) t stop → refusal ≡ refusal_of text stop
+  pub unjudged_stops : (read : List ℕ) (t : AnalysisText) (stop : Stop) (refusal : Refusal) → read ≡ text → reading.Tells read (Ok t) → ((answer : Result AnalysisText Fault) → reading.IsAnswer read answer → Gives answer (Ok t)) → IsNotJudged (grammar_in made) t stop → refusal ≡ refusal_of text stop
       → Stops (told ≡ Some files) old new Analysed (HasBadAnalysis files name (meaning_of made)) (HasAnalysis files name (meaning_of made)) refusal
   unjudged_stops read t stop refused e tells only bad r =
       subst (Stops (told ≡ Some files) old new Analysed (HasBadAnalysis files name (meaning_of made)) (HasAnalysis files name (meaning_of made))) (sym r)
       (judging_stops t stop (subst (λ z. reading.Tells z (Ok t)) e tells) (λ answer a. only answer (subst (λ z. reading.IsAnswer z answer) (sym e) a)) bad)
 
   -- and one that is judged has its analysis
-  pub judged_accepted : (read : List ℕ) (t : AnalysisText) (judgeable : Judgeable) → told ≡ Some files → read ≡ text → reading.Tells read (Ok t) → ((answer : Result AnalysisText Fault) → reading.IsAnswer read answer → Gives answer (Ok t)) → IsJudged (grammar_of made.checked lexicon) t judgeable
+  pub judged_accepted : (read : List ℕ) (t : AnalysisText) (judgeable : Judgeable) → told ≡ Some files → read ≡ text → reading.Tells read (Ok t) → ((answer : Result AnalysisText Fault) → reading.IsAnswer read answer → Gives answer (Ok t)) → IsJudged (grammar_in made) t judgeable
       → Accepts Analysed (HasBadAnalysis files name (meaning_of made)) (HasAnalysis files name (meaning_of made)) (analysed_of judgeable)
   judged_accepted read t judgeable k e tells only j =
-      analysis_accepted made lexicon packed files name text (told_file told files name text k has) t judgeable.problem judgeable.analysis within (subst (λ z. reading.Tells z (Ok t)) e tells)
+      analysis_accepted made right files name text (told_file told files name text k has) t judgeable.problem judgeable.analysis within (subst (λ z. reading.Tells z (Ok t)) e tells)
       (λ answer a. only answer (subst (λ z. reading.IsAnswer z answer) (sym e) a)) j.known j.parts_are j.fits j.one j.keeps

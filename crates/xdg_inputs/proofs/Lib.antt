@@ -1,7 +1,6 @@
 mod ClassCount
 mod OneMeaning
 mod OneTree
-mod PackedWords
 pub mod Leaving
 pub mod Trees
 pub mod Meaning

@@ -14,7 +14,7 @@ use Rattle.xdg_check.specs.Answers.{IsRight, IsCheckedOf}
 use Rattle.xdg_check.specs.Checked.{Parts, named_bodies}
 use Rattle.xdg_check.specs.Only as check_only
 use Rattle.xdg_check.specs.Only.{SameMeaning, placed_body}
-use Rattle.xdg_packed.specs.Lexicon.{Entry}
+use Rattle.xdg_packed.specs.Lexicon.{Entry, Lexicon}
 use Rattle.xdg_lexicon.specs.Answers as lexicon
 use Rattle.xdg_lexicon.specs.Lexicon as entries
 use Rattle.xdg_lexicon.specs.Lexicon.{IsLexicon}
@@ -137,15 +137,15 @@ same_meaning m checked all t u e =
     ∙ ap (λ x. record { table = checked.types; uses = x; entries = m.entries }) u
     ∙ ap (λ x. record { table = checked.types; uses = checked.principles; entries = x }) e
 
-lexicon_gives : (tree : Grammar) (checked : Parts) (all : List Entry) → OneMeaning tree checked → NotRefused tree → ((a : Result (List Entry) Fault) → lexicon.IsAnswer (source_of checked) a → lexicon.Gives a (Ok all))
-    → (answer : Result Meaning Fault) → IsAnswer tree answer → Gives answer (Ok (record { checked = checked; entries = all }))
+lexicon_gives : (tree : Grammar) (checked : Parts) (packed : Lexicon) → OneMeaning tree checked → NotRefused tree → ((a : Result (List Entry) Fault) → lexicon.IsAnswer (source_of checked) a → lexicon.Gives a (Ok packed.entries))
+    → (answer : Result Meaning Fault) → IsAnswer tree answer → Gives answer (Ok (record { checked = checked; lexicon = packed }))
 unfolding OneMeaning NotRefused
-lexicon_gives tree checked all one none only (Ok m) is =
+lexicon_gives tree checked packed one none only (Ok m) is =
     let same : SameMeaning is.checked checked = one is.checked is.checks in
-    same_meaning m checked all (is.table ∙ same.types) (is.uses ∙ same.principles) (only (Ok m.entries) (subst (λ s. IsLexicon s m.entries) (same_source is.checked checked same) is.lexicon))
-lexicon_gives tree checked all one none only (Err f) (of_types refused) = absurd (none.0 f refused)
-lexicon_gives tree checked all one none only (Err f) (of_check table has refused) = absurd (none.1 table f has refused)
-lexicon_gives tree checked all one none only (Err f) (of_lexicon other are refused) = absurd (only (Err f) (subst (λ s. entries.Refuses s f) (same_source other checked (one other are)) refused))
+    same_meaning m checked packed.entries (is.table ∙ same.types) (is.uses ∙ same.principles) (only (Ok m.entries) (subst (λ s. IsLexicon s m.entries) (same_source is.checked checked same) is.lexicon))
+lexicon_gives tree checked packed one none only (Err f) (of_types refused) = absurd (none.0 f refused)
+lexicon_gives tree checked packed one none only (Err f) (of_check table has refused) = absurd (none.1 table f has refused)
+lexicon_gives tree checked packed one none only (Err f) (of_lexicon other are refused) = absurd (only (Err f) (subst (λ s. entries.Refuses s f) (same_source other checked (one other are)) refused))
 
 pub expand_only_tell : (tree : Grammar) (table : Table) (checked : Parts) (stop : Stop) → ((a : Result Table Fault) → types.IsAnswer tree.statements a → told.Gives a (Ok table))
     → ((a : Result Parts Fault) → check.IsAnswer tree.statements table a → check_only.Gives a (Ok checked)) → ((a : Result (List Entry) Fault) → lexicon.IsAnswer (source_of checked) a → lexicon.Gives a (Err stop))
@@ -153,8 +153,8 @@ pub expand_only_tell : (tree : Grammar) (table : Table) (checked : Parts) (stop 
 unfolding OneTable
 expand_only_tell tree table checked stop one two only = lexicon_refuses tree checked stop (one_meaning tree table checked one two) (not_refused tree table checked one two) only
 
-pub made_only : (tree : Grammar) (table : Table) (checked : Parts) (all : List Entry) → ((a : Result Table Fault) → types.IsAnswer tree.statements a → told.Gives a (Ok table))
-    → ((a : Result Parts Fault) → check.IsAnswer tree.statements table a → check_only.Gives a (Ok checked)) → ((a : Result (List Entry) Fault) → lexicon.IsAnswer (source_of checked) a → lexicon.Gives a (Ok all))
-    → (answer : Result Meaning Fault) → IsAnswer tree answer → Gives answer (Ok (record { checked = checked; entries = all }))
+pub made_only : (tree : Grammar) (table : Table) (checked : Parts) (packed : Lexicon) → ((a : Result Table Fault) → types.IsAnswer tree.statements a → told.Gives a (Ok table))
+    → ((a : Result Parts Fault) → check.IsAnswer tree.statements table a → check_only.Gives a (Ok checked)) → ((a : Result (List Entry) Fault) → lexicon.IsAnswer (source_of checked) a → lexicon.Gives a (Ok packed.entries))
+    → (answer : Result Meaning Fault) → IsAnswer tree answer → Gives answer (Ok (record { checked = checked; lexicon = packed }))
 unfolding OneTable
-made_only tree table checked all one two only = lexicon_gives tree checked all (one_meaning tree table checked one two) (not_refused tree table checked one two) only
+made_only tree table checked packed one two only = lexicon_gives tree checked packed (one_meaning tree table checked one two) (not_refused tree table checked one two) only

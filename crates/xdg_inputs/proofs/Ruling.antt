@@ -8,18 +8,19 @@ use Rattle.xdg_base.specs.declared.ids.EntryNo.{EntryNo}
 use Rattle.xdg_build.specs.Compiled.{candidates_of, compiled}
 use Rattle.xdg_build.specs.Plans.{plan_at}
 use Rattle.xdg_build.proofs.Numbered.{each_below}
-use Rattle.xdg_packed.specs.Entries.{AreEntries, IsRightLexicon}
+use Rattle.xdg_packed.specs.Entries.{AreEntries}
 use Rattle.xdg_formula.specs.Tables.{dims_at}
 use Rattle.xdg_build.specs.Formulas.{formulas_of}
 use Rattle.xdg_build.specs.Problems.{IsFor, IsPlanOf}
 use Rattle.xdg_build.specs.Says.{KeepsEach}
 use Rattle.xdg_build.specs.Truths.{RuleHolds}
 use Rattle.xdg_formula.specs.declared.tree.Rule.{Rule}
-use Rattle.xdg_inputs.specs.Packed.{IsPackedOf}
+use Rattle.xdg_inputs.specs.RightLexicons.{HasRightLexicon}
+use Rattle.xdg_inputs.specs.Answers.{grammar_in}
 use Rattle.xdg_inputs.specs.declared.expanding.Expanded.{Expanded}
-use Rattle.xdg_build.specs.Grammars.{Grammar, grammar_of}
+use Rattle.xdg_build.specs.Grammars.{Grammar}
 use Rattle.xdg_inputs.specs.Made.{IsMade}
-use Rattle.xdg_packed.specs.Lexicon.{Lexicon, numbers_of, word_of, words_of}
+use Rattle.xdg_packed.specs.Lexicon.{numbers_of, word_of, words_of}
 use Rattle.xdg_problem.specs.declared.analysis.Analysis.{Analysis}
 use Rattle.xdg_problem.specs.declared.formula.Formula.{Formula}
 use Rattle.xdg_problem.specs.declared.parts.Group.{Group}
@@ -54,9 +55,8 @@ words_below g (word ∷ words) = All-cons (All (λ (no : EntryNo). no.0 < length
 compiled_for : (g : Grammar) (words : List SentenceWord) → AreEntries g.table g.lexicon.entries → IsFor g.table g.lexicon (compiled g words)
 compiled_for g words entries = record { dims = plans_are g g.table.used; entries = entries; candidates = words_below g words }
 
-pub made_for : (made : Expanded) (lexicon : Lexicon) (parts : Parts) → IsRightLexicon made.checked.types made.entries → IsPackedOf made lexicon → IsMade (grammar_of made.checked lexicon) parts → IsFor made.checked.types lexicon parts
-made_for made lexicon parts right packed of =
-    subst (IsFor made.checked.types lexicon) (sym of.is) (compiled_for (grammar_of made.checked lexicon) of.words (subst (AreEntries made.checked.types) (sym packed.entries) right.entries))
+pub made_for : (made : Expanded) (parts : Parts) → HasRightLexicon made → IsMade (grammar_in made) parts → IsFor made.checked.types made.lexicon parts
+made_for made parts right of = subst (IsFor made.checked.types made.lexicon) (sym of.is) (compiled_for (grammar_in made) of.words right.right.entries)
 
 -- ---- formulas and rules
 

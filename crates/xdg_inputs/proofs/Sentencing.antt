@@ -7,15 +7,13 @@ use Rattle.xdg_base.specs.declared.faults.Fault.{Fault}
 use Rattle.xdg_base.specs.declared.faults.Stop.{Stop}
 use Rattle.xdg_base.specs.declared.faults.Stop.TheVariants as stops
 use Rattle.xdg_build.specs.Refusals.{refusal, fault}
-use Rattle.xdg_packed.specs.Entries.{IsWordPlace}
-use Rattle.xdg_inputs.specs.Answers.{meaning_of}
-use Rattle.xdg_inputs.specs.Packed.{IsPackedOf}
+use Rattle.xdg_inputs.specs.Answers.{grammar_in, meaning_of}
+use Rattle.xdg_inputs.specs.RightLexicons.{HasRightLexicon}
 use Rattle.xdg_inputs.specs.declared.expanding.Expanded.{Expanded}
-use Rattle.xdg_build.specs.Grammars.{Grammar, grammar_of}
+use Rattle.xdg_build.specs.Grammars.{Grammar}
 use Rattle.xdg_inputs.specs.Meanings.{Meaning}
 use Rattle.xdg_io.specs.Left.{TakesAll}
 use Rattle.xdg_io.specs.Rose.{Rose}
-use Rattle.xdg_packed.specs.Lexicon.{Lexicon}
 use Rattle.xdg_problem.specs.declared.parts.Parts.{Parts}
 use Rattle.xdg_linear.specs.Segments.{words_in}
 use Rattle.xdg_inputs.specs.Grammars.{with_words}
@@ -81,18 +79,12 @@ module _ (m : Meaning) (segment : Bool) (input : List ℕ) (within : length inpu
 
 -- ---- an input that is too long, or no text
 
-module _ (made : Expanded) (lexicon : Lexicon) (packed : IsPackedOf made lexicon) (segment : Bool) (input : List ℕ) where
-  own : with_words (meaning_of made) lexicon.dim lexicon.field ≡ grammar_of made.checked lexicon
-  own = grammar_is made lexicon lexicon.dim lexicon.field packed packed.place
-
-  other : (dim field : ℕ) → IsWordPlace made.checked.types dim field → with_words (meaning_of made) dim field ≡ grammar_of made.checked lexicon
-  other dim field place = grammar_is made lexicon dim field packed place
-
-  sentence_rejected : (f : Fault) → IsNoSentence (grammar_of made.checked lexicon) segment input f → Rejects Parts (IsBadSentence (meaning_of made) segment input) (HasProblem (meaning_of made) segment input) input f
+module _ (made : Expanded) (right : HasRightLexicon made) (segment : Bool) (input : List ℕ) where
+  sentence_rejected : (f : Fault) → IsNoSentence (grammar_in made) segment input f → Rejects Parts (IsBadSentence (meaning_of made) segment input) (HasProblem (meaning_of made) segment input) input f
   sentence_rejected f bad = record {
-    is = record { dim = lexicon.dim; field = lexicon.field; place = packed.place; text_is = refl; because = subst (λ z. IsNoSentence z segment input f) (sym own) bad };
-    one = λ t h q. (q.text_is, one_fault (grammar_of made.checked lexicon) segment input h f (subst (λ z. IsNoSentence z segment input h) (other q.dim q.field q.place) q.because) bad);
-    never = λ b h. sentence_or_not (grammar_of made.checked lexicon) segment input f (subst (λ z. IsSentence z segment input) (other h.dim h.field h.place) h.sentence) bad;
+    is = record { dim = made.lexicon.dim; field = made.lexicon.field; place = right.placed.place; text_is = refl; because = bad };
+    one = λ t h q. (q.text_is, one_fault (grammar_in made) segment input h f (subst (λ z. IsNoSentence z segment input h) (grammar_is made q.dim q.field right q.place) q.because) bad);
+    never = λ b h. sentence_or_not (grammar_in made) segment input f (subst (λ z. IsSentence z segment input) (grammar_is made h.dim h.field right h.place) h.sentence) bad;
   }
 
   pub no_text_rejected : (at : ℕ) → length input ≤ sentence_limit → (IsUtf8 input → ⊥) → IsValidUpTo input at

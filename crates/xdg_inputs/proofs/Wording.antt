@@ -8,11 +8,10 @@ use Rattle.xdg_build.specs.Compiled.{compiled}
 use Rattle.xdg_build.specs.Refusals.{refusal, IsRefused}
 use Rattle.xdg_build.specs.Solutions.{KeepsSolutions}
 use Rattle.xdg_packed.specs.Entries.{IsWordPlace}
-use Rattle.xdg_inputs.specs.Answers.{meaning_of}
-use Rattle.xdg_inputs.specs.Packed.{IsPackedOf}
+use Rattle.xdg_inputs.specs.Answers.{grammar_in, meaning_of}
+use Rattle.xdg_inputs.specs.RightLexicons.{HasRightLexicon}
 use Rattle.xdg_inputs.specs.declared.expanding.Expanded.{Expanded}
-use Rattle.xdg_build.specs.Grammars.{Grammar, grammar_of}
-use Rattle.xdg_packed.specs.Lexicon.{Lexicon}
+use Rattle.xdg_build.specs.Grammars.{Grammar}
 use Rattle.xdg_problem.specs.declared.parts.Parts.{Parts}
 use Rattle.xdg_problem.specs.declared.parts.SentenceWord.{SentenceWord}
 use Rattle.xdg_linear.specs.Segments.{words_in}
@@ -22,74 +21,66 @@ use Rattle.xdg_inputs.specs.Sentences.{IsBadWords, HasWords, AcceptsWords, Rejec
 
 -- ---- one grammar
 
-lexicon_is : (made : Expanded) (lexicon : Lexicon) (dim field : ℕ) → IsPackedOf made lexicon → IsWordPlace made.checked.types dim field → record { entries = made.entries; dim = dim; field = field } ≡ lexicon
-lexicon_is made lexicon dim field packed place =
-    let same = packed.one dim field place in
-    ap (λ z. record { entries = z; dim = dim; field = field }) (sym packed.entries)
-    ∙ ap (λ z. record { entries = lexicon.entries; dim = z; field = field }) same.0
-    ∙ ap (λ z. record { entries = lexicon.entries; dim = lexicon.dim; field = z }) same.1
-
--- wherever the words are said to stand, the grammar is the one that is packed
-pub grammar_is : (made : Expanded) (lexicon : Lexicon) (dim field : ℕ) → IsPackedOf made lexicon → IsWordPlace made.checked.types dim field → with_words (meaning_of made) dim field ≡ grammar_of made.checked lexicon
-grammar_is made lexicon dim field packed place = ap (λ z. record { table = made.checked.types; uses = made.checked.principles; lexicon = z }) (lexicon_is made lexicon dim field packed place)
+-- wherever the words are said to stand, the grammar is the one that is expanded
+pub grammar_is : (made : Expanded) (dim field : ℕ) → HasRightLexicon made → IsWordPlace made.checked.types dim field → with_words (meaning_of made) dim field ≡ grammar_in made
+grammar_is made dim field right place =
+    let same = right.placed.one dim field place in
+    ap (λ z. with_words (meaning_of made) z field) same.0 ∙ ap (λ z. with_words (meaning_of made) made.lexicon.dim z) same.1
 
 -- ---- words, and their problem
 
-module _ (made : Expanded) (lexicon : Lexicon) (packed : IsPackedOf made lexicon) (segment : Bool) (text : List ℕ) where
-  own : with_words (meaning_of made) lexicon.dim lexicon.field ≡ grammar_of made.checked lexicon
-  own = grammar_is made lexicon lexicon.dim lexicon.field packed packed.place
-
+module _ (made : Expanded) (right : HasRightLexicon made) (segment : Bool) (text : List ℕ) where
   -- wherever the words are said to stand, they are refused for this
-  fault_here : (f : Fault) → (q : IsBadWords (meaning_of made) segment text f) → refusal (grammar_of made.checked lexicon) (words_in segment text) ≡ Some f
-  fault_here f q = subst (λ g. refusal g (words_in segment text) ≡ Some f) (grammar_is made lexicon q.dim q.field packed q.place) q.because
+  fault_here : (f : Fault) → (q : IsBadWords (meaning_of made) segment text f) → refusal (grammar_in made) (words_in segment text) ≡ Some f
+  fault_here f q = subst (λ g. refusal g (words_in segment text) ≡ Some f) (grammar_is made q.dim q.field right q.place) q.because
 
-  known_here : (parts : Parts) → (h : HasWords (meaning_of made) segment text parts) → refusal (grammar_of made.checked lexicon) (words_in segment text) ≡ None
-  known_here parts h = subst (λ g. refusal g (words_in segment text) ≡ None) (grammar_is made lexicon h.dim h.field packed h.place) h.known
+  known_here : (parts : Parts) → (h : HasWords (meaning_of made) segment text parts) → refusal (grammar_in made) (words_in segment text) ≡ None
+  known_here parts h = subst (λ g. refusal g (words_in segment text) ≡ None) (grammar_is made h.dim h.field right h.place) h.known
 
-  parts_here : (parts : Parts) → (h : HasWords (meaning_of made) segment text parts) → parts ≡ compiled (grammar_of made.checked lexicon) (words_in segment text)
-  parts_here parts h = h.parts_are ∙ ap (λ g. compiled g (words_in segment text)) (grammar_is made lexicon h.dim h.field packed h.place)
+  parts_here : (parts : Parts) → (h : HasWords (meaning_of made) segment text parts) → parts ≡ compiled (grammar_in made) (words_in segment text)
+  parts_here parts h = h.parts_are ∙ ap (λ g. compiled g (words_in segment text)) (grammar_is made h.dim h.field right h.place)
 
-  words_accepted : (words : List SentenceWord) (parts : Parts) → words ≡ words_in segment text → parts ≡ compiled (grammar_of made.checked lexicon) words → refusal (grammar_of made.checked lexicon) words ≡ None
-      → KeepsSolutions (grammar_of made.checked lexicon) words parts → AcceptsWords (meaning_of made) segment text parts
+  words_accepted : (words : List SentenceWord) (parts : Parts) → words ≡ words_in segment text → parts ≡ compiled (grammar_in made) words → refusal (grammar_in made) words ≡ None
+      → KeepsSolutions (grammar_in made) words parts → AcceptsWords (meaning_of made) segment text parts
   words_accepted words parts are compiled_is known keeps =
-      let g = grammar_of made.checked lexicon in
+      let g = grammar_in made in
       let none : refusal g (words_in segment text) ≡ None = subst (λ w. refusal g w ≡ None) are known in
       let whole : parts ≡ compiled g (words_in segment text) = compiled_is ∙ ap (compiled g) are in
       record {
         has = record {
-          dim = lexicon.dim;
-          field = lexicon.field;
-          place = packed.place;
-          known = subst (λ z. refusal z (words_in segment text) ≡ None) (sym own) none;
-          parts_are = whole ∙ ap (λ z. compiled z (words_in segment text)) (sym own);
-          keeps = subst (λ z. KeepsSolutions z (words_in segment text) parts) (sym own) (subst (λ w. KeepsSolutions g w parts) are keeps);
+          dim = made.lexicon.dim;
+          field = made.lexicon.field;
+          place = right.placed.place;
+          known = none;
+          parts_are = whole;
+          keeps = subst (λ w. KeepsSolutions g w parts) are keeps;
         };
         one = λ b h. parts_here b h ∙ sym whole;
         never = λ f q. let e : None ≡ Some f = sym none ∙ fault_here f q in cc;
       }
 
-  words_rejected : (words : List SentenceWord) (f : Fault) → words ≡ words_in segment text → refusal (grammar_of made.checked lexicon) words ≡ Some f → RejectsWords (meaning_of made) segment text f
+  words_rejected : (words : List SentenceWord) (f : Fault) → words ≡ words_in segment text → refusal (grammar_in made) words ≡ Some f → RejectsWords (meaning_of made) segment text f
   words_rejected words f are is =
-      let g = grammar_of made.checked lexicon in
+      let g = grammar_in made in
       let some : refusal g (words_in segment text) ≡ Some f = subst (λ w. refusal g w ≡ Some f) are is in
       record {
-        is = record { dim = lexicon.dim; field = lexicon.field; place = packed.place; because = subst (λ z. refusal z (words_in segment text) ≡ Some f) (sym own) some };
+        is = record { dim = made.lexicon.dim; field = made.lexicon.field; place = right.placed.place; because = some };
         one = λ h q. let e : Some h ≡ Some f = sym (fault_here h q) ∙ some in cc;
         never = λ b h. let e : None ≡ Some f = sym (known_here b h) ∙ some in cc;
       }
 
-  words_stop : (words : List SentenceWord) (stop : Stop) → words ≡ words_in segment text → IsRefused (grammar_of made.checked lexicon) words stop → StopsWords (meaning_of made) segment text stop
+  words_stop : (words : List SentenceWord) (stop : Stop) → words ≡ words_in segment text → IsRefused (grammar_in made) words stop → StopsWords (meaning_of made) segment text stop
   words_stop words (stops.Fault f) are is = words_rejected words f are is
   words_stop words stops.OutOfMemory are is = tt
 
   -- what is built of the words is accepted
-  pub built_accepted : (words : List SentenceWord) (result : Result Parts Stop) → words ≡ words_in segment text → IfOk result (λ parts. parts ≡ compiled (grammar_of made.checked lexicon) words)
-      → IfOk result (λ parts. refusal (grammar_of made.checked lexicon) words ≡ None) → IfOk result (KeepsSolutions (grammar_of made.checked lexicon) words) → IfOk result (AcceptsWords (meaning_of made) segment text)
+  pub built_accepted : (words : List SentenceWord) (result : Result Parts Stop) → words ≡ words_in segment text → IfOk result (λ parts. parts ≡ compiled (grammar_in made) words)
+      → IfOk result (λ parts. refusal (grammar_in made) words ≡ None) → IfOk result (KeepsSolutions (grammar_in made) words) → IfOk result (AcceptsWords (meaning_of made) segment text)
   built_accepted words (Ok parts) are compiled_is known keeps = words_accepted words parts are compiled_is known keeps
   built_accepted words (Err stop) are compiled_is known keeps = tt
 
   -- and what isn't built is rejected
-  pub built_stops : (words : List SentenceWord) (result : Result Parts Stop) → words ≡ words_in segment text → IfErr result (IsRefused (grammar_of made.checked lexicon) words) → IfErr result (StopsWords (meaning_of made) segment text)
+  pub built_stops : (words : List SentenceWord) (result : Result Parts Stop) → words ≡ words_in segment text → IfErr result (IsRefused (grammar_in made) words) → IfErr result (StopsWords (meaning_of made) segment text)
   built_stops words (Ok parts) are stopped = tt
   built_stops words (Err stop) are stopped = words_stop words stop are stopped
 

@@ -1,7 +1,7 @@
 pub mod GrammarTexts
 pub mod Meanings
 pub mod Answers
-pub mod Packed
+pub mod RightLexicons
 pub mod Codes
 pub mod Places
 pub mod Runs

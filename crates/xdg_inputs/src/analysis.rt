@@ -1,10 +1,8 @@
 //! Analysis files.
 
 ghost use Rattle.std.specs.Prelude.{◌≡◌, ◌≢◌, ◌≤◌, ℕ, List, Option, Some, length, IfErr, IfOk, MatchResult};
-ghost use Rattle.xdg_packed.specs.Entries.{IsRightLexicon};
-ghost use Rattle.xdg_inputs.specs.Answers.{meaning_of};
-ghost use Rattle.xdg_inputs.specs.Packed.{IsPackedOf};
-ghost use Rattle.xdg_build.specs.Grammars.{grammar_of};
+ghost use Rattle.xdg_inputs.specs.Answers.{grammar_in, meaning_of};
+ghost use Rattle.xdg_inputs.specs.RightLexicons.{HasRightLexicon};
 ghost use Rattle.xdg_inputs.specs.Analyses.{Analysed, HasAnalysis, HasBadAnalysis};
 ghost use Rattle.xdg_inputs.specs.Judging.{IsJudged, IsNotJudged, analysed_of, of_words};
 ghost use Rattle.xdg_inputs.specs.Made.{IsMade};
@@ -19,7 +17,6 @@ use std::alloc::Global;
 use xdg_base::{Cause, Fault, Stop};
 use xdg_build::build;
 use xdg_io::{LoadStop, Shelf};
-use xdg_packed::Packed;
 use xdg_problem::{Analysis, Problem, copy_words};
 use xdg_reading::{AnalysisText, fit, read};
 
@@ -38,11 +35,7 @@ fn unknown_word(stop: Stop) -> Stop
     ensures { result ≡ of_words stop }
 {
     match stop {
-        Stop::Fault(fault) => Stop::Fault(Fault {
-            cause: Cause::NotAnalysis,
-            at: fault.at,
-            reached: 0,
-        }),
+        Stop::Fault(fault) => Stop::Fault(Fault::at(Cause::NotAnalysis, fault.at)),
         Stop::OutOfMemory => Stop::OutOfMemory,
     }
 }
@@ -51,17 +44,15 @@ fn unknown_word(stop: Stop) -> Stop
 fn make_judgeable(
     alloc: Global,
     expanded: &Expanded,
-    packed: &Packed,
     text: &AnalysisText,
 ) -> Result<Judgeable, Stop>
-    requires lexicon { IsRightLexicon expanded.now.checked.types expanded.now.entries }
-    requires packed { IsPackedOf expanded.now packed.now }
+    requires lexicon { HasRightLexicon expanded.now }
     requires entries { length text.now.entries ≡ length text.now.words }
-    ensures judged { IfOk result (IsJudged (grammar_of expanded.now.checked packed.now) text.now) }
-    ensures refused { IfErr result (IsNotJudged (grammar_of expanded.now.checked packed.now) text.now) }
+    ensures judged { IfOk result (IsJudged (grammar_in expanded.now) text.now) }
+    ensures refused { IfErr result (IsNotJudged (grammar_in expanded.now) text.now) }
 {
     let words = copy_words(alloc, text.words.as_slice())?;
-    let problem = match build(alloc, &expanded.checked, packed, words) {
+    let problem = match build(alloc, &expanded.checked, &expanded.lexicon, words) {
         Ok(problem) => problem,
         Err(stop) => return Err(unknown_word(stop)),
     };
@@ -75,18 +66,16 @@ fn make_judgeable(
 pub fn load_analysis<H: Shelf>(
     alloc: Global,
     expanded: &Expanded,
-    packed: &Packed,
     shelf: &mut H,
     name: &str,
 ) -> Result<Judgeable, Refusal>
-    requires lexicon { IsRightLexicon expanded.now.checked.types expanded.now.entries }
-    requires packed { IsPackedOf expanded.now packed.now }
+    requires lexicon { HasRightLexicon expanded.now }
     ensures found { IfOk result
         (λ judgeable. (files : List ℕ → Option (List ℕ)) → H.files shelf.old ≡ Some files
         → Accepts Analysed (HasBadAnalysis files name.now (meaning_of expanded.now)) (HasAnalysis files name.now (meaning_of expanded.now))
         (analysed_of judgeable)) }
     ensures fits { IfOk result (λ judgeable. IsAnalysis judgeable.problem judgeable.analysis) }
-    ensures made { IfOk result (λ judgeable. IsMade (grammar_of expanded.now.checked packed.now) judgeable.problem) }
+    ensures made { IfOk result (λ judgeable. IsMade (grammar_in expanded.now) judgeable.problem) }
     ensures refused { IfErr result
         (λ refusal. (files : List ℕ → Option (List ℕ))
         → Stops (H.files shelf.old ≡ Some files) (H.faults shelf.old name.now) (H.faults shelf.new name.now) Analysed
@@ -107,7 +96,7 @@ pub fn load_analysis<H: Shelf>(
         Ok(text) => text,
         Err(stop) => return Err(stopped_in(&bytes, stop)),
     };
-    match make_judgeable(alloc, expanded, packed, &text) {
+    match make_judgeable(alloc, expanded, &text) {
         Ok(judgeable) => Ok(judgeable),
         Err(stop) => Err(stopped_in(&bytes, stop)),
     }

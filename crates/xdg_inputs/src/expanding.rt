@@ -3,17 +3,17 @@
 ghost use Rattle.std.specs.Prelude.{◌≡◌, Result, IfOk, length};
 ghost use Rattle.xdg_base.specs.declared.faults.Fault as faults;
 ghost use Rattle.xdg_classes.specs.Definitions.{classes};
-ghost use Rattle.xdg_packed.specs.Entries.{IsRightLexicon};
 ghost use Rattle.xdg_inputs.specs.Answers.{Gives, IsAnswer, Tells};
 ghost use Rattle.xdg_inputs.specs.Meanings.{Meaning};
+ghost use Rattle.xdg_inputs.specs.RightLexicons.{HasRightLexicon};
 
 use std::alloc::Global;
 use std::mem::drop;
 use xdg_ast::Grammar;
-use xdg_base::{List, Stop};
+use xdg_base::Stop;
 use xdg_check::{Checked, check};
-use xdg_domain::Entry;
-use xdg_lexicon::expand;
+use xdg_lexicon::lexicon;
+use xdg_packed::Packed;
 use xdg_typing::types;
 
 /// A checked grammar with its expanded lexicon.
@@ -21,8 +21,8 @@ use xdg_typing::types;
 pub struct Expanded {
     /// The grammar.
     pub checked: Checked,
-    /// Its entries, each with a record for each used dimension.
-    pub entries: List<Entry>,
+    /// Its entries, each with a record for each used dimension, packed.
+    pub lexicon: Packed,
 }
 
 /// What the tree of a grammar text means. The tree is dropped before its classes are expanded.
@@ -34,7 +34,7 @@ pub struct Expanded {
 pub fn expand_tree(alloc: Global, tree: Grammar) -> Result<Expanded, Stop>
     ensures tells { Tells tree result }
     ensures only { (answer : Result Meaning faults.Fault) → IsAnswer tree answer → Gives answer result }
-    ensures right { IfOk result (λ made. IsRightLexicon made.checked.types made.entries) }
+    ensures right { IfOk result HasRightLexicon }
     ensures classes { IfOk result (λ made. length made.checked.classes ≡ length (classes tree.statements)) }
 {
     let table = match types(alloc, &tree) {
@@ -46,8 +46,8 @@ pub fn expand_tree(alloc: Global, tree: Grammar) -> Result<Expanded, Stop>
         Err(stop) => return Err(stop),
     };
     drop(tree);
-    match expand(alloc, &checked) {
-        Ok(entries) => Ok(Expanded { checked, entries }),
+    match lexicon(alloc, &checked) {
+        Ok(lexicon) => Ok(Expanded { checked, lexicon }),
         Err(stop) => Err(stop),
     }
 }

@@ -48,11 +48,7 @@ pub fn no_text(input: &[u8], at: usize) -> Refusal
     requires small { length input.now < 2 ^ 32 }
     ensures { let refused = fault Cause.BadUtf8 at 0 in result ≡ Refusal.Text refused (place_in input.now refused) }
 {
-    let fault = Fault {
-        cause: Cause::BadUtf8,
-        at: at as u32,
-        reached: 0,
-    };
+    let fault = Fault::at(Cause::BadUtf8, at as u32);
     refused_in(input, fault)
 }
 

@@ -1,10 +1,8 @@
 //! The sentence that the input gives.
 
 ghost use Rattle.std.specs.Prelude.{◌≡◌, ◌≢◌, ◌≤◌, ℕ, List, [], Some, length, IfErr, IfOk, MatchResult};
-ghost use Rattle.xdg_packed.specs.Entries.{IsRightLexicon};
-ghost use Rattle.xdg_inputs.specs.Answers.{meaning_of};
-ghost use Rattle.xdg_inputs.specs.Packed.{IsPackedOf};
-ghost use Rattle.xdg_build.specs.Grammars.{grammar_of};
+ghost use Rattle.xdg_inputs.specs.Answers.{grammar_in, meaning_of};
+ghost use Rattle.xdg_inputs.specs.RightLexicons.{HasRightLexicon};
 ghost use Rattle.xdg_inputs.specs.Made.{IsMade};
 ghost use Rattle.xdg_inputs.specs.Sentences.{HasProblem, IsBadSentence};
 ghost use Rattle.xdg_io.specs.Rose.{Rose};
@@ -18,7 +16,6 @@ use crate::words::problem_of;
 use std::alloc::Global;
 use std::str;
 use xdg_io::{ReadStop, Source, read_all};
-use xdg_packed::Packed;
 use xdg_problem::Problem;
 
 /// How many bytes a sentence may have.
@@ -28,25 +25,23 @@ const SENTENCE_LIMIT: u64 = 65_536;
 pub fn problem_in(
     alloc: Global,
     expanded: &Expanded,
-    packed: &Packed,
     segment: bool,
     input: &[u8],
 ) -> Result<Problem, Refusal>
     requires within { length input.now ≤ 65536 }
-    requires lexicon { IsRightLexicon expanded.now.checked.types expanded.now.entries }
-    requires packed { IsPackedOf expanded.now packed.now }
+    requires lexicon { HasRightLexicon expanded.now }
     ensures found { IfOk result
         (Accepts declared.Parts (IsBadSentence (meaning_of expanded.now) segment input.now) (HasProblem (meaning_of expanded.now) segment input.now)) }
     ensures refused { IfErr result
         (Stops (Unit {0}) 0 0 declared.Parts (IsBadSentence (meaning_of expanded.now) segment input.now)
         (HasProblem (meaning_of expanded.now) segment input.now)) }
-    ensures made { IfOk result (IsMade (grammar_of expanded.now.checked packed.now)) }
+    ensures made { IfOk result (IsMade (grammar_in expanded.now)) }
 {
     let text = match str::from_utf8(input) {
         Ok(text) => text,
         Err(error) => return Err(no_text(input, error.valid_up_to())),
     };
-    match problem_of(alloc, expanded, packed, segment, text) {
+    match problem_of(alloc, expanded, segment, text) {
         Ok(problem) => Ok(problem),
         Err(stop) => Err(stopped_in(input, stop)),
     }
@@ -56,12 +51,10 @@ pub fn problem_in(
 pub fn read_problem<S: Source>(
     alloc: Global,
     expanded: &Expanded,
-    packed: &Packed,
     segment: bool,
     source: &mut S,
 ) -> Result<Problem, Refusal>
-    requires lexicon { IsRightLexicon expanded.now.checked.types expanded.now.entries }
-    requires packed { IsPackedOf expanded.now packed.now }
+    requires lexicon { HasRightLexicon expanded.now }
     ensures found { IfOk result
         (λ problem. (input : List ℕ) → S.left source.old ≡ Some input
         → Accepts declared.Parts (IsBadSentence (meaning_of expanded.now) segment input) (HasProblem (meaning_of expanded.now) segment input) problem) }
@@ -69,7 +62,7 @@ pub fn read_problem<S: Source>(
         (λ refusal. (input : List ℕ)
         → Stops (S.left source.old ≡ Some input) (S.faults source.old) (S.faults source.new) declared.Parts
         (IsBadSentence (meaning_of expanded.now) segment input) (HasProblem (meaning_of expanded.now) segment input) refusal) }
-    ensures made { IfOk result (IsMade (grammar_of expanded.now.checked packed.now)) }
+    ensures made { IfOk result (IsMade (grammar_in expanded.now)) }
     ensures failed { IfErr result (λ refusal. refusal ≡ Refusal.Read → Rose (S.faults source.old) (S.faults source.new)) }
     ensures all { IfOk result (λ problem. (input : List ℕ) → S.left source.old ≡ Some input → S.left source.new ≡ Some []) }
     ensures lasting { S.faults source.old ≤ S.faults source.new }
@@ -82,5 +75,5 @@ pub fn read_problem<S: Source>(
         Err(ReadStop::OutOfMemory) => return Err(Refusal::Memory),
         Err(ReadStop::TooLong { reached }) => return Err(too_long(reached)),
     };
-    problem_in(alloc, expanded, packed, segment, &input)
+    problem_in(alloc, expanded, segment, &input)
 }

@@ -4,10 +4,8 @@ ghost use Rattle.std.specs.Prelude.{◌≡◌, ◌<◌, ◌^◌, length, IfErr, 
 ghost use Rattle.xdg_base.specs.declared.faults.Fault.{Fault};
 ghost use Rattle.xdg_base.specs.declared.faults.Stop.TheVariants as stops;
 ghost use Rattle.xdg_build.specs.Stocks.{IsStock};
-ghost use Rattle.xdg_packed.specs.Entries.{IsRightLexicon};
-ghost use Rattle.xdg_inputs.specs.Answers.{meaning_of};
-ghost use Rattle.xdg_inputs.specs.Packed.{IsPackedOf};
-ghost use Rattle.xdg_build.specs.Grammars.{grammar_of};
+ghost use Rattle.xdg_inputs.specs.Answers.{grammar_in, meaning_of};
+ghost use Rattle.xdg_inputs.specs.RightLexicons.{HasRightLexicon};
 ghost use Rattle.xdg_inputs.specs.Made.{IsMade};
 ghost use Rattle.xdg_inputs.specs.Sentences.{AcceptsWords, StopsWords};
 
@@ -16,7 +14,6 @@ use std::alloc::Global;
 use xdg_base::Stop;
 use xdg_build::{Stock, build};
 use xdg_linear::words_of;
-use xdg_packed::Packed;
 use xdg_problem::Problem;
 
 /// The problem of the words of a text, which are cut by the Unicode rules of word boundaries where that is asked for. The fault of a
@@ -24,21 +21,19 @@ use xdg_problem::Problem;
 pub fn problem_of(
     alloc: Global,
     expanded: &Expanded,
-    packed: &Packed,
     segment: bool,
     text: &str,
 ) -> Result<Problem, Stop>
     requires small { length text.now < 2 ^ 32 }
-    requires lexicon { IsRightLexicon expanded.now.checked.types expanded.now.entries }
-    requires packed { IsPackedOf expanded.now packed.now }
+    requires lexicon { HasRightLexicon expanded.now }
     ensures found { IfOk result (AcceptsWords (meaning_of expanded.now) segment text.now) }
     ensures refused { IfErr result (StopsWords (meaning_of expanded.now) segment text.now) }
-    ensures made { IfOk result (IsMade (grammar_of expanded.now.checked packed.now)) }
+    ensures made { IfOk result (IsMade (grammar_in expanded.now)) }
 {
     let Ok(words) = words_of(alloc, text, segment) else {
         return Err(Stop::OutOfMemory);
     };
-    build(alloc, &expanded.checked, packed, words)
+    build(alloc, &expanded.checked, &expanded.lexicon, words)
 }
 
 /// The same, with what the problems of a grammar share: that is taken from a stock of the grammar, which is kept for the next text.
@@ -46,22 +41,20 @@ pub fn problem_of(
 pub fn problem_from(
     alloc: Global,
     expanded: &Expanded,
-    packed: &Packed,
     stock: &mut Stock,
     segment: bool,
     text: &str,
 ) -> Result<Problem, Stop>
     requires small { length text.now < 2 ^ 32 }
-    requires lexicon { IsRightLexicon expanded.now.checked.types expanded.now.entries }
-    requires packed { IsPackedOf expanded.now packed.now }
-    requires stock { IsStock (grammar_of expanded.now.checked packed.now) stock.old }
+    requires lexicon { HasRightLexicon expanded.now }
+    requires stock { IsStock (grammar_in expanded.now) stock.old }
     ensures found { IfOk result (AcceptsWords (meaning_of expanded.now) segment text.now) }
     ensures refused { IfErr result (StopsWords (meaning_of expanded.now) segment text.now) }
-    ensures stock { MatchResult result (λ _. IsStock (grammar_of expanded.now.checked packed.now) stock.new) (λ stop.
-        (fault : Fault) → stop ≡ stops.Fault fault → IsStock (grammar_of expanded.now.checked packed.now) stock.new) }
+    ensures stock { MatchResult result (λ _. IsStock (grammar_in expanded.now) stock.new) (λ stop.
+        (fault : Fault) → stop ≡ stops.Fault fault → IsStock (grammar_in expanded.now) stock.new) }
 {
     let Ok(words) = words_of(alloc, text, segment) else {
         return Err(Stop::OutOfMemory);
     };
-    stock.build(alloc, &expanded.checked, packed, words)
+    stock.build(alloc, &expanded.checked, &expanded.lexicon, words)
 }

@@ -1,6 +1,6 @@
 //! Why a device has no answer.
 
-use std::alloc::AllocError;
+use xdg_base::OutOfMemory;
 
 /// A device could not do what it was asked for. Its count of failures tells that.
 #[derive(Clone, Copy, Debug, PartialEq, Eq)]
@@ -34,24 +34,24 @@ pub enum ReadStop {
     OutOfMemory,
 }
 
-impl From<AllocError> for LoadStop {
+impl From<OutOfMemory> for LoadStop {
     ghost use Rattle.std.specs.Prelude.{◌≡◌};
     ghost use Rattle.xdg_io.specs.declared.failures.LoadStop.TheVariants as stops;
 
     ghost from_gives = { λ _ stop. stop ≡ stops.OutOfMemory };
 
-    fn from(_: AllocError) -> LoadStop {
+    fn from(_: OutOfMemory) -> LoadStop {
         LoadStop::OutOfMemory
     }
 }
 
-impl From<AllocError> for ReadStop {
+impl From<OutOfMemory> for ReadStop {
     ghost use Rattle.std.specs.Prelude.{◌≡◌};
     ghost use Rattle.xdg_io.specs.declared.failures.ReadStop.TheVariants as stops;
 
     ghost from_gives = { λ _ stop. stop ≡ stops.OutOfMemory };
 
-    fn from(_: AllocError) -> ReadStop {
+    fn from(_: OutOfMemory) -> ReadStop {
         ReadStop::OutOfMemory
     }
 }

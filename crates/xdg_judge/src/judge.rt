@@ -19,8 +19,8 @@ use crate::search::first_refused;
 use crate::verdict::{Tuple4, Verdict};
 use crate::view::View;
 use crate::whole::keeps_whole;
-use std::alloc::{AllocError, Global};
-use xdg_base::List;
+use std::alloc::Global;
+use xdg_base::{List, OutOfMemory};
 use xdg_problem::{Analysis, Condition, Group, Parts, Principle, Problem, truth_of};
 
 /// The number of nodes without mother, where it isn't 1.
@@ -246,7 +246,7 @@ pub fn explain(
     alloc: Global,
     problem: &Problem,
     analysis: &Analysis,
-) -> Result<List<Verdict>, AllocError>
+) -> Result<List<Verdict>, OutOfMemory>
     requires fits { IsAnalysis problem.now analysis.now }
     ensures { IfOk result (λ verdicts. AreVerdicts problem.now analysis.now problem.now.groups verdicts) }
 {

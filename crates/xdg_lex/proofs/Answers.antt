@@ -3,12 +3,12 @@ use Rattle.std.proofs.Common.{◌≡◌, ℕ, Ok, Err, List, [], refl, sym, ◌�
 use Rattle.std.specs.Prelude.{Result}
 use Rattle.std.specs.Str.{chars, IsUtf8, IsValidUpTo}
 use Rattle.std.proofs.lemmas.Str.{utf8_valid_len-IsValidUpTo}
+use Rattle.xdg_base.specs.Faults.{fault_at}
 use Rattle.xdg_base.specs.declared.faults.Fault.{Fault}
 use Rattle.xdg_base.specs.declared.faults.Cause.TheVariants as causes
 use Rattle.xdg_base.specs.declared.faults.Stop.{Stop}
 use Rattle.xdg_base.specs.declared.faults.Stop.TheVariants as stops
 use Rattle.xdg_ast.specs.declared.token.Token.{Token}
-use Rattle.xdg_lex.specs.Pieces.{refusal}
 use Rattle.xdg_lex.specs.Lexed.{Lexed, lexed, lexed_characters, Gives}
 use Rattle.xdg_lex.specs.Offends.{IsRefused, no_text, no_tokens, IsAnswer, Tells}
 use Rattle.xdg_lex.proofs.Sound as sound
@@ -33,7 +33,7 @@ text_answered bytes (Err stops.OutOfMemory) u gives = tt
 pub answered : (bytes text : List ℕ) (result : Result (List Token) Stop) → text ≡ bytes → IsUtf8 bytes → Gives (lexed_characters (chars text)) result → Tells bytes result
 answered bytes text result e u gives = text_answered bytes result u (subst (λ t. Gives (lexed_characters (chars t)) result) e gives)
 
-pub no_text_answered : (bytes : List ℕ) (fault : Fault) (at : ℕ) → (IsUtf8 bytes → ⊥) → IsValidUpTo bytes at → refusal causes.BadUtf8 at ≡ fault → Tells bytes (Err (stops.Fault fault))
+pub no_text_answered : (bytes : List ℕ) (fault : Fault) (at : ℕ) → (IsUtf8 bytes → ⊥) → IsValidUpTo bytes at → fault_at causes.BadUtf8 at ≡ fault → Tells bytes (Err (stops.Fault fault))
 no_text_answered bytes fault at none valid e = subst (IsRefused bytes) e (no_text at none valid)
 
 -- a text has one answer

@@ -2,13 +2,14 @@
 use Rattle.std.proofs.Common.{◌≡◌, ℕ, ◌-◌, ◌<◌, ◌≤◌, ◌==◌, true, false, Option, Some, None, Ok, Err, refl, sym, ◌∙◌, ap, subst, arith}
 use Rattle.std.specs.Char.{is_whitespace, is_ascii_digit}
 use Rattle.std.proofs.lemmas.Bool.{cond_both, cond-true, cond-false, eqb-true}
+use Rattle.xdg_base.specs.Faults.{fault_at}
 use Rattle.xdg_base.specs.declared.faults.Cause.TheVariants as causes
 use Rattle.xdg_ast.specs.declared.token.Kind.{Kind}
 use Rattle.xdg_ast.specs.declared.token.Kind.TheVariants as kinds
 use Rattle.xdg_lex.specs.declared.pieces.Mode.TheVariants as in_
 use Rattle.xdg_base.specs.Spelling.{begins_name}
 use Rattle.xdg_ast.specs.Kinds.{sign_of}
-use Rattle.xdg_lex.specs.Pieces.{begins, sign_begins, refusal, inside}
+use Rattle.xdg_lex.specs.Pieces.{begins, sign_begins, inside}
 use Rattle.xdg_lex.specs.Offends.{BeginsNothing}
 
 pub begins_line : (at : ℕ) → begins at 37 ≡ Ok in_.LineComment
@@ -64,7 +65,7 @@ begins_number at c b =
     cond-false (is_whitespace c) _ _ (not_white c low (omega (arith, high))) ∙ cond-false (c == 37) _ _ (no_mark c 37 (omega (arith, low))) ∙ cond-false (c == 47) _ _ (no_mark c 47 (omega (arith, low)))
     ∙ cond-false (c == 34) _ _ (no_mark c 34 (omega (arith, low))) ∙ cond-false (begins_name c) _ _ (digit_no_name c b) ∙ cond-true (is_ascii_digit c) _ _ b
 
-pub begins_nothing : (at c : ℕ) → (c == 47) ≡ false → BeginsNothing c → begins at c ≡ Err (refusal causes.BadChar at)
+pub begins_nothing : (at c : ℕ) → (c == 47) ≡ false → BeginsNothing c → begins at c ≡ Err (fault_at causes.BadChar at)
 unfolding begins
 begins_nothing at c s none =
     cond-false (is_whitespace c) _ _ none.no_white ∙ cond-false (c == 37) _ _ none.no_line ∙ cond-false (c == 47) _ _ s

@@ -5,6 +5,7 @@ use Rattle.std.specs.Char.{is_ascii_digit, encode_utf8}
 use Rattle.std.specs.Str.{encode_utf8_all}
 use Rattle.std.proofs.lemmas.Bool.{cond-true, cond-false, le-leb, lt-leb, false≢true}
 use Rattle.std.proofs.lemmas.Str.{length-encode}
+use Rattle.xdg_base.specs.Faults.{fault_at}
 use Rattle.xdg_base.specs.declared.faults.Fault.{Fault}
 use Rattle.xdg_base.specs.declared.faults.Cause.TheVariants as causes
 use Rattle.xdg_ast.specs.declared.token.Kind.{Kind}
@@ -13,7 +14,7 @@ use Rattle.xdg_lex.specs.declared.pieces.Inside.{Inside}
 use Rattle.xdg_lex.specs.declared.pieces.Mode.{Mode}
 use Rattle.xdg_lex.specs.declared.pieces.Mode.TheVariants as in_
 use Rattle.xdg_base.specs.Spelling.{begins_name, continues_name}
-use Rattle.xdg_lex.specs.Pieces.{goes_on, begins, ends, ends_quoted, escaped_rightly, refusal, too_long, inside}
+use Rattle.xdg_lex.specs.Pieces.{goes_on, begins, ends, ends_quoted, escaped_rightly, too_long, inside}
 use Rattle.xdg_lex.specs.Lexed.{Lexed, run, before, ended, begun, turned}
 use Rattle.xdg_ast.specs.Lexemes.{Lexeme, lexeme}
 use Rattle.xdg_ast.specs.Tokenizes.{size_of, EachPasses, IsGap, white, line, closed, IsInside, IsToken, name, number, quoted, sign, Tokenizes, finished, last_comment, gap, token, value_after, greatest_number, is_no_line_feed}
@@ -70,15 +71,15 @@ closed_ends_long : (start bytes content : ℕ) (wrong : Option ℕ) → 127 < co
 unfolding ends ends_quoted
 closed_ends_long start bytes content wrong long = cond-false (nat_le content 127) _ _ (lt-leb content 127 long)
 
-slash_ends : (start bytes : ℕ) → ends in_.Slash start bytes ≡ Err (refusal causes.BadChar start)
+slash_ends : (start bytes : ℕ) → ends in_.Slash start bytes ≡ Err (fault_at causes.BadChar start)
 unfolding ends
 slash_ends start bytes = refl
 
-quoted_ends : (read : Inside) (start bytes : ℕ) → ends (in_.Quoted read) start bytes ≡ Err (refusal causes.OpenText start)
+quoted_ends : (read : Inside) (start bytes : ℕ) → ends (in_.Quoted read) start bytes ≡ Err (fault_at causes.OpenText start)
 unfolding ends
 quoted_ends read start bytes = refl
 
-escape_ends : (read : Inside) (backslash start bytes : ℕ) → ends (in_.Escape read backslash) start bytes ≡ Err (refusal causes.OpenText start)
+escape_ends : (read : Inside) (backslash start bytes : ℕ) → ends (in_.Escape read backslash) start bytes ≡ Err (fault_at causes.OpenText start)
 unfolding ends
 escape_ends read backslash start bytes = refl
 
@@ -148,7 +149,7 @@ offence_reads at cs fault (no_token c behind s nothing) start text place =
     between_step start text at c behind place ∙ ap (λ b. begun b (λ next. run at (encode_utf8 c) next behind)) (begins_nothing at c s nothing)
 offence_reads at cs fault (no_comment behind stops) start text place =
     start_step start text at 47 behind in_.Slash place (begins_slash at)
-    ∙ fails at (encode_utf8 47) in_.Slash behind (refusal causes.BadChar at) (slash_stops (at + length (encode_utf8 47)) behind stops) (slash_ends at (length (encode_utf8 47)))
+    ∙ fails at (encode_utf8 47) in_.Slash behind (fault_at causes.BadChar at) (slash_stops (at + length (encode_utf8 47)) behind stops) (slash_ends at (length (encode_utf8 47)))
 offence_reads at cs fault (great_number c body digit behind b each d small great) start text place =
     let last : List ℕ = encode_utf8_all (c ∷ body) in
     let value : ℕ = value_after (c - 48) body in
@@ -159,11 +160,11 @@ offence_reads at cs fault (great_number c body digit behind b each d small great
 offence_reads at cs fault (open_text inner content wrong is) start text place =
     ap (λ l. run start text in_.Between (34 ∷ l)) (sym (append-nil inner))
     ∙ inside_read start text at inner content wrong [] place is
-    ∙ fails at (encode_utf8_all (34 ∷ inner)) (in_.Quoted (inside content wrong)) [] (refusal causes.OpenText at) tt (quoted_ends (inside content wrong) at (size_of (34 ∷ inner)))
+    ∙ fails at (encode_utf8_all (34 ∷ inner)) (in_.Quoted (inside content wrong)) [] (fault_at causes.OpenText at) tt (quoted_ends (inside content wrong) at (size_of (34 ∷ inner)))
 offence_reads at cs fault (open_escape inner content wrong is) start text place =
     inside_read start text at inner content wrong (92 ∷ []) place is
     ∙ goes_step at (encode_utf8_all (34 ∷ inner)) _ _ 92 [] (backslash_goes (at + size_of (34 ∷ inner)) content wrong)
-    ∙ fails at (encode_utf8_all (34 ∷ inner) ++ encode_utf8 92) (in_.Escape (inside content wrong) (at + size_of (34 ∷ inner))) [] (refusal causes.OpenText at) tt (escape_ends (inside content wrong) (at + size_of (34 ∷ inner)) at (length (encode_utf8_all (34 ∷ inner) ++ encode_utf8 92)))
+    ∙ fails at (encode_utf8_all (34 ∷ inner) ++ encode_utf8 92) (in_.Escape (inside content wrong) (at + size_of (34 ∷ inner))) [] (fault_at causes.OpenText at) tt (escape_ends (inside content wrong) (at + size_of (34 ∷ inner)) at (length (encode_utf8_all (34 ∷ inner) ++ encode_utf8 92)))
 offence_reads at cs fault (open_comment body none) start text place =
     start_step start text at 47 (42 ∷ body) in_.Slash place (begins_slash at)
     ∙ goes_step at (encode_utf8 47) in_.Slash in_.Comment 42 body (slash_goes (at + length (encode_utf8 47)))
@@ -177,7 +178,7 @@ offence_reads at cs fault (long_text inner content wrong behind is long) start t
     (closed_ends_long at (size_of (34 ∷ inner ++ 34 ∷ [])) content wrong long)
 offence_reads at cs fault (stray_backslash inner content backslash behind is short) start text place =
     closed_read start text at inner content (Some backslash) behind place is
-    ∙ fails at (encode_utf8_all (34 ∷ inner ++ 34 ∷ [])) (in_.Closed (inside content (Some backslash))) behind (refusal causes.BadChar backslash) (closed_stops (inside content (Some backslash)) (at + size_of (34 ∷ inner ++ 34 ∷ [])) behind)
+    ∙ fails at (encode_utf8_all (34 ∷ inner ++ 34 ∷ [])) (in_.Closed (inside content (Some backslash))) behind (fault_at causes.BadChar backslash) (closed_stops (inside content (Some backslash)) (at + size_of (34 ∷ inner ++ 34 ∷ [])) behind)
     (closed_ends at (size_of (34 ∷ inner ++ 34 ∷ [])) content (Some backslash) short)
 
 nothing_reads : (at : ℕ) → Reads at [] (Ok [])

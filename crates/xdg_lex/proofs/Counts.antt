@@ -4,6 +4,7 @@ use Rattle.std.specs.Prelude.{nat_le, unwrap_or}
 use Rattle.std.specs.Char.{is_whitespace, is_ascii_digit, len_utf8}
 use Rattle.std.proofs.lemmas.Bool.{cond_both}
 use Rattle.std.proofs.lemmas.Str.{len_utf8_bounds}
+use Rattle.xdg_base.specs.Faults.{fault_at}
 use Rattle.xdg_base.specs.declared.faults.Fault.{Fault}
 use Rattle.xdg_base.specs.declared.faults.Cause.TheVariants as causes
 use Rattle.xdg_ast.specs.declared.token.Kind.{Kind}
@@ -14,7 +15,7 @@ use Rattle.xdg_lex.specs.declared.pieces.Turn.{Turn}
 use Rattle.xdg_lex.specs.declared.pieces.Turn.TheVariants as turns
 use Rattle.xdg_base.specs.Spelling.{begins_name, continues_name}
 use Rattle.xdg_ast.specs.Kinds.{sign_of}
-use Rattle.xdg_lex.specs.Pieces.{goes_on, digit_goes_on, quoted_goes_on, escape_goes_on, comment_goes_on, begins, sign_begins, counted, counted_after, refusal, inside}
+use Rattle.xdg_lex.specs.Pieces.{goes_on, digit_goes_on, quoted_goes_on, escape_goes_on, comment_goes_on, begins, sign_begins, counted, counted_after, inside}
 
 abbrev Within : ℕ → Turn → Type 0
 Within place turn = counted_after turn ≤ place
@@ -22,8 +23,8 @@ Within place turn = counted_after turn ≤ place
 digit_within : (value at c place : ℕ) → Within place (digit_goes_on value at c)
 unfolding digit_goes_on
 digit_within value at c place =
-    cond_both (is_ascii_digit c) (if nat_le (value * 10 + (c - 48)) 4294967295 then turns.GoesOn (in_.Number (value * 10 + (c - 48))) else turns.Refused (refusal causes.BadChar at)) turns.Ends (Within place)
-    (λ _. cond_both (nat_le (value * 10 + (c - 48)) 4294967295) (turns.GoesOn (in_.Number (value * 10 + (c - 48)))) (turns.Refused (refusal causes.BadChar at)) (Within place) (λ _. omega arith) (λ _. omega arith))
+    cond_both (is_ascii_digit c) (if nat_le (value * 10 + (c - 48)) 4294967295 then turns.GoesOn (in_.Number (value * 10 + (c - 48))) else turns.Refused (fault_at causes.BadChar at)) turns.Ends (Within place)
+    (λ _. cond_both (nat_le (value * 10 + (c - 48)) 4294967295) (turns.GoesOn (in_.Number (value * 10 + (c - 48)))) (turns.Refused (fault_at causes.BadChar at)) (Within place) (λ _. omega arith) (λ _. omega arith))
     (λ _. omega arith)
 
 quoted_within : (read : Inside) (at c : ℕ) → read.content ≤ at → Within (at + len_utf8 c) (quoted_goes_on read at c)

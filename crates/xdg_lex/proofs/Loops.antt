@@ -5,13 +5,14 @@ use Rattle.std.specs.Char.{is_ascii_digit, len_utf8, encode_utf8}
 use Rattle.std.specs.Str.{encode_utf8_all}
 use Rattle.std.proofs.lemmas.Bool.{cond-true, cond-false, le-leb, lt-leb, or_parts}
 use Rattle.std.proofs.lemmas.Str.{encodes-append}
+use Rattle.xdg_base.specs.Faults.{fault_at}
 use Rattle.xdg_base.specs.declared.faults.Fault.{Fault}
 use Rattle.xdg_base.specs.declared.faults.Cause.TheVariants as causes
 use Rattle.xdg_lex.specs.declared.pieces.Mode.{Mode}
 use Rattle.xdg_lex.specs.declared.pieces.Mode.TheVariants as in_
 use Rattle.xdg_lex.specs.declared.pieces.Turn.TheVariants as turns
 use Rattle.xdg_base.specs.Spelling.{continues_name, is_escaped}
-use Rattle.xdg_lex.specs.Pieces.{goes_on, digit_goes_on, quoted_goes_on, escape_goes_on, begins, ends, refusal, inside}
+use Rattle.xdg_lex.specs.Pieces.{goes_on, digit_goes_on, quoted_goes_on, escape_goes_on, begins, ends, inside}
 use Rattle.xdg_lex.specs.Lexed.{Lexed, run, ended, begun, turned}
 use Rattle.xdg_ast.specs.Tokenizes.{size_of, EachPasses, StopsBefore, HasNoClose, IsInside, nothing, plain, escaped, stray, value_after, greatest_number, is_slash, is_no_line_feed}
 use Rattle.xdg_lex.proofs.Steps.{run-nil, run-cons, before_none}
@@ -112,7 +113,7 @@ digit_goes : (value at c : ℕ) → is_ascii_digit c ≡ true → value * 10 + (
 unfolding goes_on digit_goes_on
 digit_goes value at c t small = cond-true (is_ascii_digit c) _ _ t ∙ cond-true (nat_le (value * 10 + (c - 48)) 4294967295) _ _ (le-leb (value * 10 + (c - 48)) 4294967295 small)
 
-pub digit_fails : (value at c : ℕ) → is_ascii_digit c ≡ true → greatest_number < value * 10 + (c - 48) → goes_on (in_.Number value) at c ≡ turns.Refused (refusal causes.BadChar at)
+pub digit_fails : (value at c : ℕ) → is_ascii_digit c ≡ true → greatest_number < value * 10 + (c - 48) → goes_on (in_.Number value) at c ≡ turns.Refused (fault_at causes.BadChar at)
 unfolding goes_on digit_goes_on
 digit_fails value at c t great = cond-true (is_ascii_digit c) _ _ t ∙ cond-false (nat_le (value * 10 + (c - 48)) 4294967295) _ _ (lt-leb (value * 10 + (c - 48)) 4294967295 great)
 
@@ -155,12 +156,12 @@ close_goes star start at text (c ∷ body) behind all apart none place reads =
     ∙ close_goes (c == 42) start at (text ++ encode_utf8 c) body behind all none.0 none.1
     (omega (arith, place, length-append text (encode_utf8 c), length-append (encode_utf8 c) (encode_utf8_all (body ++ 42 ∷ 47 ∷ [])))) reads
 
-comment_open : (star : Bool) (start bytes : ℕ) → ends (commented star) start bytes ≡ Err (refusal causes.OpenText start)
+comment_open : (star : Bool) (start bytes : ℕ) → ends (commented star) start bytes ≡ Err (fault_at causes.OpenText start)
 unfolding ends
 comment_open true start bytes = refl
 comment_open false start bytes = refl
 
-pub open_goes : (star : Bool) (start : ℕ) (text body : List ℕ) → (star ≡ true → StopsBefore is_slash body) → HasNoClose body → run start text (commented star) body ≡ Err (refusal causes.OpenText start)
+pub open_goes : (star : Bool) (start : ℕ) (text body : List ℕ) → (star ≡ true → StopsBefore is_slash body) → HasNoClose body → run start text (commented star) body ≡ Err (fault_at causes.OpenText start)
 open_goes star start text [] apart none = run-nil start text (commented star) ∙ ap (λ o. ended o start text (Ok [])) (comment_open star start (length text))
 open_goes star start text (c ∷ body) apart none =
     goes_step start text (commented star) (commented (c == 42)) c body (comment_goes star (start + length text) c apart)

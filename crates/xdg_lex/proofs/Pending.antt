@@ -5,6 +5,7 @@ use Rattle.std.specs.Char.{is_whitespace, is_ascii_digit, len_utf8, encode_utf8}
 use Rattle.std.specs.Str.{encode_utf8_all}
 use Rattle.std.proofs.lemmas.Bool.{cond_both, eqb-true, leb-true, leb-false, or_from}
 use Rattle.std.proofs.lemmas.Str.{length-encode}
+use Rattle.xdg_base.specs.Faults.{fault_at}
 use Rattle.xdg_base.specs.declared.faults.Fault.{Fault}
 use Rattle.xdg_base.specs.declared.faults.Cause.TheVariants as causes
 use Rattle.xdg_ast.specs.declared.token.Kind.{Kind}
@@ -14,7 +15,7 @@ use Rattle.xdg_lex.specs.declared.pieces.Turn.{Turn}
 use Rattle.xdg_lex.specs.declared.pieces.Turn.TheVariants as turns
 use Rattle.xdg_base.specs.Spelling.{begins_name, continues_name}
 use Rattle.xdg_ast.specs.Kinds.{sign_of}
-use Rattle.xdg_lex.specs.Pieces.{goes_on, digit_goes_on, quoted_goes_on, escape_goes_on, line_goes_on, comment_goes_on, star_goes_on, begins, sign_begins, refusal, inside}
+use Rattle.xdg_lex.specs.Pieces.{goes_on, digit_goes_on, quoted_goes_on, escape_goes_on, line_goes_on, comment_goes_on, star_goes_on, begins, sign_begins, inside}
 use Rattle.xdg_ast.specs.Tokenizes.{size_of, EachPasses, StopsBefore, HasNoClose, IsGap, white, line, closed, IsInside, nothing, plain, escaped, stray, value_after, greatest_number, is_no_line_feed}
 use Rattle.xdg_lex.specs.Offends.{IsOffence, no_token, great_number}
 
@@ -82,11 +83,11 @@ unfolding digit_goes_on
 number_turns start at c behind d body place b each small =
     let value : ℕ = value_after (d - 48) body * 10 + (c - 48) in
     let P : Turn → Type 0 = Turns start (in_.Number (value_after (d - 48) body)) (d ∷ body) c behind in
-    cond_both (is_ascii_digit c) (if nat_le value 4294967295 then turns.GoesOn (in_.Number value) else turns.Refused (refusal causes.BadChar at)) turns.Ends P
-    (λ t. cond_both (nat_le value 4294967295) (turns.GoesOn (in_.Number value)) (turns.Refused (refusal causes.BadChar at)) P
+    cond_both (is_ascii_digit c) (if nat_le value 4294967295 then turns.GoesOn (in_.Number value) else turns.Refused (fault_at causes.BadChar at)) turns.Ends P
+    (λ t. cond_both (nat_le value 4294967295) (turns.GoesOn (in_.Number value)) (turns.Refused (fault_at causes.BadChar at)) P
     (λ s. subst (λ v. Pending start (in_.Number v) ((d ∷ body) ++ c ∷ [])) (value_more (d - 48) body c)
     (in_number d (body ++ c ∷ []) b (each_more is_ascii_digit body c each t) (subst (λ v. v ≤ greatest_number) (sym (value_more (d - 48) body c)) (leb-true value 4294967295 s))))
-    (λ g. subst (λ p. IsOffence start ((d ∷ body) ++ c ∷ behind) (refusal causes.BadChar p)) (sym place) (great_number d body c behind b each t small (leb-false value 4294967295 g))))
+    (λ g. subst (λ p. IsOffence start ((d ∷ body) ++ c ∷ behind) (fault_at causes.BadChar p)) (sym place) (great_number d body c behind b each t small (leb-false value 4294967295 g))))
     (λ f. f)
 
 quote_size : (cs : List ℕ) → size_of (34 ∷ cs) ≡ 1 + size_of cs

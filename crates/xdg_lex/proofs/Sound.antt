@@ -5,6 +5,7 @@ use Rattle.std.specs.Char.{encode_utf8}
 use Rattle.std.specs.Str.{encode_utf8_all}
 use Rattle.std.proofs.lemmas.Bool.{cond_both, leb-true, leb-false}
 use Rattle.std.proofs.lemmas.Str.{encodes-append}
+use Rattle.xdg_base.specs.Faults.{fault_at}
 use Rattle.xdg_base.specs.declared.faults.Fault.{Fault}
 use Rattle.xdg_base.specs.declared.faults.Cause.TheVariants as causes
 use Rattle.xdg_ast.specs.declared.token.Kind.{Kind}
@@ -14,7 +15,7 @@ use Rattle.xdg_lex.specs.declared.pieces.Mode.TheVariants as in_
 use Rattle.xdg_lex.specs.declared.pieces.Turn.{Turn}
 use Rattle.xdg_lex.specs.declared.pieces.Turn.TheVariants as turns
 use Rattle.xdg_ast.specs.Kinds.{refined}
-use Rattle.xdg_lex.specs.Pieces.{goes_on, begins, ends, ends_quoted, escaped_rightly, refusal, too_long, inside}
+use Rattle.xdg_lex.specs.Pieces.{goes_on, begins, ends, ends_quoted, escaped_rightly, too_long, inside}
 use Rattle.xdg_lex.specs.Lexed.{Lexed, run, lexed_characters, before, ended, begun, turned}
 use Rattle.xdg_ast.specs.Lexemes.{lexeme}
 use Rattle.xdg_ast.specs.Tokenizes.{size_of, HasNoClose, IsGap, IsInside, IsToken, name, number, quoted, sign, Tokenizes, finished, last_comment, gap, token}
@@ -48,7 +49,7 @@ Closes start piece behind rest outcome = Tells start (piece ++ behind) (ended ou
 quoted_ends : (start : ℕ) (cs : List ℕ) (content : ℕ) (wrong : Option ℕ) (behind : List ℕ) (rest : Lexed) → content ≤ 127 → IsInside (start + 1) cs content wrong → Tells (start + size_of (34 ∷ cs ++ 34 ∷ [])) behind rest
     → Closes start (34 ∷ cs ++ 34 ∷ []) behind rest (escaped_rightly wrong)
 quoted_ends start cs content None behind rest short is tells = token_tells start kinds.Quoted (34 ∷ cs ++ 34 ∷ []) content behind rest (quoted cs content behind is) short tells
-quoted_ends start cs content (Some backslash) behind rest short is tells = here start ((34 ∷ cs ++ 34 ∷ []) ++ behind) (refusal causes.BadChar backslash) (stray_backslash cs content backslash behind is short)
+quoted_ends start cs content (Some backslash) behind rest short is tells = here start ((34 ∷ cs ++ 34 ∷ []) ++ behind) (fault_at causes.BadChar backslash) (stray_backslash cs content backslash behind is short)
 
 closed_ends : (start : ℕ) (cs : List ℕ) (content : ℕ) (wrong : Option ℕ) (behind : List ℕ) (rest : Lexed) → IsInside (start + 1) cs content wrong → Tells (start + size_of (34 ∷ cs ++ 34 ∷ [])) behind rest
     → Closes start (34 ∷ cs ++ 34 ∷ []) behind rest (ends_quoted start (inside content wrong))

@@ -3,6 +3,7 @@ use Rattle.std.specs.Prelude.{◌≡◌, ℕ, ◌+◌, Option, Some, None, Resul
 use Rattle.std.specs.Char.{encode_utf8}
 use Rattle.std.specs.Str.{chars, is_utf8}
 use Rattle.std.specs.Str.Lossy.{utf8_valid_len}
+use Rattle.xdg_base.specs.Faults.{fault_at}
 use Rattle.xdg_base.specs.declared.faults.Fault.{Fault}
 use Rattle.xdg_base.specs.declared.faults.Cause.TheVariants as causes
 use Rattle.xdg_base.specs.declared.faults.Stop.{Stop}
@@ -14,7 +15,7 @@ use Rattle.xdg_lex.specs.declared.pieces.Mode.TheVariants as in_
 use Rattle.xdg_lex.specs.declared.pieces.Turn.{Turn}
 use Rattle.xdg_lex.specs.declared.pieces.Turn.TheVariants as turns
 use Rattle.xdg_ast.specs.Kinds.{refined}
-use Rattle.xdg_lex.specs.Pieces.{goes_on, begins, ends, refusal}
+use Rattle.xdg_lex.specs.Pieces.{goes_on, begins, ends}
 use Rattle.xdg_ast.specs.Lexemes.{Lexeme, lexemes_of, lexeme}
 
 -- tokens, or a refusal
@@ -60,7 +61,7 @@ lexed_characters cs = run 0 [] in_.Between cs
 
 -- the tokens of a text, or its first refusal: bytes that are no character come before all others
 unfoldable pub lexed : List ℕ → Lexed
-lexed bytes = if is_utf8 bytes then lexed_characters (chars bytes) else Err (refusal causes.BadUtf8 (utf8_valid_len bytes))
+lexed bytes = if is_utf8 bytes then lexed_characters (chars bytes) else Err (fault_at causes.BadUtf8 (utf8_valid_len bytes))
 
 -- a call gives these tokens or this refusal, or memory ran out
 abbrev pub Gives : Lexed → Result (List Token) Stop → Type 0

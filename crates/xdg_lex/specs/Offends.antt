@@ -2,6 +2,7 @@
 use Rattle.std.specs.Prelude.{◌≡◌, Result, Ok, Err, ℕ, ◌+◌, ◌*◌, ◌-◌, ◌<◌, ◌≤◌, ◌==◌, true, false, Option, Some, None, List, [], ◌∷◌, ◌++◌, length}
 use Rattle.std.specs.Char.{is_whitespace, is_ascii_digit}
 use Rattle.std.specs.Str.{chars, IsUtf8, IsValidUpTo}
+use Rattle.xdg_base.specs.Faults.{fault_at}
 use Rattle.xdg_base.specs.declared.faults.Fault.{Fault}
 use Rattle.xdg_base.specs.declared.faults.Cause.TheVariants as causes
 use Rattle.xdg_base.specs.declared.faults.Stop.{Stop}
@@ -12,7 +13,7 @@ use Rattle.xdg_base.specs.Spelling.{begins_name, continues_name}
 use Rattle.xdg_ast.specs.Kinds.{sign_of}
 use Rattle.xdg_lex.specs.Lexed.{Lexed}
 use Rattle.xdg_ast.specs.Lexemes.{lexemes_of}
-use Rattle.xdg_lex.specs.Pieces.{refusal, too_long}
+use Rattle.xdg_lex.specs.Pieces.{too_long}
 use Rattle.xdg_ast.specs.Tokenizes.{size_of, EachPasses, StopsBefore, HasNoClose, IsGap, IsInside, IsToken, Spells, value_after, greatest_number}
 
 -- no white space, comment or token but a comment between `/*` and `*/` begins with this character
@@ -26,23 +27,23 @@ pub record BeginsNothing (c : ℕ) : Type 0 where
 
 -- An offence that stands at the front of characters, which begin at a place.
 pub data IsOffence (at : ℕ) : List ℕ → Fault → Type 0 where
-  no_token : (c : ℕ) (behind : List ℕ) → (c == 47) ≡ false → BeginsNothing c → IsOffence at (c ∷ behind) (refusal causes.BadChar at)
-  no_comment : (behind : List ℕ) → StopsBefore (λ c. c == 42) behind → IsOffence at (47 ∷ behind) (refusal causes.BadChar at)
+  no_token : (c : ℕ) (behind : List ℕ) → (c == 47) ≡ false → BeginsNothing c → IsOffence at (c ∷ behind) (fault_at causes.BadChar at)
+  no_comment : (behind : List ℕ) → StopsBefore (λ c. c == 42) behind → IsOffence at (47 ∷ behind) (fault_at causes.BadChar at)
   great_number : (c : ℕ) (body : List ℕ) (digit : ℕ) (behind : List ℕ) → is_ascii_digit c ≡ true → EachPasses is_ascii_digit body → is_ascii_digit digit ≡ true
       → value_after (c - 48) body ≤ greatest_number → greatest_number < value_after (c - 48) body * 10 + (digit - 48)
-      → IsOffence at ((c ∷ body) ++ digit ∷ behind) (refusal causes.BadChar (at + size_of (c ∷ body)))
+      → IsOffence at ((c ∷ body) ++ digit ∷ behind) (fault_at causes.BadChar (at + size_of (c ∷ body)))
   open_text : (inside : List ℕ) (content : ℕ) (wrong : Option ℕ) → IsInside (at + 1) inside content wrong
-      → IsOffence at (34 ∷ inside) (refusal causes.OpenText at)
+      → IsOffence at (34 ∷ inside) (fault_at causes.OpenText at)
   open_escape : (inside : List ℕ) (content : ℕ) (wrong : Option ℕ) → IsInside (at + 1) inside content wrong
-      → IsOffence at (34 ∷ inside ++ 92 ∷ []) (refusal causes.OpenText at)
-  open_comment : (body : List ℕ) → HasNoClose body → IsOffence at (47 ∷ 42 ∷ body) (refusal causes.OpenText at)
+      → IsOffence at (34 ∷ inside ++ 92 ∷ []) (fault_at causes.OpenText at)
+  open_comment : (body : List ℕ) → HasNoClose body → IsOffence at (47 ∷ 42 ∷ body) (fault_at causes.OpenText at)
   long_name : (c : ℕ) (body behind : List ℕ) → begins_name c ≡ true → EachPasses continues_name body → StopsBefore continues_name behind
       → 127 < size_of (c ∷ body)
       → IsOffence at ((c ∷ body) ++ behind) (too_long at (size_of (c ∷ body)))
   long_text : (inside : List ℕ) (content : ℕ) (wrong : Option ℕ) (behind : List ℕ) → IsInside (at + 1) inside content wrong → 127 < content
       → IsOffence at ((34 ∷ inside ++ 34 ∷ []) ++ behind) (too_long at content)
   stray_backslash : (inside : List ℕ) (content backslash : ℕ) (behind : List ℕ) → IsInside (at + 1) inside content (Some backslash) → content ≤ 127
-      → IsOffence at ((34 ∷ inside ++ 34 ∷ []) ++ behind) (refusal causes.BadChar backslash)
+      → IsOffence at ((34 ∷ inside ++ 34 ∷ []) ++ behind) (fault_at causes.BadChar backslash)
 
 -- White space, comments and short tokens stand before the first offence.
 pub data Offends : ℕ → List ℕ → Fault → Type 0 where
@@ -53,7 +54,7 @@ pub data Offends : ℕ → List ℕ → Fault → Type 0 where
 
 -- the bytes are not UTF-8, or else they have an offence
 pub data IsRefused (bytes : List ℕ) : Fault → Type 0 where
-  no_text : (at : ℕ) → (IsUtf8 bytes → ⊥) → IsValidUpTo bytes at → IsRefused bytes (refusal causes.BadUtf8 at)
+  no_text : (at : ℕ) → (IsUtf8 bytes → ⊥) → IsValidUpTo bytes at → IsRefused bytes (fault_at causes.BadUtf8 at)
   no_tokens : (fault : Fault) → IsUtf8 bytes → Offends 0 (chars bytes) fault → IsRefused bytes fault
 
 -- the bytes spell these tokens, or are refused so

@@ -1,6 +1,7 @@
 -- What each character does to the piece of a text that it stands in, as the code takes one character after the other.
 use Rattle.std.specs.Prelude.{ℕ, ◌+◌, ◌-◌, ◌*◌, Option, Some, None, Result, Ok, Err, if◌then◌else◌, ◌==◌, ◌||◌, nat_le, unwrap_or}
 use Rattle.std.specs.Char.{is_whitespace, is_ascii_digit, len_utf8}
+use Rattle.xdg_base.specs.Faults.{fault_at}
 use Rattle.xdg_base.specs.declared.faults.Fault.{Fault}
 use Rattle.xdg_base.specs.declared.faults.Cause.{Cause}
 use Rattle.xdg_base.specs.declared.faults.Cause.TheVariants as causes
@@ -14,10 +15,6 @@ use Rattle.xdg_lex.specs.declared.pieces.Turn.TheVariants as turns
 use Rattle.xdg_base.specs.Spelling.{begins_name, continues_name}
 use Rattle.xdg_ast.specs.Kinds.{sign_of}
 
--- a refusal that no limit is the cause of
-abbrev pub refusal : Cause → ℕ → Fault
-refusal cause at = record { cause = cause; at = at; reached = 0 }
-
 -- a token whose content is too long
 abbrev pub too_long : ℕ → ℕ → Fault
 too_long at content = record { cause = causes.TooLong; at = at; reached = content }
@@ -29,7 +26,7 @@ inside content wrong = record { content = content; wrong = wrong }
 unfoldable pub digit_goes_on : ℕ → ℕ → ℕ → Turn
 digit_goes_on value at c =
     if is_ascii_digit c
-    then (if nat_le (value * 10 + (c - 48)) 4294967295 then turns.GoesOn (in_.Number (value * 10 + (c - 48))) else turns.Refused (refusal causes.BadChar at))
+    then (if nat_le (value * 10 + (c - 48)) 4294967295 then turns.GoesOn (in_.Number (value * 10 + (c - 48))) else turns.Refused (fault_at causes.BadChar at))
     else turns.Ends
 
 -- a quoted text goes on with each character
@@ -72,7 +69,7 @@ goes_on in_.CommentStar at c = turns.GoesOn (star_goes_on c)
 
 abbrev pub sign_begins : ℕ → Option Kind → Result Mode Fault
 sign_begins at (Some sign) = Ok (in_.Sign sign)
-sign_begins at None = Err (refusal causes.BadChar at)
+sign_begins at None = Err (fault_at causes.BadChar at)
 
 -- the piece that begins with the character at a place
 unfoldable pub begins : ℕ → ℕ → Result Mode Fault
@@ -87,7 +84,7 @@ begins at c =
 
 abbrev pub escaped_rightly : Option ℕ → Result (Option Kind) Fault
 escaped_rightly None = Ok (Some kinds.Quoted)
-escaped_rightly (Some backslash) = Err (refusal causes.BadChar backslash)
+escaped_rightly (Some backslash) = Err (fault_at causes.BadChar backslash)
 
 -- what a closed quoted text is that begins at a place
 unfoldable pub ends_quoted : ℕ → Inside → Result (Option Kind) Fault
@@ -98,14 +95,14 @@ unfoldable pub ends : Mode → ℕ → ℕ → Result (Option Kind) Fault
 ends in_.Between start bytes = Ok None
 ends in_.Name start bytes = if nat_le bytes 127 then Ok (Some kinds.Name) else Err (too_long start bytes)
 ends (in_.Number value) start bytes = Ok (Some kinds.Number)
-ends (in_.Quoted read) start bytes = Err (refusal causes.OpenText start)
-ends (in_.Escape read backslash) start bytes = Err (refusal causes.OpenText start)
+ends (in_.Quoted read) start bytes = Err (fault_at causes.OpenText start)
+ends (in_.Escape read backslash) start bytes = Err (fault_at causes.OpenText start)
 ends (in_.Closed read) start bytes = ends_quoted start read
 ends (in_.Sign sign) start bytes = Ok (Some sign)
 ends in_.LineComment start bytes = Ok None
-ends in_.Slash start bytes = Err (refusal causes.BadChar start)
-ends in_.Comment start bytes = Err (refusal causes.OpenText start)
-ends in_.CommentStar start bytes = Err (refusal causes.OpenText start)
+ends in_.Slash start bytes = Err (fault_at causes.BadChar start)
+ends in_.Comment start bytes = Err (fault_at causes.OpenText start)
+ends in_.CommentStar start bytes = Err (fault_at causes.OpenText start)
 
 -- the content of a quoted text, as far as it was read
 abbrev pub counted : Mode → ℕ

@@ -4,12 +4,12 @@ ghost use Rattle.std.specs.Prelude.{◌≡◌, IfOk};
 ghost use Rattle.std.specs.String.{string_bytes};
 ghost use Rattle.xdg_ast.specs.Contents.{unquoted, content_of, value_of};
 
-use std::alloc::{AllocError, Global};
+use std::alloc::Global;
 use xdg_ast::{Kind, Token};
-use xdg_base::Text;
+use xdg_base::{OutOfMemory, Text};
 
 /// A quoted text without its marks, its escapes undone.
-fn unquoted(alloc: Global, text: &str) -> Result<String, AllocError>
+fn unquoted(alloc: Global, text: &str) -> Result<String, OutOfMemory>
     ensures { IfOk result (λ made. string_bytes made ≡ unquoted text.now) }
 {
     let mut made = String::new(alloc);
@@ -29,7 +29,7 @@ fn unquoted(alloc: Global, text: &str) -> Result<String, AllocError>
 
 /// What a token stands for: the inside of a quoted text, where `\"` and `\\` are `"` and `\`, and any other token as it
 /// is spelled. So a name and the quoted text of the same characters have the same content.
-pub fn content(alloc: Global, token: &Token) -> Result<Text, AllocError>
+pub fn content(alloc: Global, token: &Token) -> Result<Text, OutOfMemory>
     ensures { IfOk result (λ text. text ≡ content_of token.now.kind token.now.text.now) }
 {
     match token.kind {

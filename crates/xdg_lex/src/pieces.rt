@@ -4,7 +4,7 @@ ghost use Rattle.std.specs.Prelude.{◌≡◌, ◌≤◌, ◌+◌, ◌-◌, unwr
 ghost use Rattle.std.specs.Char.{len_utf8};
 ghost use Rattle.xdg_lex.specs.Pieces.{digit_goes_on, quoted_goes_on, escape_goes_on, line_goes_on, comment_goes_on, star_goes_on};
 ghost use Rattle.xdg_lex.specs.Pieces.{goes_on, begins, ends, ends_quoted};
-ghost use Rattle.xdg_lex.specs.Pieces.{refusal, counted, counted_after};
+ghost use Rattle.xdg_lex.specs.Pieces.{counted, counted_after};
 
 use xdg_ast::{Kind, sign_of};
 use xdg_base::{Cause, Fault, Span, begins_name, continues_name};
@@ -53,17 +53,6 @@ pub(crate) enum Turn {
     Refused(Fault),
 }
 
-/// A refusal that no limit is the cause of.
-pub(crate) fn refusal(cause: Cause, at: u32) -> Fault
-    ensures { result ≡ refusal cause at }
-{
-    Fault {
-        cause,
-        at,
-        reached: 0,
-    }
-}
-
 #[tactic(auto, unfolding(crate::specs::Pieces::digit_goes_on))]
 fn digit_goes_on(value: u32, at: u32, c: char) -> Turn
     ensures { result ≡ digit_goes_on value at c }
@@ -73,7 +62,7 @@ fn digit_goes_on(value: u32, at: u32, c: char) -> Turn
     }
     let value = value as u64 * 10 + (c as u64 - 48);
     if value > 4_294_967_295 {
-        return Turn::Refused(refusal(Cause::BadChar, at));
+        return Turn::Refused(Fault::at(Cause::BadChar, at));
     }
     Turn::GoesOn(Mode::Number(value as u32))
 }
@@ -208,7 +197,7 @@ pub(crate) fn begins(at: u32, c: char) -> Result<Mode, Fault>
     }
     match sign_of(c) {
         Some(sign) => Ok(Mode::Sign(sign)),
-        None => Err(refusal(Cause::BadChar, at)),
+        None => Err(Fault::at(Cause::BadChar, at)),
     }
 }
 
@@ -225,7 +214,7 @@ fn ends_quoted(start: u32, inside: Inside) -> Result<Option<Kind>, Fault>
         });
     }
     match inside.wrong {
-        Some(backslash) => Err(refusal(Cause::BadChar, backslash)),
+        Some(backslash) => Err(Fault::at(Cause::BadChar, backslash)),
         None => Ok(Some(Kind::Quoted)),
     }
 }
@@ -252,9 +241,9 @@ pub(crate) fn ends(mode: Mode, span: Span) -> Result<Option<Kind>, Fault>
         Mode::Number(_) => Ok(Some(Kind::Number)),
         Mode::Sign(sign) => Ok(Some(sign)),
         Mode::Closed(inside) => ends_quoted(span.start, inside),
-        Mode::Slash => Err(refusal(Cause::BadChar, span.start)),
+        Mode::Slash => Err(Fault::at(Cause::BadChar, span.start)),
         Mode::Quoted(_) | Mode::Escape(_, _) | Mode::Comment | Mode::CommentStar => {
-            Err(refusal(Cause::OpenText, span.start))
+            Err(Fault::at(Cause::OpenText, span.start))
         }
     }
 }

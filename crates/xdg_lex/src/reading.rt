@@ -7,11 +7,11 @@ ghost use Rattle.xdg_lex.specs.Spans.{StandFrom};
 ghost use Rattle.xdg_lex.specs.Offends.{Tells, IsAnswer, StandsWithin};
 ghost use Rattle.xdg_lex.specs.Pieces.{ends};
 
-use crate::pieces::{Mode, Turn, begins, ends, goes_on, refusal};
+use crate::pieces::{Mode, Turn, begins, ends, goes_on};
 use std::alloc::Global;
 use std::str;
 use xdg_ast::{Token, refined};
-use xdg_base::{Cause, List, Span, Stop};
+use xdg_base::{Cause, Fault, List, Span, Stop};
 
 /// Adds the token that a piece is, if it is one.
 fn add_piece<'a>(
@@ -73,7 +73,7 @@ fn read_bytes<'a>(alloc: Global, bytes: &'a [u8]) -> Result<List<Token<'a>>, Sto
 {
     match str::from_utf8(bytes) {
         Ok(text) => read(alloc, text),
-        Err(error) => Err(Stop::Fault(refusal(Cause::BadUtf8, error.valid_up_to() as u32))),
+        Err(error) => Err(Stop::Fault(Fault::at(Cause::BadUtf8, error.valid_up_to() as u32))),
     }
 }
 

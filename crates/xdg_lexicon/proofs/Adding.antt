@@ -3,8 +3,8 @@ use Rattle.std.proofs.Common.{◌≡◌, inl, inr, ℕ, ◌+◌, ◌<◌, ◌≤
 use Rattle.std.proofs.lemmas.List.{drop_all}
 use Rattle.xdg_types.specs.Table.{Table}
 use Rattle.xdg_packed.specs.Lexicon.{Entry}
+use Rattle.xdg_packed.specs.Packing.{Puts}
 use Rattle.xdg_lexicon.specs.Partial.{Partial}
-use Rattle.xdg_lexicon.specs.Growing.{Puts}
 use Rattle.xdg_lexicon.specs.Lexicon.{whole, AreWhole, Adds, nothing_more, known_before, new}
 use Rattle.xdg_facts.proofs.Lists.{from_place}
 use Rattle.xdg_facts.specs.Membership.{In}

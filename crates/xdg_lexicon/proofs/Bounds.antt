@@ -1,5 +1,5 @@
 -- The place of words, and the limits of entries.
-use Rattle.std.proofs.Common.{◌≡◌, ℕ, zero, suc, ◌-◌, ◌^◌, ◌<◌, ◌≤◌, List, [], ◌∷◌, length, get_or, map, Option, None, Some, Err, All, false, refl, sym, ap, ◌∙◌, subst, inr, arith, codes}
+use Rattle.std.proofs.Common.{◌≡◌, ℕ, zero, suc, ◌-◌, ◌^◌, ◌<◌, ◌≤◌, List, [], ◌∷◌, length, get_or, map, Option, None, Some, Err, false, refl, sym, ap, ◌∙◌, subst, inr, arith, codes}
 use Rattle.std.specs.Prelude.{slice_get, option_map}
 use Rattle.std.proofs.lemmas.List.{length-map, get_or-map}
 use Rattle.xdg_base.specs.declared.faults.Cause.TheVariants as causes
@@ -12,14 +12,13 @@ use Rattle.xdg_names.specs.Texts.{has_text, place_of}
 use Rattle.xdg_names.proofs.Texts.{place_of-Some, place_of-None}
 use Rattle.xdg_types.specs.declared.table.DimType.{DimType}
 use Rattle.xdg_types.specs.Table.{Table, IsTable, typed, firsts}
-use Rattle.xdg_packed.specs.Lexicon.{Entry, number, numbers_of, places_of, word_of}
+use Rattle.xdg_packed.specs.Lexicon.{Lexicon, number, places_of, word_of}
 use Rattle.xdg_packed.proofs.WordLists.{numbers_none}
 use Rattle.xdg_check.specs.Counts.{capped}
 use Rattle.xdg_packed.specs.Entries.{IsWordPlace, count_of}
-use Rattle.xdg_lexicon.specs.Growing.{IsWordCount, IsFirstCrowded}
-use Rattle.xdg_lexicon.specs.Lexicon.{AreFewEach, reaching}
+use Rattle.xdg_lexicon.specs.Growing.{IsFirstCrowded, count_at}
+use Rattle.xdg_lexicon.specs.Lexicon.{AreFewEach, IsCrowded, reaching}
 use Rattle.xdg_lexicon.specs.Steps.{KeepsLimits}
-use Rattle.xdg_lexicon.proofs.Counting.{found_count}
 use Rattle.xdg_lexicon.proofs.Right.{keeps_at}
 use Rattle.xdg_facts.proofs.In.{differ_once}
 use Rattle.xdg_types.proofs.Places.{places_once}
@@ -57,45 +56,35 @@ words_once table is d f e g x y =
 no_entry : (said : List (List ℕ)) (word : List ℕ) → has_text said word ≡ false → length (places_of said word) ≡ 0
 no_entry said word none = sym (length-map (places_of said word) number) ∙ ap (λ l. length l) (numbers_none said word none)
 
-pub few_counted : (said words : List (List ℕ)) (counts : List ℕ) (most : ℕ) (word : List ℕ) → IsWordCount said words counts → All (λ n. n ≤ most) counts → length (places_of said word) ≤ most
-few_counted said words counts most word count bound = by (place_of words word) refl
+pub few_scanned : (lexicon : Lexicon) → ((n : ℕ) → n < length lexicon.entries → count_at lexicon n ≤ 1024) → (word : List ℕ) → count_of lexicon.dim lexicon.field lexicon.entries word ≤ 1024
+few_scanned lexicon few word = by (place_of said word) refl
   where
-    by : (found : Option ℕ) → place_of words word ≡ found → length (places_of said word) ≤ most
-    by None e = (let none = no_entry said word (sym (count.index.all word) ∙ place_of-None words word e) in omega (arith, none))
-    by (Some place) e =
-        let at = place_of-Some words word place e in
-        let is = found_count said words counts word count place e in
-        let size : length counts ≡ length words = ap length count.counted ∙ length-map words (λ w. length (numbers_of said w)) in
-        let within : place < length counts = omega (arith, at.0, size) in
-        let few = bound place 0 within in
-        omega (arith, is, few)
+    said : List (List ℕ)
+    said = map (word_of lexicon.dim lexicon.field) lexicon.entries
 
-pub few_scanned : (dim field : ℕ) (entries : List Entry) → ((n : ℕ) → n < length entries → count_of dim field entries (word_of dim field (get_or entries n [])) ≤ 1024) → (word : List ℕ) → count_of dim field entries word ≤ 1024
-few_scanned dim field entries few word = by (place_of (map (word_of dim field) entries) word) refl
-  where
-    by : (found : Option ℕ) → place_of (map (word_of dim field) entries) word ≡ found → count_of dim field entries word ≤ 1024
-    by None e = (let none = no_entry (map (word_of dim field) entries) word (place_of-None (map (word_of dim field) entries) word e) in omega (arith, none))
+    by : (found : Option ℕ) → place_of said word ≡ found → count_of lexicon.dim lexicon.field lexicon.entries word ≤ 1024
+    by None e = (let none = no_entry said word (place_of-None said word e) in omega (arith, none))
     by (Some place) e =
-        let at = place_of-Some (map (word_of dim field) entries) word place e in
-        let within : place < length entries = subst (λ n. place < n) (length-map entries (word_of dim field)) at.0 in
-        let is : word_of dim field (get_or entries place []) ≡ word = sym (get_or-map (word_of dim field) entries place [] [] within) ∙ at.1 in
-        subst (λ w. count_of dim field entries w ≤ 1024) is (few place within)
+        let at = place_of-Some said word place e in
+        let within : place < length lexicon.entries = subst (λ n. place < n) (length-map lexicon.entries (word_of lexicon.dim lexicon.field)) at.0 in
+        let is : word_of lexicon.dim lexicon.field (get_or lexicon.entries place []) ≡ word = sym (get_or-map (word_of lexicon.dim lexicon.field) lexicon.entries place [] [] within) ∙ at.1 in
+        subst (λ w. count_of lexicon.dim lexicon.field lexicon.entries w ≤ 1024) is (few place within)
 
 -- ---- the answer
 
-pub few_each : (table : Table) (dim field : ℕ) (entries : List Entry) → IsTable table → IsWordPlace table dim field → ((word : List ℕ) → count_of dim field entries word ≤ 1024) → AreFewEach table entries
-few_each table dim field entries is place few d f other word =
-    let same = words_once table is dim field d f place other in
-    subst (λ e. count_of e f entries word ≤ 1024) same.0 (subst (λ g. count_of dim g entries word ≤ 1024) same.1 (few word))
+pub few_each : (table : Table) (lexicon : Lexicon) → IsTable table → IsWordPlace table lexicon.dim lexicon.field → ((word : List ℕ) → count_of lexicon.dim lexicon.field lexicon.entries word ≤ 1024) → AreFewEach table lexicon.entries
+few_each table lexicon is place few d f other word =
+    let same = words_once table is lexicon.dim lexicon.field d f place other in
+    subst (λ e. count_of e f lexicon.entries word ≤ 1024) same.0 (subst (λ g. count_of lexicon.dim g lexicon.entries word ≤ 1024) same.1 (few word))
 
 abbrev fault : ℕ → ℕ → Fault
 fault at n = record { cause = causes.TooManyEntries; at = at; reached = n }
 
-pub crowded : (table : Table) (dim field : ℕ) (entries : List Entry) (at reached : ℕ) (stop : Stop) → IsWordPlace table dim field → length entries ≤ 65536 → IsFirstCrowded dim field entries reached → reached < 2 ^ 64
-    → stop ≡ stops.Fault (record { cause = causes.TooManyEntries; at = at; reached = reached }) → KeepsLimits table entries at (Err stop)
-crowded table dim field entries at reached stop place few first fits is =
+pub crowded : (table : Table) (lexicon : Lexicon) (at reached : ℕ) (stop : Stop) → IsWordPlace table lexicon.dim lexicon.field → length lexicon.entries ≤ 65536 → IsFirstCrowded lexicon reached → reached < 2 ^ 64
+    → stop ≡ stops.Fault (record { cause = causes.TooManyEntries; at = at; reached = reached }) → KeepsLimits table lexicon.entries at (Err stop)
+crowded table lexicon at reached stop place few first fits is =
     let small : reached ≤ 2 ^ 64 - 1 = omega (arith, fits) in
     let whole : capped reached ≡ reached = omega (arith, small) in
     let same : fault at reached ≡ reaching causes.TooManyEntries at reached = ap (fault at) (sym whole) in
-    subst (λ s. KeepsLimits table entries at (Err s)) (sym is)
-    (inr (few, (reached, (record { dim = dim; field = field; words = place; first = first.first; within = first.within; reached_is = first.reached_is; many = first.many; before = first.before }, same))))
+    let here : IsCrowded table lexicon.entries reached = record { dim = lexicon.dim; field = lexicon.field; words = place; first = first.first; within = first.within; reached_is = first.reached_is; many = first.many; before = first.before } in
+    subst (λ s. KeepsLimits table lexicon.entries at (Err s)) (sym is) (inr (few, (reached, (here, same))))

@@ -22,3 +22,4 @@ pub mod Only
 pub mod Putting
 pub mod Right
 pub mod Stepping
+pub mod Words

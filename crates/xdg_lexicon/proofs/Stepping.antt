@@ -20,7 +20,7 @@ use Rattle.xdg_lexicon.specs.Lexicon.{Adds, SoFar, nothing_yet, IsWithin, IsExpa
 use Rattle.xdg_lexicon.specs.Steps.{one_of, AddsMembers, KeepsLimits, Once, AllOnce, CountsOne, AddsOne, ExpandsOne}
 use Rattle.xdg_lexicon.proofs.Bounds.{words_once}
 use Rattle.xdg_lexicon.proofs.Numbers.{number_once, has_number, alike_uses, alike_combos}
-use Rattle.xdg_lexicon.specs.Answers.{IsAnswer, Gives, Tells}
+use Rattle.xdg_lexicon.specs.Answers.{IsAnswer, Gives, Tells, answer_of}
 use Rattle.xdg_lexicon.proofs.Only.{IsDefinite, not_within, only_expanded, only_refused}
 
 -- ---- the numbers of one `defentry`
@@ -99,19 +99,22 @@ module _ (parts : Parts) (is : IsChecked parts) where
 
 -- ---- the members of one `defentry`
 
+pub members_lent : (t table : Table) (l ms : List Partial) (at : ℕ) (old : List Entry) (answer : Result (List Entry) Stop) → t ≡ table → l ≡ ms → AddsMembers t l at old answer → AddsMembers table ms at old answer
+members_lent t table l ms at old answer types members told = subst (λ u. AddsMembers u ms at old answer) types (subst (λ m. AddsMembers t m at old answer) members told)
+
 module _ (source : Source) (before : SoFar) (one : ℕ × Body) (ms : List Partial) (denotes : Denotes source.table.dims source.classes [] one.1 ms) (only : (others : List Partial) → Denotes source.table.dims source.classes [] one.1 others → others ≡ ms) where
   once : Once source one.1
   once others more d e = only others d ∙ sym (only more e)
 
-  pub members_refused : (old new all : List Entry) (stop : Stop) → AddsMembers source.table ms one.0 old new (Err stop) → AddsOne source before one all (Err stop)
-  members_refused old new all (stops.Fault f) told = (λ c. unsaid ms told.0 c denotes told.1.0 told.1.1.0 told.1.1.1, once)
-  members_refused old new all stops.OutOfMemory told = tt
+  pub members_refused : (old : List Entry) (stop : Stop) → AddsMembers source.table ms one.0 old (Err stop) → AddsOne source before one (Err stop)
+  members_refused old (stops.Fault f) told = (λ c. unsaid ms told.0 c denotes told.1.0 told.1.1.0 told.1.1.1, once)
+  members_refused old stops.OutOfMemory told = tt
 
-  members_added : (old new : List Entry) → before.entries ≡ old → AddsMembers source.table ms one.0 old new (Ok tt) → IsExpanded source before one.1 new
+  members_added : (old new : List Entry) → before.entries ≡ old → AddsMembers source.table ms one.0 old (Ok new) → IsExpanded source before one.1 new
   members_added old new same told =
       record { members = ms; denotes = denotes; made = told.0; whole_each = told.1.0; added = subst (λ l. Adds l told.0 new) (sym same) told.1.1 }
 
-  pub limits_told : (old new : List Entry) (answer : Result (Unit {0}) Stop) → before.entries ≡ old → AddsMembers source.table ms one.0 old new (Ok tt) → KeepsLimits source.table new one.0 answer → AddsOne source before one new answer
+  pub limits_told : (old new : List Entry) (answer : Result (Unit {0}) Stop) → before.entries ≡ old → AddsMembers source.table ms one.0 old (Ok new) → KeepsLimits source.table new one.0 answer → AddsOne source before one (answer_of (λ done. new) answer)
   limits_told old new (Ok done) same told keeps = (members_added old new same told, (keeps.0, (keeps.1, once)))
   limits_told old new (Err (stops.Fault f)) same told (inl many) = (λ c. many_entries new c (members_added old new same told) many.0 many.1, once)
   limits_told old new (Err (stops.Fault f)) same told (inr crowd) = (λ c. many_of_word new crowd.1.0 c (members_added old new same told) crowd.0 crowd.1.1.0 crowd.1.1.1, once)
@@ -120,20 +123,20 @@ module _ (source : Source) (before : SoFar) (one : ℕ × Body) (ms : List Parti
 -- ---- one `defentry`
 
 module _ (source : Source) (before : SoFar) (one : ℕ × Body) where
-  pub counts_refuse : (after : SoFar) (stop : Stop) → CountsOne source before one (Err stop) → ExpandsOne source before one after (Err stop)
-  counts_refuse after (stops.Fault f) told = (told.0, λ c. absurd (told.1 c))
-  counts_refuse after stops.OutOfMemory told = tt
+  pub counts_refuse : (stop : Stop) → CountsOne source before one (Err stop) → ExpandsOne source before one (Err stop)
+  counts_refuse (stops.Fault f) told = (told.0, λ c. absurd (told.1 c))
+  counts_refuse stops.OutOfMemory told = tt
 
-  pub adding_refuses : (after : SoFar) (sums : ℕ × ℕ) (all : List Entry) (stop : Stop) → CountsOne source before one (Ok sums) → AddsOne source before one all (Err stop) → ExpandsOne source before one after (Err stop)
-  adding_refuses after sums all (stops.Fault f) counted told = (told.0 counted.0, λ c. told.1)
-  adding_refuses after sums all stops.OutOfMemory counted told = tt
+  pub adding_refuses : (sums : ℕ × ℕ) (stop : Stop) → CountsOne source before one (Ok sums) → AddsOne source before one (Err stop) → ExpandsOne source before one (Err stop)
+  adding_refuses sums (stops.Fault f) counted told = (told.0 counted.0, λ c. told.1)
+  adding_refuses sums stops.OutOfMemory counted told = tt
 
-  pub one_expanded : (after : SoFar) (sums : ℕ × ℕ) → CountsOne source before one (Ok sums) → AddsOne source before one after.entries (Ok tt) → after.uses ≡ sums.0 → after.combos ≡ sums.1 → ExpandsOne source before one after (Ok tt)
-  one_expanded after sums counted told same alike = (
+  pub one_expanded : (after : SoFar) → CountsOne source before one (Ok (after.uses, after.combos)) → AddsOne source before one (Ok after.entries) → ExpandsOne source before one (Ok after)
+  one_expanded after counted told = (
     record {
       counted = counted.0;
-      uses_are = same ∙ counted.1.0;
-      combos_are = alike ∙ counted.1.1;
+      uses_are = counted.1.0;
+      combos_are = counted.1.1;
       expanded = told.0;
       few = told.1.0;
       few_each = told.1.1.0;
@@ -175,7 +178,7 @@ pub record ExpandedSoFar (parts : Parts) (defs : List EntryDef) (i : ℕ) (so : 
   pub few_each : AreFewEach parts.types so.entries
 
 module _ (parts : Parts) (defs : List EntryDef) (i : ℕ) (def : EntryDef) (within : i < length defs) (is : def ≡ get_or defs i def) (so : SoFar) (so_far : ExpandedSoFar parts defs i so) where
-  pub expanded_more : (after : SoFar) → ExpandsOne (source_of parts) so (one_of def) after (Ok tt) → ExpandedSoFar parts defs (i + 1) after
+  pub expanded_more : (after : SoFar) → ExpandsOne (source_of parts) so (one_of def) (Ok after) → ExpandedSoFar parts defs (i + 1) after
   expanded_more after one = record {
     all = subst (λ l. ExpandsAll (source_of parts) nothing_yet l after) (sym (take_last defs i def within is)) (expands_last (source_of parts) nothing_yet so after (map one_of (take i defs)) (one_of def) so_far.all one.0);
     once = subst (AllOnce (source_of parts)) (sym (take_last defs i def within is)) (once_last (source_of parts) (map one_of (take i defs)) (one_of def) so_far.once one.1);
@@ -183,8 +186,8 @@ module _ (parts : Parts) (defs : List EntryDef) (i : ℕ) (def : EntryDef) (with
     few_each = one.0.few_each;
   }
 
-  pub refused : (f : Fault) (after : SoFar) → parts.entries ≡ defs → ExpandsOne (source_of parts) so (one_of def) after (Err (stops.Fault f)) → Refuses (source_of parts) f
-  refused f after same one = record {
+  pub refused : (f : Fault) → parts.entries ≡ defs → ExpandsOne (source_of parts) so (one_of def) (Err (stops.Fault f)) → Refuses (source_of parts) f
+  refused f same one = record {
     front = map one_of (take i defs);
     one = one_of def;
     rest = map one_of (drop (i + 1) defs);
@@ -194,15 +197,15 @@ module _ (parts : Parts) (defs : List EntryDef) (i : ℕ) (def : EntryDef) (with
     offends = one.0;
   }
 
-  pub refused_tells : (stop : Stop) (after : SoFar) → parts.entries ≡ defs → ExpandsOne (source_of parts) so (one_of def) after (Err stop) → Tells (source_of parts) (Err stop)
-  refused_tells (stops.Fault f) after same one = refused f after same one
-  refused_tells stops.OutOfMemory after same one = tt
+  pub refused_tells : (stop : Stop) → parts.entries ≡ defs → ExpandsOne (source_of parts) so (one_of def) (Err stop) → Tells (source_of parts) (Err stop)
+  refused_tells (stops.Fault f) same one = refused f same one
+  refused_tells stops.OutOfMemory same one = tt
 
-  pub refused_only : IsChecked parts → (stop : Stop) (after : SoFar) → parts.entries ≡ defs → ExpandsOne (source_of parts) so (one_of def) after (Err stop) → (answer : Result (List Entry) Fault) → IsAnswer (source_of parts) answer → Gives answer (Err stop)
+  pub refused_only : IsChecked parts → (stop : Stop) → parts.entries ≡ defs → ExpandsOne (source_of parts) so (one_of def) (Err stop) → (answer : Result (List Entry) Fault) → IsAnswer (source_of parts) answer → Gives answer (Err stop)
   unfolding refused
-  refused_only checked (stops.Fault f) after same one answer told = only_refused (source_of parts) (definite parts checked) f (refused f after same one) so_far.once one.1 answer told
-  refused_only checked stops.OutOfMemory after same one (Ok entries) told = tt
-  refused_only checked stops.OutOfMemory after same one (Err g) told = tt
+  refused_only checked (stops.Fault f) same one answer told = only_refused (source_of parts) (definite parts checked) f (refused f same one) so_far.once one.1 answer told
+  refused_only checked stops.OutOfMemory same one (Ok entries) told = tt
+  refused_only checked stops.OutOfMemory same one (Err g) told = tt
 
 abbrev with_entries : List Entry → SoFar
 with_entries entries = record { uses = 0; combos = 0; entries = entries }

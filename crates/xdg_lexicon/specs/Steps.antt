@@ -1,11 +1,12 @@
 -- What the steps of expansion come to.
-use Rattle.std.specs.Prelude.{◌≡◌, ◌⊎◌, ℕ, ◌+◌, ◌<◌, ◌≤◌, List, [], ◌∷◌, length, None, Result, Ok, Err}
+use Rattle.std.specs.Prelude.{◌≡◌, ◌⊎◌, ℕ, ◌+◌, ◌<◌, ◌≤◌, List, [], ◌∷◌, length, None, Some, Result, Ok, Err}
 use Rattle.xdg_base.specs.declared.faults.Cause.TheVariants as causes
 use Rattle.xdg_base.specs.declared.faults.Fault.{Fault}
 use Rattle.xdg_base.specs.declared.faults.Stop.{Stop}
 use Rattle.xdg_base.specs.declared.faults.Stop.TheVariants as stops
 use Rattle.xdg_types.specs.Table.{Table}
 use Rattle.xdg_packed.specs.Lexicon.{Entry}
+use Rattle.xdg_packed.specs.Packing.{Puts}
 use Rattle.xdg_classes.specs.Bodies.{Body, body}
 use Rattle.xdg_check.specs.declared.checked.EntryDef.{EntryDef}
 use Rattle.xdg_lexicon.specs.Partial.{Partial}
@@ -20,12 +21,18 @@ one_of def = (def.at, body def.body.kind)
 
 -- ---- members
 
+-- the member is whole and is added, or it lacks a feature
+abbrev pub AddsMember : Table → Partial → ℕ → List Entry → Result (List Entry) Stop → Type 0
+AddsMember table p at before (Ok after) = (e : Entry) × ((whole table p ≡ Some e) × Puts before e after)
+AddsMember table p at before (Err (stops.Fault f)) = (whole table p ≡ None) × (f ≡ record { cause = causes.MissingArg; at = at; reached = 0 })
+AddsMember table p at before (Err stops.OutOfMemory) = Unit {0}
+
 -- each member is whole and is added, or one lacks a feature
-abbrev pub AddsMembers : Table → List Partial → ℕ → List Entry → List Entry → Result (Unit {0}) Stop → Type 0
-AddsMembers table members at before after (Ok done) = (made : List Entry) × (AreWhole table members made × Adds before made after)
-AddsMembers table members at before after (Err (stops.Fault f)) =
+abbrev pub AddsMembers : Table → List Partial → ℕ → List Entry → Result (List Entry) Stop → Type 0
+AddsMembers table members at before (Ok after) = (made : List Entry) × (AreWhole table members made × Adds before made after)
+AddsMembers table members at before (Err (stops.Fault f)) =
     (p : Partial) × (In members p × ((whole table p ≡ None) × (f ≡ record { cause = causes.MissingArg; at = at; reached = 0 })))
-AddsMembers table members at before after (Err stops.OutOfMemory) = Unit {0}
+AddsMembers table members at before (Err stops.OutOfMemory) = Unit {0}
 
 -- ---- limits
 
@@ -59,13 +66,13 @@ CountsOne source before one (Err (stops.Fault f)) = OffendsAt source before one 
 CountsOne source before one (Err stops.OutOfMemory) = Unit {0}
 
 -- the members of the body are added within the limits, or something is wrong with them
-abbrev pub AddsOne : Source → SoFar → ℕ × Body → List Entry → Result (Unit {0}) Stop → Type 0
-AddsOne source before one all (Ok done) = IsExpanded source before one.1 all × ((length all ≤ 65536) × (AreFewEach source.table all × Once source one.1))
-AddsOne source before one all (Err (stops.Fault f)) = (IsCounted source before one.1 → OffendsAt source before one f) × Once source one.1
-AddsOne source before one all (Err stops.OutOfMemory) = Unit {0}
+abbrev pub AddsOne : Source → SoFar → ℕ × Body → Result (List Entry) Stop → Type 0
+AddsOne source before one (Ok all) = IsExpanded source before one.1 all × ((length all ≤ 65536) × (AreFewEach source.table all × Once source one.1))
+AddsOne source before one (Err (stops.Fault f)) = (IsCounted source before one.1 → OffendsAt source before one f) × Once source one.1
+AddsOne source before one (Err stops.OutOfMemory) = Unit {0}
 
 -- the `defentry` is expanded, or something is wrong with it
-abbrev pub ExpandsOne : Source → SoFar → ℕ × Body → SoFar → Result (Unit {0}) Stop → Type 0
-ExpandsOne source before one after (Ok done) = Expands source before one.1 after × Once source one.1
-ExpandsOne source before one after (Err (stops.Fault f)) = OffendsAt source before one f × OnceCounted source before one.1
-ExpandsOne source before one after (Err stops.OutOfMemory) = Unit {0}
+abbrev pub ExpandsOne : Source → SoFar → ℕ × Body → Result SoFar Stop → Type 0
+ExpandsOne source before one (Ok after) = Expands source before one.1 after × Once source one.1
+ExpandsOne source before one (Err (stops.Fault f)) = OffendsAt source before one f × OnceCounted source before one.1
+ExpandsOne source before one (Err stops.OutOfMemory) = Unit {0}

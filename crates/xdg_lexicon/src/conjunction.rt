@@ -7,12 +7,12 @@ ghost use Rattle.xdg_lexicon.specs.Partial.{ArePartial};
 
 use crate::entries::{Partial, join_partial};
 use crate::moving::join_two;
-use std::alloc::{AllocError, Global};
+use std::alloc::Global;
 use xdg_base::OutOfMemory;
 use xdg_domain::Fields;
 use xdg_types::DimType;
 
-fn add(made: &mut Vec<Partial>, partial: Partial) -> Result<(), AllocError>
+fn add(made: &mut Vec<Partial>, partial: Partial) -> Result<(), OutOfMemory>
     ensures { OnOk result (made.new.items ≡ made.old.items ++ partial ∷ []) }
 {
     made.push(partial)?;

@@ -8,7 +8,7 @@ ghost use Rattle.xdg_lexicon.specs.Partial.{IsPartial, ReadsDim, PartialsJoin, P
 ghost use Rattle.xdg_lexicon.specs.Right.{AreRight};
 
 use crate::records::{join_records, read_record};
-use std::alloc::{AllocError, Global};
+use std::alloc::Global;
 use xdg_ast::{Pair, Term};
 use xdg_base::{List, OutOfMemory};
 use xdg_domain::Fields;
@@ -20,7 +20,7 @@ use xdg_types::DimType;
 pub type Partial = List<Fields>;
 
 /// The partial entry that says nothing.
-pub(crate) fn say_nothing(alloc: Global, dims: &[DimType]) -> Result<Partial, AllocError>
+pub(crate) fn say_nothing(alloc: Global, dims: &[DimType]) -> Result<Partial, OutOfMemory>
     ensures same { IfOk result (λ made. made ≡ nothing dims.now) }
     ensures partial { IfOk result (λ made. IsPartial dims.now made) }
 {

@@ -1,14 +1,15 @@
 //! Expansion, `defentry` by `defentry`.
 
-ghost use Rattle.std.specs.Prelude.{◌≡◌, ℕ, ◌≤◌, List, Result, IfOk, OnOk};
+ghost use Rattle.std.specs.Prelude.{◌≡◌, ◌≤◌, List, Result, IfOk};
 ghost use Rattle.xdg_base.specs.declared.faults.Fault as faults;
 ghost use Rattle.xdg_check.specs.Checked.{IsChecked};
 ghost use Rattle.xdg_facts.specs.Membership.{In};
 ghost use Rattle.xdg_packed.specs.Entries.{IsRightLexicon};
-ghost use Rattle.xdg_packed.specs.Lexicon as lexicon;
-ghost use Rattle.xdg_lexicon.specs.Answers.{IsAnswer, Gives, Tells};
+ghost use Rattle.xdg_packed.specs.Lexicon as spec;
+ghost use Rattle.xdg_lexicon.specs.Answers.{IsAnswer, Gives, Tells, IsPlaced, answer_of, entries_of};
+ghost use Rattle.xdg_lexicon.specs.Growing.{IsRightGrowing, entries_in};
 ghost use Rattle.xdg_lexicon.specs.Lexicon.{SoFar};
-ghost use Rattle.xdg_lexicon.specs.Expanding.{IsRight, IsRightGrowing, so_far};
+ghost use Rattle.xdg_lexicon.specs.Expanding.{IsRight, so_far};
 ghost use Rattle.xdg_lexicon.specs.Sources.{source_of};
 ghost use Rattle.xdg_lexicon.specs.Steps.{one_of, CountsOne, AddsOne, ExpandsOne};
 
@@ -19,6 +20,7 @@ use std::alloc::Global;
 use xdg_base::{Cause, List, Stop};
 use xdg_check::{Checked, EntryDef, combos_of, uses_of};
 use xdg_domain::Entry;
+use xdg_packed::Packed;
 
 /// What the `defentry` statements so far came to.
 #[derive(Debug, Drop)]
@@ -30,16 +32,21 @@ struct Expanding {
     growing: Growing,
 }
 
-/// The expanded lexicon of a checked grammar: the different members of its `defentry` statements in the order of the text, each
-/// with a record for each used dimension and with all defaults (Debusmann 2006, chapter 2, on lexical entries). The faults are
+/// The expanded lexicon of a checked grammar, packed: the different members of its `defentry` statements in the order of the text,
+/// each with a record for each used dimension and with all defaults (Debusmann 2006, chapter 2, on lexical entries). The faults are
 /// that the uses of classes pass their limit, that the combinations do, that a member leaves a plain feature of a used dimension
 /// unsaid, that the entries pass their limit, or that those of one word do: the first of these in the first `defentry` with one.
 /// The members of a `defentry` are made only once its combinations are known to be within the limits. The time goes with the
 /// combinations, the parts that each of them joins and what it says, up to the look-up of texts.
-pub fn expand(alloc: Global, checked: &Checked) -> Result<List<Entry>, Stop>
-    ensures tells { Tells (source_of checked.now) result }
-    ensures only { (answer : Result (List lexicon.Entry) faults.Fault) → IsAnswer (source_of checked.now) answer → Gives answer result }
-    ensures right { IfOk result (IsRightLexicon checked.now.types) }
+///
+/// # Errors
+///
+/// The first fault, or want of memory.
+pub fn lexicon(alloc: Global, checked: &Checked) -> Result<Packed, Stop>
+    ensures tells { Tells (source_of checked.now) (entries_of result) }
+    ensures only { (answer : Result (List spec.Entry) faults.Fault) → IsAnswer (source_of checked.now) answer → Gives answer (entries_of result) }
+    ensures right { IfOk result (λ packed. IsRightLexicon checked.now.types packed.entries) }
+    ensures place { IfOk result (IsPlaced checked.now.types) }
 {
     let (dim, field) = checked.word_place();
     let mut expanding = Expanding {
@@ -49,9 +56,23 @@ pub fn expand(alloc: Global, checked: &Checked) -> Result<List<Entry>, Stop>
     };
     let entries = checked.entries();
     for def in entries {
-        expand_one(alloc, checked, def, &mut expanding)?;
+        expanding = expand_one(alloc, checked, def, expanding)?;
     }
-    Ok(expanding.growing.entries)
+    Ok(expanding.growing.finish())
+}
+
+/// The entries of the [`lexicon`] in a list, each whole, as tests look at them.
+///
+/// # Errors
+///
+/// The first fault, or want of memory.
+pub fn expand(alloc: Global, checked: &Checked) -> Result<List<Entry>, Stop>
+    ensures tells { Tells (source_of checked.now) result }
+    ensures only { (answer : Result (List spec.Entry) faults.Fault) → IsAnswer (source_of checked.now) answer → Gives answer result }
+    ensures right { IfOk result (IsRightLexicon checked.now.types) }
+{
+    let packed = lexicon(alloc, checked)?;
+    Ok(packed.entries(alloc)?)
 }
 
 /// Expands one `defentry` behind those so far.
@@ -59,19 +80,21 @@ fn expand_one(
     alloc: Global,
     checked: &Checked,
     def: &EntryDef,
-    expanding: &mut Expanding,
-) -> Result<(), Stop>
+    expanding: Expanding,
+) -> Result<Expanding, Stop>
     requires checked { IsChecked checked.now }
     requires entry { In checked.now.entries def.now }
-    requires right { IsRight checked.now.types expanding.old }
-    ensures right { OnOk result (IsRight checked.now.types expanding.new) }
-    ensures expands { ExpandsOne (source_of checked.now) (so_far expanding.old) (one_of def.now) (so_far expanding.new) result }
+    requires right { IsRight checked.now.types expanding }
+    ensures right { IfOk result (IsRight checked.now.types) }
+    ensures expands { ExpandsOne (source_of checked.now) (so_far expanding) (one_of def.now) (answer_of so_far result) }
 {
     let (uses, combos) = count_one(checked, def, expanding.uses, expanding.combos)?;
-    add_one(alloc, checked, def, &mut expanding.growing)?;
-    expanding.uses = uses;
-    expanding.combos = combos;
-    Ok(())
+    let growing = add_one(alloc, checked, def, expanding.growing)?;
+    Ok(Expanding {
+        uses,
+        combos,
+        growing,
+    })
 }
 
 /// The sums of the uses of classes and of the combinations with those of one `defentry`.
@@ -93,16 +116,17 @@ fn add_one(
     alloc: Global,
     checked: &Checked,
     def: &EntryDef,
-    growing: &mut Growing,
-) -> Result<(), Stop>
+    growing: Growing,
+) -> Result<Growing, Stop>
     requires checked { IsChecked checked.now }
     requires entry { In checked.now.entries def.now }
-    requires right { IsRightGrowing checked.now.types growing.old }
-    ensures right { OnOk result (IsRightGrowing checked.now.types growing.new) }
-    ensures adds { (before : SoFar) → before.entries ≡ growing.old.entries
-        → AddsOne (source_of checked.now) before (one_of def.now) growing.new.entries result }
+    requires right { IsRightGrowing checked.now.types growing }
+    ensures right { IfOk result (IsRightGrowing checked.now.types) }
+    ensures adds { (before : SoFar) → before.entries ≡ entries_in growing
+        → AddsOne (source_of checked.now) before (one_of def.now) (answer_of entries_in result) }
 {
     let partials = members(alloc, checked, &def.body)?;
-    add_members(alloc, checked.types(), partials.as_slice(), def.at, growing)?;
-    limited(growing, def.at)
+    let growing = add_members(alloc, checked.types(), partials.as_slice(), def.at, growing)?;
+    limited(&growing, def.at)?;
+    Ok(growing)
 }

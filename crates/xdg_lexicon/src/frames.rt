@@ -11,12 +11,13 @@ ghost use Rattle.xdg_lexicon.specs.Weights.{heavy, sized, weigh};
 
 use crate::conjunction::join_all;
 use crate::entries::{Partial, read_partial, say_nothing};
-use crate::using::{args_of, follow};
-use std::alloc::{AllocError, Global};
+use crate::using::follow;
+use std::alloc::Global;
 use std::mem;
 use xdg_ast::{Expr, ExprKind};
 use xdg_base::{List, OutOfMemory};
 use xdg_check::Checked;
+use xdg_classes::args_of;
 use xdg_terms::Bindings;
 
 /// Where a body stands.
@@ -51,7 +52,7 @@ pub(crate) struct Walk<'a> {
 }
 
 /// The list of one partial entry.
-fn one_partial(alloc: Global, partial: Partial) -> Result<Vec<Partial>, AllocError>
+fn one_partial(alloc: Global, partial: Partial) -> Result<Vec<Partial>, OutOfMemory>
     ensures { IfOk result (λ made. made.items ≡ partial ∷ []) }
 {
     let mut made = Vec::new(alloc);
@@ -60,7 +61,7 @@ fn one_partial(alloc: Global, partial: Partial) -> Result<Vec<Partial>, AllocErr
 }
 
 /// Opens a frame inside those that are open.
-fn add<'a>(frames: &mut Vec<Frame<'a>>, frame: Frame<'a>) -> Result<(), AllocError>
+fn add<'a>(frames: &mut Vec<Frame<'a>>, frame: Frame<'a>) -> Result<(), OutOfMemory>
     ensures { OnOk result (frames.new.items ≡ frames.old.items ++ frame.entry ∷ []) }
 {
     frames.push(frame)?;

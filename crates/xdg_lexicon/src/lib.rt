@@ -16,9 +16,8 @@ mod moving;
 mod records;
 mod taking;
 mod using;
-mod words;
 
 pub use denoting::members;
 pub use entries::Partial;
-pub use expanding::expand;
+pub use expanding::{expand, lexicon};
 pub use xdg_check::{combos_of as count, uses_of as uses};

@@ -2,12 +2,11 @@
 
 ghost use Rattle.std.specs.Prelude.{◌≡◌, ◌++◌, reverse, OnOk};
 
-use std::alloc::AllocError;
-use xdg_base::List;
+use xdg_base::{List, OutOfMemory};
 
 /// Moves elements behind others, the last first.
 #[tactic(auto, using(crate::proofs::Turned::turn_more, crate::proofs::Turned::turn_end))]
-pub(crate) fn turn<T: Drop>(items: &mut List<T>, turned: &mut List<T>) -> Result<(), AllocError>
+pub(crate) fn turn<T: Drop>(items: &mut List<T>, turned: &mut List<T>) -> Result<(), OutOfMemory>
     ensures { OnOk result (turned.new ≡ turned.old ++ reverse items.old) }
 {
     while let Some(item) = items.pop() {

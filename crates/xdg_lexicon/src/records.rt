@@ -13,7 +13,7 @@ ghost use Rattle.xdg_lexicon.specs.Made.{entry};
 ghost use Rattle.xdg_lexicon.specs.Partial.{IsRecord, SaysFields, written};
 ghost use Rattle.xdg_lexicon.specs.Right.{AreRight};
 
-use std::alloc::{AllocError, Global};
+use std::alloc::Global;
 use xdg_ast::{Pair, Term};
 use xdg_base::{List, OutOfMemory, Stop, Text};
 use xdg_domain::{Fields, Ty, Value, join};
@@ -32,7 +32,7 @@ fn said(fields: &[(u32, Value)], key: u32) -> Option<&Value>
 }
 
 /// Adds what is said of the feature with that place, if anything is.
-pub(crate) fn add(made: &mut Fields, key: u32, said: Option<Value>) -> Result<(), AllocError>
+pub(crate) fn add(made: &mut Fields, key: u32, said: Option<Value>) -> Result<(), OutOfMemory>
     ensures { OnOk result (made.new ≡ made.old ++ entry key said) }
 {
     match said {

@@ -2,7 +2,7 @@
 
 ghost use Rattle.std.specs.Prelude.{◌≡◌, ◌≤◌, ◌<◌, ◌+◌, ◌∷◌, ℕ, List, length, slice_get, Some, IfOk};
 ghost use Rattle.xdg_names.specs.Texts.{place_of};
-ghost use Rattle.xdg_classes.specs.Bodies.{body, calling, given};
+ghost use Rattle.xdg_classes.specs.Bodies.{body, calling};
 ghost use Rattle.xdg_check.specs.Checked.{IsChecked, named_bodies};
 ghost use Rattle.xdg_check.specs.Counts.{class_texts};
 ghost use Rattle.xdg_lexicon.specs.Denotes.{Denotes, IsRanked};
@@ -13,10 +13,11 @@ ghost use Rattle.xdg_lexicon.specs.Weights.{sized, weigh};
 
 use crate::closing::close_args;
 use crate::frames::Scope;
-use std::alloc::{AllocError, Global};
+use std::alloc::Global;
 use xdg_ast::{ExprKind, Name, Pair, Term};
-use xdg_base::List;
+use xdg_base::OutOfMemory;
 use xdg_check::{Checked, Class};
+use xdg_classes::args_of;
 use xdg_terms::Bindings;
 
 /// The body that a use of a class stands for.
@@ -26,16 +27,6 @@ pub(crate) struct Used<'a> {
     pub(crate) body: &'a ExprKind,
     /// Where it stands.
     pub(crate) scope: Scope,
-}
-
-/// The arguments of a use of a class.
-pub(crate) fn args_of(args: &Option<List<Pair<Term>>>) -> &[Pair<Term>]
-    ensures { result.now ≡ given args.now }
-{
-    match args {
-        Some(pairs) => pairs.as_slice(),
-        None => &[],
-    }
 }
 
 /// The class with that name, where one has it.
@@ -59,7 +50,7 @@ pub(crate) fn follow<'a>(
     args: &[Pair<Term>],
     bindings: &Bindings,
     depth: usize,
-) -> Result<Used<'a>, AllocError>
+) -> Result<Used<'a>, OutOfMemory>
     requires within { depth ≤ length checked.now.order }
     requires ranked { IsRanked checked.now depth (calling name.now args.now) }
     requires right { IsRightUnder checked.now.types checked.now.classes bindings.now (calling name.now args.now) }

@@ -3,7 +3,8 @@
 ghost use Rattle.std.specs.Prelude.{◌≡◌, ◌≤◌, IfOk, length};
 ghost use Rattle.xdg_linear.specs.Ranks.{rank_of, ranks_of};
 
-use std::alloc::{AllocError, Global};
+use std::alloc::Global;
+use xdg_base::OutOfMemory;
 use xdg_problem::SentenceWord;
 
 /// How many words stand before the first with a text.
@@ -25,7 +26,7 @@ fn rank(words: &[SentenceWord], text: &str) -> usize
 /// # Errors
 ///
 /// Fails where memory runs out.
-pub(crate) fn ranks(alloc: Global, words: &[SentenceWord]) -> Result<Vec<u8>, AllocError>
+pub(crate) fn ranks(alloc: Global, words: &[SentenceWord]) -> Result<Vec<u8>, OutOfMemory>
     requires { length words.now ≤ 8 }
     ensures { IfOk result (λ ranks. ranks.items ≡ ranks_of words.now) }
 {

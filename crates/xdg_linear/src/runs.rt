@@ -3,8 +3,8 @@
 ghost use Rattle.std.specs.Prelude.{◌≡◌, ◌<◌, ◌+◌, ◌++◌, ◌^◌, length, IfOk, OnOk, All};
 ghost use Rattle.xdg_linear.specs.Words.{words, alone, IsWord, StandsIn, StandApart};
 
-use std::alloc::{AllocError, Global};
-use xdg_base::{List, Text};
+use std::alloc::Global;
+use xdg_base::{List, OutOfMemory, Text};
 use xdg_problem::SentenceWord;
 
 /// Adds a text that stands at a byte place to the words, unless it is empty.
@@ -13,7 +13,7 @@ fn add_word(
     words: &mut List<SentenceWord>,
     at: u32,
     text: &str,
-) -> Result<(), AllocError>
+) -> Result<(), OutOfMemory>
     ensures { OnOk result (words.new ≡ words.old ++ alone at text.now) }
 {
     if text.is_empty() {
@@ -25,7 +25,7 @@ fn add_word(
 
 /// The words of a sentence: the maximal runs of characters that are not white space, as
 /// [`char::is_whitespace`] has it. Each word has the byte place where it begins, from 0.
-pub(crate) fn runs_of(alloc: Global, text: &str) -> Result<List<SentenceWord>, AllocError>
+pub(crate) fn runs_of(alloc: Global, text: &str) -> Result<List<SentenceWord>, OutOfMemory>
     requires { length text.now < 2 ^ 32 }
     ensures words { IfOk result (λ list. list ≡ words text.now) }
     ensures each { IfOk result (λ list. All IsWord list) }

@@ -3,9 +3,9 @@
 ghost use Rattle.std.specs.Prelude.{◌≡◌, ◌++◌, IfOk, OnOk};
 ghost use Rattle.xdg_linear.specs.Segments.{dark, is_white, segments};
 
-use std::alloc::{AllocError, Global};
+use std::alloc::Global;
 use unicode_segmentation::UnicodeSegmentation;
-use xdg_base::{List, Text};
+use xdg_base::{List, OutOfMemory, Text};
 use xdg_problem::SentenceWord;
 
 /// Whether a text has no character but white space.
@@ -21,21 +21,21 @@ fn add_piece(
     words: &mut List<SentenceWord>,
     at: usize,
     piece: &str,
-) -> Result<(), AllocError>
+) -> Result<(), OutOfMemory>
     ensures { OnOk result (words.new ≡ words.old ++ dark at piece.now) }
 {
     if is_white(piece) {
         return Ok(());
     }
     let Ok(at) = u32::try_from(at) else {
-        return Err(AllocError);
+        return Err(OutOfMemory);
     };
     let text = Text::from_str(alloc, piece)?;
     words.push(SentenceWord { text, at })
 }
 
 /// The segments of a text between the boundaries of words that have a character which is not white space.
-pub(crate) fn segments_of(alloc: Global, text: &str) -> Result<List<SentenceWord>, AllocError>
+pub(crate) fn segments_of(alloc: Global, text: &str) -> Result<List<SentenceWord>, OutOfMemory>
     ensures { IfOk result (λ list. list ≡ segments text.now) }
 {
     let mut words = List::new(alloc);

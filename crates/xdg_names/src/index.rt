@@ -4,8 +4,9 @@ ghost use Rattle.std.specs.Prelude.{◌≡◌, [], ◌∷◌, ◌++◌, length, 
 ghost use Rattle.xdg_names.specs.Texts.{has_text, place_of, AllDiffer};
 
 use indexmap::IndexSet;
-use std::alloc::{AllocError, Global};
+use std::alloc::Global;
 use std::marker::Model;
+use xdg_base::OutOfMemory;
 
 /// Different texts, in the order in which they were added, each with its place in that order as its number, from 0.
 #[derive(Debug, Drop)]
@@ -40,7 +41,7 @@ impl Index {
 
     /// Adds a text at the end, unless it stands there already. Answers whether it was new. On want of memory nothing
     /// changes; a text that stands there takes no memory.
-    pub fn add(&mut self, alloc: Global, text: &str) -> Result<bool, AllocError>
+    pub fn add(&mut self, alloc: Global, text: &str) -> Result<bool, OutOfMemory>
         ensures new { IfOk result (λ added. added ≡ not (has_text self.old text.now)) }
         ensures ok { IfOk result (λ added. self.new ≡ (if added then self.old ++ text.now ∷ [] else self.old)) }
         ensures err { OnErr result (self.new ≡ self.old) }

@@ -7,6 +7,7 @@
 
 mod graph;
 mod index;
+mod listed;
 mod meeting;
 mod numbering;
 mod order;
@@ -14,6 +15,7 @@ mod walk;
 
 pub use graph::{Components, Use};
 pub use index::Index;
+pub use listed::has_text;
 pub use meeting::closing;
 pub use numbering::components;
 pub use order::{earlier, is_before};

@@ -17,11 +17,7 @@ fn meeting_use(numbers: &[usize], own: usize, used: Use) -> Option<Fault>
     ensures { Tells (Meets numbers.now own used) result }
 {
     if numbers[used.to] == own {
-        Some(Fault {
-            cause: Cause::Cycle,
-            at: used.at,
-            reached: 0,
-        })
+        Some(Fault::at(Cause::Cycle, used.at))
     } else {
         None
     }

@@ -5,11 +5,11 @@ ghost use Rattle.xdg_names.specs.Leads.{IsGraph, AreComponents};
 
 use crate::graph::{Components, Use};
 use crate::walk::Walk;
-use std::alloc::{AllocError, Global};
-use xdg_base::List;
+use std::alloc::Global;
+use xdg_base::{List, OutOfMemory};
 
 /// The strong components of a graph, in time linear in definitions and uses.
-pub fn components(alloc: Global, graph: &[List<Use>]) -> Result<Components, AllocError>
+pub fn components(alloc: Global, graph: &[List<Use>]) -> Result<Components, OutOfMemory>
     requires graph { IsGraph graph.now }
     requires small { length graph.now < 2 ^ 32 }
     ensures { IfOk result (λ made. AreComponents graph.now made.numbers made.order) }

@@ -12,8 +12,8 @@ ghost use Rattle.xdg_names.specs.Closing.{the_use};
 ghost use Rattle.xdg_names.specs.Walks.{AreMarks, Climbs, Walks, WalksAt, GoesOn, Enters, Looks, Merges, Closes, turns};
 
 use crate::graph::Use;
-use std::alloc::{AllocError, Global};
-use xdg_base::List;
+use std::alloc::Global;
+use xdg_base::{List, OutOfMemory};
 
 /// Where a walk stands.
 #[derive(Debug, Drop)]
@@ -36,7 +36,7 @@ pub struct Walk {
 }
 
 /// How many uses each definition has.
-fn counts(alloc: Global, graph: &[List<Use>]) -> Result<Vec<usize>, AllocError>
+fn counts(alloc: Global, graph: &[List<Use>]) -> Result<Vec<usize>, OutOfMemory>
     ensures { IfOk result (λ made. made.items ≡ map length graph.now) }
 {
     let mut made = Vec::new(alloc);
@@ -56,7 +56,7 @@ fn used(graph: &[List<Use>], from: usize, at: usize) -> usize
 }
 
 /// Takes the starts of the groups that begin above a mark.
-fn merge(marks: &[usize], top: usize, starts: &mut Vec<usize>) -> Result<(), AllocError>
+fn merge(marks: &[usize], top: usize, starts: &mut Vec<usize>) -> Result<(), OutOfMemory>
     requires within { (s : ℕ) → In starts.old.items s → s < length marks.now }
     requires small { length marks.now < 2 ^ 32 }
     requires climb { Climbs marks.now starts.old.items }
@@ -78,7 +78,7 @@ fn close(
     marks: &mut Vec<usize>,
     stack: &mut Vec<usize>,
     order: &mut Vec<usize>,
-) -> Result<(), AllocError>
+) -> Result<(), OutOfMemory>
     requires are { AreMarks (length marks.old.items) marks.old.items stack.old.items order.old.items given }
     requires least { 1 ≤ given }
     requires most { given ≤ length marks.old.items }
@@ -98,7 +98,7 @@ fn close(
 
 impl Walk {
     /// A walk that has met no definition.
-    pub fn new(alloc: Global, graph: &[List<Use>]) -> Result<Walk, AllocError>
+    pub fn new(alloc: Global, graph: &[List<Use>]) -> Result<Walk, OutOfMemory>
         requires graph { IsGraph graph.now }
         ensures walks { IfOk result (λ walk. Walks graph.now walk) }
         ensures path { IfOk result (λ walk. walk.path.items ≡ []) }
@@ -115,7 +115,7 @@ impl Walk {
     }
 
     /// Meets a definition, which begins a group.
-    fn enter(&mut self, graph: &[List<Use>], definition: usize) -> Result<(), AllocError>
+    fn enter(&mut self, graph: &[List<Use>], definition: usize) -> Result<(), OutOfMemory>
         requires walks { Walks graph.now self.old }
         requires small { length graph.now < 2 ^ 32 }
         requires within { definition < length graph.now }
@@ -131,7 +131,7 @@ impl Walk {
     }
 
     /// Looks at a use that leads from the last definition of the path to `to`.
-    fn look(&mut self, graph: &[List<Use>], from: usize, to: usize) -> Result<(), AllocError>
+    fn look(&mut self, graph: &[List<Use>], from: usize, to: usize) -> Result<(), OutOfMemory>
         requires walks { Walks graph.now self.old }
         requires small { length graph.now < 2 ^ 32 }
         requires within { to < length graph.now }
@@ -153,7 +153,7 @@ impl Walk {
     }
 
     /// Looks at the next use of the last definition of the path, which has one left.
-    fn advance(&mut self, graph: &[List<Use>], last: usize) -> Result<(), AllocError>
+    fn advance(&mut self, graph: &[List<Use>], last: usize) -> Result<(), OutOfMemory>
         requires graph { IsGraph graph.now }
         requires walks { Walks graph.now self.old }
         requires small { length graph.now < 2 ^ 32 }
@@ -171,7 +171,7 @@ impl Walk {
     }
 
     /// Leaves a definition without uses left, which was the last of the path.
-    fn leave(&mut self, graph: &[List<Use>], last: usize) -> Result<(), AllocError>
+    fn leave(&mut self, graph: &[List<Use>], last: usize) -> Result<(), OutOfMemory>
         requires walks { WalksAt graph.now self.old (self.old.path.items ++ last ∷ []) }
         requires small { length graph.now < 2 ^ 32 }
         requires none { number self.old.left.items last ≡ 0 }
@@ -201,7 +201,7 @@ impl Walk {
     }
 
     /// Takes one step at the definition that was the last of the path.
-    fn step(&mut self, graph: &[List<Use>], last: usize) -> Result<(), AllocError>
+    fn step(&mut self, graph: &[List<Use>], last: usize) -> Result<(), OutOfMemory>
         requires graph { IsGraph graph.now }
         requires walks { WalksAt graph.now self.old (self.old.path.items ++ last ∷ []) }
         requires small { length graph.now < 2 ^ 32 }
@@ -217,7 +217,7 @@ impl Walk {
     }
 
     /// Finishes a definition that is not met, and all to which it leads.
-    pub fn visit(&mut self, graph: &[List<Use>], root: usize) -> Result<(), AllocError>
+    pub fn visit(&mut self, graph: &[List<Use>], root: usize) -> Result<(), OutOfMemory>
         requires graph { IsGraph graph.now }
         requires walks { Walks graph.now self.old }
         requires small { length graph.now < 2 ^ 32 }

@@ -29,7 +29,7 @@ module _ {A : Type 0} where
   other xs x z absent h e = absent (subst (In xs) (sym e) h)
 
   -- different elements that all stand in a list are no more than it is long
-  no_more : (xs ys : List A) → Differ xs → ((x : A) → In xs x → In ys x) → length xs ≤ length ys
+  pub no_more : (xs ys : List A) → Differ xs → ((x : A) → In xs x → In ys x) → length xs ≤ length ys
   no_more [] ys differ all = omega arith
   no_more (x ∷ xs) ys differ all =
       let r = removed ys x (all x (inl refl)) in

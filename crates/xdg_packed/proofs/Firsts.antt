@@ -56,21 +56,21 @@ firsts_new firsts places place number last next within are =
 -- ---- the whole
 
 -- equal rows are one row
-same_row : (rows : List Record) → Differ rows → (i j : ℕ) → i < length rows → j < length rows → get_or rows i [] ≡ get_or rows j [] → i ≡ j
+pub same_row : (rows : List Record) → Differ rows → (i j : ℕ) → i < length rows → j < length rows → get_or rows i [] ≡ get_or rows j [] → i ≡ j
 same_row [] differ i j first second e = absurd (omega (arith, first))
 same_row (row ∷ rows) differ zero zero first second e = refl
 same_row (row ∷ rows) differ zero (suc j) first second e = absurd (differ.0 (subst (In rows) (sym e) (in_get rows j [] (omega (arith, second)))))
 same_row (row ∷ rows) differ (suc i) zero first second e = absurd (differ.0 (subst (In rows) e (in_get rows i [] (omega (arith, first)))))
 same_row (row ∷ rows) differ (suc i) (suc j) first second e = ap suc (same_row rows differ.1 i j (omega (arith, first)) (omega (arith, second)) e)
 
-in_shown : (rows : List Record) (places : List ℕ) (k : ℕ) → k < length places → get_or (shown rows places) k [] ≡ get_or rows (get_or places k 0) []
+pub in_shown : (rows : List Record) (places : List ℕ) (k : ℕ) → k < length places → get_or (shown rows places) k [] ≡ get_or rows (get_or places k 0) []
 in_shown rows places k within = get_or-map (λ place. get_or rows place []) places k 0 [] within
 
-long_shown : (rows : List Record) (places : List ℕ) → length (shown rows places) ≡ length places
+pub long_shown : (rows : List Record) (places : List ℕ) → length (shown rows places) ≡ length places
 long_shown rows places = length-map places (λ place. get_or rows place [])
 
 -- a table has the first entry with a record
-table_first : (rows : List Record) (firsts places : List ℕ) (at : ℕ) → IsTable rows firsts places → at < length places → IsFirst (shown rows places) at (get_or firsts (get_or places at 0) 0)
+pub table_first : (rows : List Record) (firsts places : List ℕ) (at : ℕ) → IsTable rows firsts places → at < length places → IsFirst (shown rows places) at (get_or firsts (get_or places at 0) 0)
 table_first rows firsts places at table within =
     let row = get_or places at 0 in
     let first = get_or firsts row 0 in
@@ -86,12 +86,6 @@ table_first rows firsts places at table within =
           (sym (in_shown rows places other there) ∙ same ∙ in_shown rows places at within) in
           subst (λ p. get_or firsts p 0 ≤ other) one (table.firsts_are.least other there);
     }
-
--- and it is the first of the records that are seen
-pub first_seen : (rows : List Record) (firsts places : List ℕ) (now : List Record) (at first : ℕ) → IsTable rows firsts places → shown rows places ≡ now → at < length now → first ≡ get_or firsts (get_or places at 0) 0 → IsFirst now at first
-first_seen rows firsts places now at first table is within told =
-    let inside : at < length places = subst (λ n. at < n) (sym (ap length is) ∙ long_shown rows places) within in
-    subst (λ records. IsFirst records at first) is (subst (λ f. IsFirst (shown rows places) at f) (sym told) (table_first rows firsts places at table inside))
 
 -- ---- a dimension of a lexicon
 

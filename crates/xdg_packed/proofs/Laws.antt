@@ -1,7 +1,7 @@
 -- What is filled is a value that says all, and nothing is filled exactly where a plain part lacks.
 use Rattle.std.proofs.Common.{◌≡◌, ◌⊎◌, ℕ, ◌<◌, ◌≤◌, ◌+◌, zero, suc, List, [], ◌∷◌, Option, None, Some, inl, inr, refl, ap, ap₂, sym, ◌∙◌, arith, subst}
 use Rattle.std.specs.Prelude.{◌↔◌, MatchOption, Result, Ok, Err, IfOk, IfSome}
-use Rattle.xdg_base.specs.declared.faults.OutOfMemory.{OutOfMemory}
+use Rattle.std.specs.declared.alloc.AllocError.{AllocError}
 use Rattle.std.specs.List.{range_with_len}
 use Rattle.std.proofs.lemmas.Bool.{cases_eq}
 use Rattle.xdg_domain.specs.Cards.{IsCards}
@@ -238,7 +238,7 @@ pub filled_right : (s : Shape) → IsType s → (said : Option Value) → IsSaid
 filled_right s h said given x e = right s h said given x e
 
 -- the same of what an answer tells
-pub told_lacks : (s : Shape) → IsType s → (said : Option Value) (told : Result (Option Value) OutOfMemory) → IfOk told (λ o. o ≡ filled s said) → IfOk told (λ o. (o ≡ None) ↔ Lacks s said)
+pub told_lacks : (s : Shape) → IsType s → (said : Option Value) (told : Result (Option Value) AllocError) → IfOk told (λ o. o ≡ filled s said) → IfOk told (λ o. (o ≡ None) ↔ Lacks s said)
 told_lacks s h said (Ok o) is = subst (λ p. (p ≡ None) ↔ Lacks s said) (sym is) (none_lacks s h said)
 told_lacks s h said (Err e) is = tt
 
@@ -246,6 +246,6 @@ if_some : (P : Value → Type 0) (o : Option Value) → ((x : Value) → o ≡ S
 if_some P None h = tt
 if_some P (Some x) h = h x refl
 
-pub told_right : (s : Shape) → IsType s → (said : Option Value) → IsSaid s said → (told : Result (Option Value) OutOfMemory) → IfOk told (λ o. o ≡ filled s said) → IfOk told (λ o. IfSome o (λ x. IsValue s x × IsFilled s x))
+pub told_right : (s : Shape) → IsType s → (said : Option Value) → IsSaid s said → (told : Result (Option Value) AllocError) → IfOk told (λ o. o ≡ filled s said) → IfOk told (λ o. IfSome o (λ x. IsValue s x × IsFilled s x))
 told_right s h said given (Ok o) is = if_some (λ x. IsValue s x × IsFilled s x) o (λ x e. filled_right s h said given x (sym is ∙ e))
 told_right s h said given (Err e) is = tt

@@ -1,8 +1,10 @@
 pub mod Steps
 pub mod Laws
+pub mod Adding
 pub mod Counted
 pub mod Digits
 pub mod Firsts
+pub mod Growing
 pub mod Packs
 pub mod Prefixes
 pub mod Standing

@@ -1,20 +1,21 @@
--- The different records of the first entries, while further ones are added.
-use Rattle.std.proofs.Common.{◌≡◌, ℕ, suc, ◌+◌, ◌<◌, ◌≤◌, List, [], ◌∷◌, ◌++◌, ◌⊎◌, length, get_or, take, Bool, true, false, not, if◌then◌else◌, refl, sym, ap, ap₂, inl, inr, subst, ◌∙◌, arith, Some, None, All}
+-- The different records of a dimension, while further ones are added, and one that was added is taken back.
+use Rattle.std.proofs.Common.{◌≡◌, ℕ, ◌+◌, ◌<◌, ◌≤◌, List, [], ◌∷◌, ◌++◌, ◌⊎◌, length, get_or, Bool, true, false, not, if◌then◌else◌, refl, sym, ap, ap₂, inl, inr, subst, ◌∙◌, arith, Some, None, All}
 use Rattle.std.specs.Prelude.{◌↔◌}
 use Rattle.std.proofs.lemmas.List.{map-append, length-map, length-append, get_or-map}
 use Rattle.std.proofs.lemmas.List.Elements.{All-push, All-tail, All-head, All-weaker}
 use Rattle.std.proofs.Math.ListN.{get_or-append}
-use Rattle.std.proofs.Math.Seq.{get_or-append_seam, take-suc}
+use Rattle.std.proofs.Math.Seq.{get_or-append_seam}
 use Rattle.xdg_names.specs.Texts.{has_text, place_of, AllDiffer}
 use Rattle.xdg_names.proofs.Texts.{place_of-Some, place_of-None, AllDiffer-append}
-use Rattle.xdg_packed.specs.Lexicon.{Record, Entry, column}
-use Rattle.xdg_packed.specs.Rows.{shown, IsTable, AreFirsts, AddsFirst, AreSpelled, IsKnownRow, IsNewRow}
+use Rattle.xdg_packed.specs.Lexicon.{Record, KeepsEachOnce}
+use Rattle.xdg_packed.specs.Rows.{shown, IsTable, AddsFirst, AreSpelled, IsKnownRow, IsNewRow}
 use Rattle.xdg_packed.specs.Spelling.{spelling_of_fields}
-use Rattle.xdg_packed.proofs.Firsts.{firsts_known, firsts_new}
+use Rattle.xdg_packed.proofs.Counted.{no_more}
+use Rattle.xdg_packed.proofs.Firsts.{firsts_known, firsts_new, same_row as same_place, in_shown, long_shown}
 use Rattle.xdg_packed.proofs.Prefixes.{fields_told}
-use Rattle.xdg_facts.proofs.In.{in_left, in_right, in_get}
+use Rattle.xdg_facts.proofs.In.{in_append, in_left, in_right, in_get, in_index}
 use Rattle.xdg_packed.proofs.Standing.{stands_last, rows_differ}
-use Rattle.xdg_facts.proofs.Lists.{any_default}
+use Rattle.xdg_facts.proofs.Lists.{all_before, any_default}
 use Rattle.xdg_facts.specs.Membership.{In}
 
 -- ---- one record
@@ -56,113 +57,152 @@ same_row rows seen spellings fields place same is told holds =
     let stands = subst (λ r. (place < length r) × (get_or r place [] ≡ fields)) is (told.0 holds) in
     record { rows_stay = refl; spellings_stay = refl; within = stands.0; stands = stands.1 }
 
--- ---- all records so far
-
--- these are the records so far, one for each entry
-pub record Packs (done rows : List Record) (spellings : List (List ℕ)) (firsts places : List ℕ) : Type 0 where
-  pub spelled : AreSpelled rows spellings
-  pub within : All (λ place. place < length rows) places
-  pub shows : shown rows places ≡ done
-  pub used : (x : Record) → In rows x → In done x
-  pub few : length rows ≤ length done
-  pub as_many : length firsts ≡ length rows
-  pub firsts_are : AreFirsts firsts places
+-- ---- one record more
 
 longer : (A : Type 0) (xs : List A) (x : A) → length (xs ++ x ∷ []) ≡ length xs + 1
 longer A xs x = length-append xs (x ∷ [])
+
+-- no more rows than entries
+pub rows_few : (rows : List Record) (firsts places : List ℕ) → IsTable rows firsts places → length rows ≤ length places
+rows_few rows firsts places table =
+    let few = no_more rows (shown rows places) table.kept.once table.kept.only in
+    let size = long_shown rows places in
+    omega (arith, few, size)
 
 shown_more : (rows more : List Record) (places : List ℕ) → All (λ place. place < length rows) places → shown (rows ++ more) places ≡ shown rows places
 shown_more rows more [] within = refl
 shown_more rows more (place ∷ places) within =
     ap₂ (λ x xs. x ∷ xs) (get_or-append rows more [] place (All-head (λ k. k < length rows) place places within)) (shown_more rows more places (All-tail (λ k. k < length rows) place places within))
 
-packs_known : (done rows : List Record) (spellings : List (List ℕ)) (firsts places : List ℕ) (fields : Record) (place : ℕ) → Packs done rows spellings firsts places → place < length rows → get_or rows place [] ≡ fields
-    → Packs (done ++ fields ∷ []) rows spellings firsts (places ++ place ∷ [])
-packs_known done rows spellings firsts places fields place packs inside stands = record {
-  spelled = packs.spelled;
-  within = All-push (λ k. k < length rows) places place packs.within inside;
-  shows = map-append (λ k. get_or rows k []) places (place ∷ []) ∙ ap₂ (λ xs x. xs ++ x ∷ []) packs.shows stands;
-  used = λ x h. in_left done (fields ∷ []) x (packs.used x h);
-  few = let size = longer Record done fields in let few = packs.few in omega (arith, size, few);
-  as_many = packs.as_many;
-  firsts_are = firsts_known firsts places place (subst (λ n. place < n) (sym packs.as_many) inside) packs.firsts_are;
-}
-
-packs_new : (done rows : List Record) (spellings : List (List ℕ)) (firsts places : List ℕ) (fields : Record) (place number : ℕ) → Packs done rows spellings firsts places → has_text spellings (spelling_of_fields fields) ≡ false
-    → place ≡ length rows → number ≡ length places → Packs (done ++ fields ∷ []) (rows ++ fields ∷ []) (spellings ++ spelling_of_fields fields ∷ []) (firsts ++ number ∷ []) (places ++ place ∷ [])
-packs_new done rows spellings firsts places fields place number packs fresh last next = record {
-  spelled = record {
-    spelled = map-append spelling_of_fields rows (fields ∷ []) ∙ ap (λ ts. ts ++ spelling_of_fields fields ∷ []) packs.spelled.spelled;
-    differ = AllDiffer-append spellings (spelling_of_fields fields) packs.spelled.differ fresh;
-  };
-  within = All-push (λ k. k < length (rows ++ fields ∷ [])) places place
-      (All-weaker (λ k. k < length rows) (λ k. k < length (rows ++ fields ∷ [])) (λ k h. let size = longer Record rows fields in omega (arith, size, h)) places packs.within)
-      (let size = longer Record rows fields in omega (arith, size, last));
-  shows = map-append (λ k. get_or (rows ++ fields ∷ []) k []) places (place ∷ [])
-      ∙ ap₂ (λ xs x. xs ++ x ∷ []) (shown_more rows (fields ∷ []) places packs.within ∙ packs.shows) (ap (λ k. get_or (rows ++ fields ∷ []) k []) last ∙ get_or-append_seam rows fields [] []);
-  used = λ x h. by x (stands_last rows fields x h);
-  few = let more = longer Record rows fields in let size = longer Record done fields in let few = packs.few in omega (arith, more, size, few);
-  as_many = let more = longer Record rows fields in let added = longer ℕ firsts number in let same = packs.as_many in omega (arith, more, added, same);
-  firsts_are = firsts_new firsts places place number (last ∙ sym packs.as_many) next (subst (λ n. All (λ k. k < n) places) (sym packs.as_many) packs.within) packs.firsts_are;
-}
-  where
-    by : (x : Record) → In rows x ⊎ (fields ≡ x) → In (done ++ fields ∷ []) x
-    by x (inl h) = in_left done (fields ∷ []) x (packs.used x h)
-    by x (inr e) = in_right done (fields ∷ []) x (inl e)
-
-packs_more : (done rows more : List Record) (spellings more_spellings : List (List ℕ)) (firsts more_firsts places : List ℕ) (fields : Record) (place number : ℕ) → Packs done rows spellings firsts places
-    → IsKnownRow rows spellings more more_spellings fields place ⊎ IsNewRow rows spellings more more_spellings fields place → AddsFirst firsts more_firsts place number → number ≡ length places
-    → Packs (done ++ fields ∷ []) more more_spellings more_firsts (places ++ place ∷ [])
-packs_more done rows more spellings more_spellings firsts more_firsts places fields place number packs (inl k) adds next =
-    let stay : more_firsts ≡ firsts = adds.known (subst (λ n. place < n) (sym packs.as_many) k.within) in
-    subst (λ f. Packs (done ++ fields ∷ []) more more_spellings f (places ++ place ∷ [])) (sym stay)
-    (subst (λ r. Packs (done ++ fields ∷ []) r more_spellings firsts (places ++ place ∷ [])) (sym k.rows_stay)
-    (subst (λ t. Packs (done ++ fields ∷ []) rows t firsts (places ++ place ∷ [])) (sym k.spellings_stay) (packs_known done rows spellings firsts places fields place packs k.within k.stands)))
-packs_more done rows more spellings more_spellings firsts more_firsts places fields place number packs (inr n) adds next =
-    let last = n.last in
-    let same = packs.as_many in
-    let grow : more_firsts ≡ firsts ++ number ∷ [] = adds.fresh (omega (arith, last, same)) in
-    subst (λ f. Packs (done ++ fields ∷ []) more more_spellings f (places ++ place ∷ [])) (sym grow)
-    (subst (λ r. Packs (done ++ fields ∷ []) r more_spellings (firsts ++ number ∷ []) (places ++ place ∷ [])) (sym n.rows_grow)
-    (subst (λ t. Packs (done ++ fields ∷ []) (rows ++ fields ∷ []) t (firsts ++ number ∷ []) (places ++ place ∷ [])) (sym n.spellings_grow)
-    (packs_new done rows spellings firsts places fields place number packs n.fresh n.last next)))
-
--- the records of a dimension of one entry more
-pub column_more : (dim : ℕ) (entries : List Entry) (i : ℕ) (entry : Entry) → i < length entries → get_or entries i entry ≡ entry → column dim (take (i + 1) entries) ≡ column dim (take i entries) ++ get_or entry dim [] ∷ []
-column_more dim entries i entry within is =
-    let next : i + 1 ≡ suc i = omega arith in
-    ap (λ k. column dim (take k entries)) next
-    ∙ ap (column dim) (take-suc entries i entry within ∙ ap (λ e. take i entries ++ e ∷ []) is)
-    ∙ map-append (λ e. get_or e dim []) (take i entries) (entry ∷ [])
-
-pub packs_next : (dim : ℕ) (entries : List Entry) (i : ℕ) (entry held : Entry) (rows more : List Record) (spellings more_spellings : List (List ℕ)) (firsts more_firsts places : List ℕ) (fields : Record) (place number : ℕ)
-    → i < length entries → All (λ e. dim < length e) entries → entry ≡ get_or entries i entry → held ≡ entry → fields ≡ get_or held dim fields → Packs (column dim (take i entries)) rows spellings firsts places
-    → IsKnownRow rows spellings more more_spellings fields place ⊎ IsNewRow rows spellings more more_spellings fields place → AddsFirst firsts more_firsts place number → number ≡ length places
-    → Packs (column dim (take (i + 1) entries)) more more_spellings more_firsts (places ++ place ∷ [])
-packs_next dim entries i entry held rows more spellings more_spellings firsts more_firsts places fields place number within wide is lent own packs how adds next =
-    let inside : dim < length held = subst (λ e. dim < length e) (sym (lent ∙ is)) (wide i entry within) in
-    let whole : fields ≡ get_or entry dim [] = own ∙ any_default held dim fields [] inside ∙ ap (λ e. get_or e dim []) lent in
-    subst (λ done. Packs done more more_spellings more_firsts (places ++ place ∷ [])) (ap (λ f. column dim (take i entries) ++ f ∷ []) whole ∙ sym (column_more dim entries i entry within (sym is)))
-    (packs_more (column dim (take i entries)) rows more spellings more_spellings firsts more_firsts places fields place number packs how adds next)
-
--- ---- the whole
-
 shown_stands : (rows : List Record) (places : List ℕ) → All (λ place. place < length rows) places → (x : Record) → In (shown rows places) x → In rows x
 shown_stands rows [] within x h = absurd h
 shown_stands rows (place ∷ places) within x (inl e) = subst (In rows) e (in_get rows place [] (All-head (λ k. k < length rows) place places within))
 shown_stands rows (place ∷ places) within x (inr h) = shown_stands rows places (All-tail (λ k. k < length rows) place places within) x h
 
-pub packs_table : (done rows : List Record) (spellings : List (List ℕ)) (firsts places : List ℕ) → Packs done rows spellings firsts places → IsTable rows firsts places
-packs_table done rows spellings firsts places packs = record {
-  within = packs.within;
-  kept = record {
-    once = rows_differ rows (subst AllDiffer (sym packs.spelled.spelled) packs.spelled.differ);
-    each = shown_stands rows places packs.within;
-    only = λ x h. subst (λ xs. In xs x) (sym packs.shows) (packs.used x h);
-  };
-  as_many = packs.as_many;
-  firsts_are = packs.firsts_are;
+-- what is known of a table to which a record was added
+pub record Added (done rows : List Record) (spellings : List (List ℕ)) (firsts places : List ℕ) : Type 0 where
+  pub right : IsTable rows firsts places
+  pub spelled : AreSpelled rows spellings
+  pub shows : shown rows places ≡ done
+
+-- the different records, of which each entry has one
+stands_once : (rows : List Record) (done : List Record) (spellings : List (List ℕ)) (places : List ℕ) → AreSpelled rows spellings → All (λ place. place < length rows) places → shown rows places ≡ done → ((x : Record) → In rows x → In done x)
+    → KeepsEachOnce (shown rows places) rows
+stands_once rows done spellings places spelled within shows used = record {
+  once = rows_differ rows (subst AllDiffer (sym spelled.spelled) spelled.differ);
+  each = shown_stands rows places within;
+  only = λ x h. subst (λ xs. In xs x) (sym shows) (used x h);
 }
+
+added_known : (rows : List Record) (spellings : List (List ℕ)) (firsts places : List ℕ) (fields : Record) (place : ℕ) → IsTable rows firsts places → AreSpelled rows spellings → place < length rows → get_or rows place [] ≡ fields
+    → Added (shown rows places ++ fields ∷ []) rows spellings firsts (places ++ place ∷ [])
+added_known rows spellings firsts places fields place table spelled inside stands =
+    let within = All-push (λ k. k < length rows) places place table.within inside in
+    let shows : shown rows (places ++ place ∷ []) ≡ shown rows places ++ fields ∷ [] = map-append (λ k. get_or rows k []) places (place ∷ []) ∙ ap (λ x. shown rows places ++ x ∷ []) stands in
+    record {
+      right = record {
+        within = within;
+        kept = stands_once rows (shown rows places ++ fields ∷ []) spellings (places ++ place ∷ []) spelled within shows (λ x h. in_left (shown rows places) (fields ∷ []) x (table.kept.only x h));
+        as_many = table.as_many;
+        firsts_are = firsts_known firsts places place (subst (λ n. place < n) (sym table.as_many) inside) table.firsts_are;
+      };
+      spelled = spelled;
+      shows = shows;
+    }
+
+added_new : (rows : List Record) (spellings : List (List ℕ)) (firsts places : List ℕ) (fields : Record) (place number : ℕ) → IsTable rows firsts places → AreSpelled rows spellings → has_text spellings (spelling_of_fields fields) ≡ false
+    → place ≡ length rows → number ≡ length places → Added (shown rows places ++ fields ∷ []) (rows ++ fields ∷ []) (spellings ++ spelling_of_fields fields ∷ []) (firsts ++ number ∷ []) (places ++ place ∷ [])
+added_new rows spellings firsts places fields place number table spelled fresh last next =
+    let more = rows ++ fields ∷ [] in
+    let size = longer Record rows fields in
+    let grown : AreSpelled more (spellings ++ spelling_of_fields fields ∷ []) = record {
+      spelled = map-append spelling_of_fields rows (fields ∷ []) ∙ ap (λ ts. ts ++ spelling_of_fields fields ∷ []) spelled.spelled;
+      differ = AllDiffer-append spellings (spelling_of_fields fields) spelled.differ fresh;
+    } in
+    let within = All-push (λ k. k < length more) places place
+    (All-weaker (λ k. k < length rows) (λ k. k < length more) (λ k h. omega (arith, size, h)) places table.within)
+    (omega (arith, size, last)) in
+    let shows : shown more (places ++ place ∷ []) ≡ shown rows places ++ fields ∷ [] = map-append (λ k. get_or more k []) places (place ∷ [])
+    ∙ ap₂ (λ xs x. xs ++ x ∷ []) (shown_more rows (fields ∷ []) places table.within) (ap (λ k. get_or more k []) last ∙ get_or-append_seam rows fields [] []) in
+    record {
+      right = record {
+        within = within;
+        kept = stands_once more (shown rows places ++ fields ∷ []) (spellings ++ spelling_of_fields fields ∷ []) (places ++ place ∷ []) grown within shows (λ x h. by x (stands_last rows fields x h));
+        as_many = let added = longer ℕ firsts number in let same = table.as_many in omega (arith, size, added, same);
+        firsts_are = firsts_new firsts places place number (last ∙ sym table.as_many) next (subst (λ n. All (λ k. k < n) places) (sym table.as_many) table.within) table.firsts_are;
+      };
+      spelled = grown;
+      shows = shows;
+    }
+  where
+    by : (x : Record) → In rows x ⊎ (fields ≡ x) → In (shown rows places ++ fields ∷ []) x
+    by x (inl h) = in_left (shown rows places) (fields ∷ []) x (table.kept.only x h)
+    by x (inr e) = in_right (shown rows places) (fields ∷ []) x (inl e)
+
+added : (rows more : List Record) (spellings more_spellings : List (List ℕ)) (firsts more_firsts places : List ℕ) (fields : Record) (place number : ℕ) → IsTable rows firsts places → AreSpelled rows spellings
+    → IsKnownRow rows spellings more more_spellings fields place ⊎ IsNewRow rows spellings more more_spellings fields place → AddsFirst firsts more_firsts place number → number ≡ length places
+    → Added (shown rows places ++ fields ∷ []) more more_spellings more_firsts (places ++ place ∷ [])
+added rows more spellings more_spellings firsts more_firsts places fields place number table spelled (inl k) adds next =
+    let stay : more_firsts ≡ firsts = adds.known (subst (λ n. place < n) (sym table.as_many) k.within) in
+    subst (λ f. Added (shown rows places ++ fields ∷ []) more more_spellings f (places ++ place ∷ [])) (sym stay)
+    (subst (λ r. Added (shown rows places ++ fields ∷ []) r more_spellings firsts (places ++ place ∷ [])) (sym k.rows_stay)
+    (subst (λ t. Added (shown rows places ++ fields ∷ []) rows t firsts (places ++ place ∷ [])) (sym k.spellings_stay) (added_known rows spellings firsts places fields place table spelled k.within k.stands)))
+added rows more spellings more_spellings firsts more_firsts places fields place number table spelled (inr n) adds next =
+    let last = n.last in
+    let same = table.as_many in
+    let grow : more_firsts ≡ firsts ++ number ∷ [] = adds.fresh (omega (arith, last, same)) in
+    subst (λ f. Added (shown rows places ++ fields ∷ []) more more_spellings f (places ++ place ∷ [])) (sym grow)
+    (subst (λ r. Added (shown rows places ++ fields ∷ []) r more_spellings (firsts ++ number ∷ []) (places ++ place ∷ [])) (sym n.rows_grow)
+    (subst (λ t. Added (shown rows places ++ fields ∷ []) (rows ++ fields ∷ []) t (firsts ++ number ∷ []) (places ++ place ∷ [])) (sym n.spellings_grow)
+    (added_new rows spellings firsts places fields place number table spelled n.fresh n.last next)))
+
+-- the same of what the code pushes
+pub pushed : (rows more : List Record) (spellings more_spellings : List (List ℕ)) (firsts more_firsts places grown : List ℕ) (fields : Record) (place number : ℕ) → IsTable rows firsts places → AreSpelled rows spellings
+    → IsKnownRow rows spellings more more_spellings fields place ⊎ IsNewRow rows spellings more more_spellings fields place → AddsFirst firsts more_firsts place number → number ≡ length places → grown ≡ places ++ place ∷ []
+    → Added (shown rows places ++ fields ∷ []) more more_spellings more_firsts grown
+pushed rows more spellings more_spellings firsts more_firsts places grown fields place number table spelled how adds next is =
+    subst (λ all. Added (shown rows places ++ fields ∷ []) more more_spellings more_firsts all) (sym is)
+    (added rows more spellings more_spellings firsts more_firsts places fields place number table spelled how adds next)
+
+-- ---- one record less
+
+-- a table without its last entry, whose record another entry has
+pub taken_back : (rows : List Record) (firsts before : List ℕ) (place : ℕ) → IsTable rows firsts (before ++ place ∷ []) → In (shown rows before) (get_or rows place []) → IsTable rows firsts before
+taken_back rows firsts before place table known = record {
+  within = within;
+  kept = record {
+    once = table.kept.once;
+    each = shown_stands rows before within;
+    only = λ x h. still x (in_append (shown rows before) (get_or rows place [] ∷ []) x (subst (λ xs. In xs x) (map-append (λ k. get_or rows k []) before (place ∷ [])) (table.kept.only x h)));
+  };
+  as_many = table.as_many;
+  firsts_are = record {
+    have = λ row inside.
+        let has = table.firsts_are.have row inside in
+        let below = early row (subst (λ n. row < n) table.as_many inside) in
+        (below, sym (get_or-append before (place ∷ []) 0 (get_or firsts row 0) below) ∙ has.1);
+    least = λ entry inside. subst (λ p. get_or firsts p 0 ≤ entry) (get_or-append before (place ∷ []) 0 entry inside) (table.firsts_are.least entry (omega (arith, inside, longer ℕ before place)));
+  };
+}
+  where
+    within : All (λ k. k < length rows) before
+    within = all_before (λ k. k < length rows) before (place ∷ []) table.within
+
+    still : (x : Record) → In (shown rows before) x ⊎ In (get_or rows place [] ∷ []) x → In (shown rows before) x
+    still x (inl h) = h
+    still x (inr (inl e)) = subst (In (shown rows before)) e known
+    still x (inr (inr h)) = absurd h
+
+    -- the first entry of a row is before the last
+    early : (row : ℕ) → row < length rows → get_or firsts row 0 < length before
+    early row inside =
+        let x = get_or rows row [] in
+        let found = in_index (shown rows before) x [] (still x (in_append (shown rows before) (get_or rows place [] ∷ []) x
+        (subst (λ xs. In xs x) (map-append (λ k. get_or rows k []) before (place ∷ [])) (table.kept.only x (in_get rows row [] inside))))) in
+        let at : found.0 < length before = (let size = long_shown rows before in let h = found.1.0 in omega (arith, size, h)) in
+        let one : get_or before found.0 0 ≡ row = same_place rows table.kept.once (get_or before found.0 0) row (within found.0 0 at) inside (sym (in_shown rows before found.0 at) ∙ found.1.1) in
+        let low = subst (λ p. get_or firsts p 0 ≤ found.0) (get_or-append before (place ∷ []) 0 found.0 at ∙ one) (table.firsts_are.least found.0 (omega (arith, at, longer ℕ before place))) in
+        omega (arith, low, at)
 
 -- a spelling that has no place is added
 pub added_last : (spellings more : List (List ℕ)) (t : List ℕ) (added : Bool) → place_of spellings t ≡ None → added ≡ not (has_text spellings t) → more ≡ (if added then spellings ++ t ∷ [] else spellings) → more ≡ spellings ++ t ∷ []

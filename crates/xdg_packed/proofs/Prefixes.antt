@@ -5,7 +5,7 @@ use Rattle.std.specs.Prelude.{codes}
 use Rattle.xdg_domain.specs.declared.values.Value.{Value, out-Value, roll-Value, out-roll-Value, map-Value, fold_out-Value}
 use Rattle.xdg_domain.specs.declared.values.Value.TheOpen.{Value-F}
 use Rattle.xdg_domain.specs.declared.values.Value.TheFolds.{ind-Value}
-use Rattle.xdg_packed.specs.Spelling.{number, each, numbers, keyed, text, layer, truth, spelling, spelling_of_fields, spelling_of_entry}
+use Rattle.xdg_packed.specs.Spelling.{number, each, numbers, keyed, text, layer, truth, spelling, spelling_of_fields}
 use Rattle.xdg_packed.proofs.Digits.{heads, tails, apart, number_told}
 use Rattle.xdg_domain.proofs.JoinLaws.{same_out}
 
@@ -57,6 +57,10 @@ text_told t u r s e =
 
 numbers_told : (ns : List ℕ) → Told numbers ns
 numbers_told ns = list_told number ns (each_of_all number (λ n m r s e. number_told n m r s e) ns)
+
+-- the spelling of numbers tells them
+pub numbers_alone : (ns ms : List ℕ) → numbers ns ≡ numbers ms → ns ≡ ms
+numbers_alone ns ms e = (numbers_told ns ms [] [] (ap (λ l. l ++ []) e)).0
 
 cards_told : (entries : List (ℕ × List ℕ)) → EachTold (λ entry. number entry.0 ++ numbers entry.1) entries
 cards_told [] = tt
@@ -151,7 +155,3 @@ record_told xs =
 
 pub fields_told : (xs ys : List (ℕ × Value)) → spelling_of_fields xs ≡ spelling_of_fields ys → xs ≡ ys
 fields_told xs ys e = (record_told xs ys [] [] (ap (λ l. l ++ []) e)).0
-
--- and each entry
-pub entry_told : (xs ys : List (List (ℕ × Value))) → spelling_of_entry xs ≡ spelling_of_entry ys → xs ≡ ys
-entry_told xs ys e = (list_told spelling_of_fields xs (each_of_all spelling_of_fields record_told xs) ys [] [] (ap (λ l. l ++ []) e)).0

@@ -1,5 +1,5 @@
 -- The places of words, while further ones are added.
-use Rattle.std.proofs.Common.{◌≡◌, ℕ, suc, ◌+◌, ◌<◌, Bool, true, false, cond, ◌||◌, not, if◌then◌else◌, List, [], ◌∷◌, ◌++◌, length, get_or, map, take, filter, refl, sym, ap, ap₂, subst, inl, inr, ◌∙◌, arith, Some, None, true≢false, slice_set, All}
+use Rattle.std.proofs.Common.{◌≡◌, ℕ, suc, ◌+◌, ◌<◌, Bool, true, false, cond, ◌||◌, not, if◌then◌else◌, List, [], ◌∷◌, ◌++◌, length, get_or, map, take, filter, refl, sym, ap, ap₂, subst, inl, inr, ◌∙◌, arith, Some, None, true≢false, slice_set}
 use Rattle.std.specs.Prelude.{Option, Result, OnOk, bytes_eq, option_map}
 use Rattle.std.specs.List.{range_with_len}
 use Rattle.std.proofs.Math.Bool.{or-false}
@@ -11,7 +11,7 @@ use Rattle.std.proofs.lemmas.Slice.Eq.{bytes_eq-Decides}
 use Rattle.xdg_base.specs.declared.ids.EntryNo.{EntryNo}
 use Rattle.xdg_names.specs.Texts.{has_text, place_of, AllDiffer}
 use Rattle.xdg_names.proofs.Texts.{has_text-append, place_of-Some, place_of-None, AllDiffer-append, stands-has_text}
-use Rattle.xdg_packed.specs.Lexicon.{Record, Entry, number, places_of, numbers_of, said_in, word_of}
+use Rattle.xdg_packed.specs.Lexicon.{Entry, number, places_of, numbers_of, word_of}
 use Rattle.xdg_packed.specs.Words.{IsWordIndex}
 use Rattle.xdg_packed.proofs.Packs.{added_last}
 use Rattle.xdg_facts.proofs.Numbers.{plus_one}
@@ -93,7 +93,7 @@ module _ (said : List (List ℕ)) (last : List ℕ) where
   same_word word is = numbers_more said last word ∙ ap (λ b. before word ++ cond b (number (length said) ∷ []) []) is
 
   -- each other word keeps its numbers
-  other_word : (word : List ℕ) → bytes_eq last word ≡ false → after word ≡ before word
+  pub other_word : (word : List ℕ) → bytes_eq last word ≡ false → after word ≡ before word
   other_word word is = numbers_more said last word ∙ ap (λ b. before word ++ cond b (number (length said) ∷ []) []) is ∙ append-nil (before word)
 
   differs : (a b : List ℕ) → bytes_eq a b ≡ false → bytes_eq b a ≡ false
@@ -218,17 +218,19 @@ new_pushed words more numbers grown last entry added first found one pushed is e
     subst (λ ws. IsWordIndex (said ++ last ∷ []) ws grown) (sym more_is)
     (subst (λ ns. IsWordIndex (said ++ last ∷ []) (words ++ last ∷ []) ns) (sym grown_is) (new_word said last words numbers index found))
 
-pub index_next : (dim field : ℕ) (entries : List Entry) (i : ℕ) (entry held : Entry) (fields : Record) (word : List ℕ) (words more : List (List ℕ)) (numbers grown : List (List EntryNo)) → i < length entries → All (λ e. dim < length e) entries
-    → entry ≡ get_or entries i entry → held ≡ entry → fields ≡ get_or held dim fields → word ≡ said_in fields field
+pub index_next : (dim field : ℕ) (entries : List Entry) (i : ℕ) (entry held : Entry) (word : List ℕ) (words more : List (List ℕ)) (numbers grown : List (List EntryNo)) → i < length entries
+    → entry ≡ get_or entries i entry → held ≡ entry → word ≡ word_of dim field held
     → ((before : List (List ℕ)) → i ≡ length before → IsWordIndex before words numbers → IsWordIndex (before ++ word ∷ []) more grown)
     → IsWordIndex (map (word_of dim field) (take i entries)) words numbers → IsWordIndex (map (word_of dim field) (take (i + 1) entries)) more grown
-index_next dim field entries i entry held fields word words more numbers grown within wide is lent own told step index =
-    let inside : dim < length held = subst (λ e. dim < length e) (sym (lent ∙ is)) (wide i entry within) in
-    let whole : fields ≡ get_or entry dim [] = own ∙ any_default held dim fields [] inside ∙ ap (λ e. get_or e dim []) lent in
+index_next dim field entries i entry held word words more numbers grown within is lent told step index =
     let size : i ≡ length (map (word_of dim field) (take i entries)) = sym (length-map (take i entries) (word_of dim field) ∙ length-take-le i entries (omega (arith, within))) in
     subst (λ said. IsWordIndex said more grown)
-    (ap (λ w. map (word_of dim field) (take i entries) ++ w ∷ []) (told ∙ ap (λ f. said_in f field) whole) ∙ sym (words_more dim field entries i entry within (sym is)))
+    (ap (λ w. map (word_of dim field) (take i entries) ++ w ∷ []) (told ∙ ap (word_of dim field) lent) ∙ sym (words_more dim field entries i entry within (sym is)))
     (step (map (word_of dim field) (take i entries)) size index)
+
+-- as many lists as words
+pub as_many : (said words : List (List ℕ)) (numbers : List (List EntryNo)) → IsWordIndex said words numbers → length numbers ≡ length words
+as_many said words numbers index = ap length index.numbered ∙ length-map words (numbers_of said)
 
 -- as many lists as words, still
 pub still_as_many : (words more : List (List ℕ)) (last : List ℕ) (added : Bool) (count grown : ℕ) → place_of words last ≡ None → added ≡ not (has_text words last) → more ≡ (if added then words ++ last ∷ [] else words) → count ≡ length words → grown ≡ count + 1 → grown ≡ length more

@@ -3,6 +3,7 @@ pub mod Lexicon
 pub mod Packing
 pub mod Rows
 pub mod Spelling
+pub mod Tables
 pub mod Words
 pub mod Entries
 pub mod WordFields

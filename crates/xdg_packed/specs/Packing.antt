@@ -1,9 +1,12 @@
--- Packed lexicons.
-use Rattle.std.specs.Prelude.{◌≡◌, ℕ, ◌≤◌, ◌-◌, ◌^◌, List, [], length, get_or, map, All}
+-- Packed lexicons, and lexicons while they are packed.
+use Rattle.std.specs.Prelude.{◌≡◌, ◌⊎◌, ℕ, ◌≤◌, ◌-◌, ◌^◌, List, [], ◌∷◌, ◌++◌, length, get_or, map, All}
 use Rattle.std.specs.List.{range_with_len}
 use Rattle.xdg_base.specs.declared.ids.EntryNo.{EntryNo}
-use Rattle.xdg_packed.specs.Lexicon.{Record, Entry, Lexicon, HasWord, AreAsLong, columns, words_of, CountsRows}
+use Rattle.xdg_packed.specs.Lexicon.{Entry, Lexicon, HasWord, AreAsLong, columns, words_of, CountsRows}
+use Rattle.xdg_packed.specs.Tables.{records, no_table, IsRight, AreTables, AreKeys}
 use Rattle.xdg_packed.specs.Words.{IsWordIndex}
+use Rattle.xdg_packed.specs.declared.table.Table.{Table}
+use Rattle.xdg_facts.specs.Membership.{In}
 
 -- each entry has a word and as many records as the others, and there are at most 4,294,967,295 entries
 pub record IsLexicon (lexicon : Lexicon) : Type 0 where
@@ -11,13 +14,25 @@ pub record IsLexicon (lexicon : Lexicon) : Type 0 where
   pub equal : AreAsLong lexicon.entries
   pub few : length lexicon.entries ≤ 2 ^ 32 - 1
 
--- so many entries, given the records of each dimension
-abbrev pub unpacked : List (List Record) → ℕ → List Entry
-unpacked tables count = map (λ no. map (λ table. get_or table no []) tables) (range_with_len 0 count)
+-- so many entries, given the tables
+abbrev pub unpacked : List Table → ℕ → List Entry
+unpacked tables count = map (λ no. map (λ table. get_or (records table) no []) tables) (range_with_len 0 count)
 
--- The tables are the records of each dimension, the index is that of the words, and the rows are counted.
-pub record IsPacked (lexicon : Lexicon) (tables : List (List Record)) (rows : ℕ) (words : List (List ℕ)) (numbers : List (List EntryNo)) : Type 0 where
+-- The tables are those of the records of each dimension, the index is that of the words, and the rows are counted.
+pub record IsPacked (lexicon : Lexicon) (tables : List Table) (rows : ℕ) (words : List (List ℕ)) (numbers : List (List EntryNo)) : Type 0 where
   pub right : IsLexicon lexicon
-  pub tables_are : tables ≡ columns lexicon.entries
-  pub counted : CountsRows tables rows
+  pub tables_right : (dim : ℕ) → IsRight (get_or tables dim no_table)
+  pub tables_are : map records tables ≡ columns lexicon.entries
+  pub counted : CountsRows (map records tables) rows
   pub indexed : IsWordIndex (words_of lexicon) words numbers
+
+-- The lexicon so far is packed, the spellings are those of the rows of the tables, and each entry has its key, all different.
+pub record IsPacking (lexicon : Lexicon) (tables : List Table) (spellings : List (List (List ℕ))) (rows : ℕ) (words : List (List ℕ))
+    (numbers : List (List EntryNo)) (keys : List (List ℕ)) : Type 0 where
+  pub packed : IsPacked lexicon tables rows words numbers
+  pub spelled : AreTables tables spellings
+  pub keyed : AreKeys tables keys (length lexicon.entries)
+
+-- how an entry changes a list: it stood there, or it goes last
+abbrev pub Puts : List Entry → Entry → List Entry → Type 0
+Puts before e after = (In before e × (after ≡ before)) ⊎ ((In before e → ⊥) × (after ≡ before ++ e ∷ []))

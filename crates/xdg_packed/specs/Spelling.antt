@@ -54,7 +54,3 @@ spelling value = fold-Value (List ℕ) layer value
 -- a record
 abbrev pub spelling_of_fields : List (ℕ × Value) → List ℕ
 spelling_of_fields fields = keyed spelling fields
-
--- an entry
-abbrev pub spelling_of_entry : List (List (ℕ × Value)) → List ℕ
-spelling_of_entry entry = each spelling_of_fields entry

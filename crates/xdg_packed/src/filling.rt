@@ -12,7 +12,7 @@ ghost use Rattle.xdg_packed.specs.Filled as spec;
 ghost use Rattle.xdg_domain.specs.Joined.{of_map};
 ghost use Rattle.xdg_packed.specs.Filled.{Lacks, IsSaid, AreValuesOf, AreSaid};
 
-use std::alloc::{AllocError, Global};
+use std::alloc::Global;
 use xdg_base::{List, OutOfMemory, Text};
 use xdg_domain::{CardMap, CardSet, Ty, Value, count, default_of, has_few_parts};
 
@@ -91,7 +91,7 @@ fn said_or_default(
 }
 
 /// What is said of each key, or the number 0 alone.
-fn filled_valency(alloc: Global, keys: u8, said: Option<&Value>) -> Result<CardMap, AllocError>
+fn filled_valency(alloc: Global, keys: u8, said: Option<&Value>) -> Result<CardMap, OutOfMemory>
     ensures { IfOk result (λ made. made ≡ spec.filled_cards keys (spec.cards_said (option_copied said.entry))) }
 {
     let mut all = CardMap::none(alloc);

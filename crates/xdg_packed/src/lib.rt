@@ -5,12 +5,15 @@
 
 mod filling;
 mod packed;
+mod packing;
 mod spelling;
 mod table;
+mod tables;
 mod word;
 mod words;
 
 pub use filling::fill;
 pub use packed::{EntryView, Packed, pack};
-pub use spelling::spell_entry;
+pub use packing::Packing;
 pub use word::word_place;
+pub use words::text_at;

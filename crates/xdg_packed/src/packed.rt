@@ -1,10 +1,11 @@
 //! A packed lexicon.
 
 ghost use Rattle.std.specs.Prelude.{◌≡◌, ℕ, ◌<◌, ◌≤◌, ◌-◌, ◌^◌, [], length, get_or, All, IfOk};
-ghost use Rattle.xdg_packed.specs.Lexicon.{width, columns, AreAsLong, HasWord, words_of, numbers_of, CountsRows, IsFirstAlike};
+ghost use Rattle.xdg_packed.specs.Lexicon.{columns, AreAsLong, HasWord, words_of, numbers_of, CountsRows, IsFirstAlike};
 ghost use Rattle.xdg_packed.specs.Packing.{IsLexicon};
 
-use crate::table::Table;
+use crate::table::{Table, copy_of};
+use crate::tables::tables_of;
 use crate::words::{WordIndex, index_words};
 use std::alloc::Global;
 use std::marker::Model;
@@ -15,15 +16,18 @@ use xdg_domain::{Entry, Fields};
 /// field at which each of them says its word. Each different record of a dimension is kept once.
 #[derive(Debug, Drop)]
 pub struct Packed {
-    dim: usize,
-    field: usize,
-    // How many entries there are.
-    count: usize,
-    // How many different records there are, those of each dimension counted by themselves.
-    rows: usize,
-    // What the entries say in each dimension.
-    tables: List<Table>,
-    index: WordIndex,
+    /// The place of the dimension.
+    pub(crate) dim: usize,
+    /// The place of the field.
+    pub(crate) field: usize,
+    /// How many entries there are.
+    pub(crate) count: usize,
+    /// How many different records there are, those of each dimension counted by themselves.
+    pub(crate) rows: usize,
+    /// What the entries say in each dimension.
+    pub(crate) tables: Vec<Table>,
+    /// The words of the entries.
+    pub(crate) index: WordIndex,
 }
 
 impl Model for Packed {
@@ -36,10 +40,10 @@ impl Model for Packed {
 
     ghost coded = { Prim.hlevel (codes, value.the_row.coded) };
 
-    ghost view = { λ packed. record { entries = unpacked packed.tables packed.count; dim = packed.dim; field = packed.field } };
+    ghost view = { λ packed. record { entries = unpacked packed.tables.items packed.count; dim = packed.dim; field = packed.field } };
 
-    ghost invariant = { λ packed. IsPacked (record { entries = unpacked packed.tables packed.count; dim = packed.dim; field = packed.field })
-        packed.tables packed.rows packed.index.words packed.index.numbers };
+    ghost invariant = { λ packed. IsPacked (record { entries = unpacked packed.tables.items packed.count; dim = packed.dim; field = packed.field })
+        packed.tables.items packed.rows packed.index.words packed.index.numbers.items };
 }
 
 /// One entry of a packed lexicon, seen as the list of its records.
@@ -78,47 +82,17 @@ pub fn pack(
     requires few { length entries.now ≤ 2 ^ 32 - 1 }
     ensures { IfOk result (λ packed. packed ≡ record { entries = entries.now; dim = dim; field = field }) }
 {
-    let (tables, rows) = tables_of(alloc, entries)?;
+    let tables = tables_of(alloc, entries)?;
+    let rows = tables.rows()?;
     let index = index_words(alloc, dim, field, entries)?;
     Ok(Packed {
         dim,
         field,
         count: entries.len(),
         rows,
-        tables,
+        tables: tables.tables,
         index,
     })
-}
-
-/// What the entries say in each dimension, and how many different records there are. More than a `usize` counts don't fit the
-/// memory.
-fn tables_of(alloc: Global, entries: &[Entry]) -> Result<(List<Table>, usize), OutOfMemory>
-    requires equal { AreAsLong entries.now }
-    requires few { length entries.now ≤ 2 ^ 32 - 1 }
-    ensures tables { IfOk result (λ made. made.0 ≡ columns entries.now) }
-    ensures rows { IfOk result (λ made. CountsRows made.0 made.1) }
-{
-    let mut tables = List::new(alloc);
-    let mut rows = 0usize;
-    for dim in 0..width_of(entries) {
-        let table = Table::of(alloc, entries, dim)?;
-        match rows.checked_add(table.rows()) {
-            None => return Err(OutOfMemory),
-            Some(sum) => rows = sum,
-        }
-        tables.push(table)?;
-    }
-    Ok((tables, rows))
-}
-
-/// How many records the first entry has, and 0 where there is no entry.
-fn width_of(entries: &[Entry]) -> usize
-    ensures { result ≡ width entries.now }
-{
-    match entries.first() {
-        None => 0,
-        Some(entry) => entry.len(),
-    }
 }
 
 impl Packed {
@@ -157,10 +131,7 @@ impl Packed {
     pub fn of_word(&self, word: &str) -> &[EntryNo]
         ensures { result.now ≡ numbers_of (words_of self.now) word.now }
     {
-        match self.index.words.find(word) {
-            None => &[],
-            Some(place) => self.index.numbers.as_slice()[place].as_slice(),
-        }
+        self.index.of(word)
     }
 
     /// The number of different records, those of each dimension counted by themselves. That many are kept.
@@ -169,6 +140,29 @@ impl Packed {
         ensures only { (count : ℕ) → CountsRows (columns self.now.entries) count → count ≡ result }
     {
         self.rows
+    }
+
+    /// The entries, each with its records, as a list of their own. The time is linear in what they say.
+    pub fn entries(&self, alloc: Global) -> Result<List<Entry>, OutOfMemory>
+        ensures { IfOk result (λ made. made ≡ self.now.entries) }
+    {
+        let mut made = List::new(alloc);
+        for number in 0..self.count {
+            made.push(self.copy_of_entry(alloc, number)?)?;
+        }
+        Ok(made)
+    }
+
+    /// A copy of the entry with that number.
+    fn copy_of_entry(&self, alloc: Global, number: usize) -> Result<Entry, OutOfMemory>
+        requires { number < length self.now.entries }
+        ensures { IfOk result (λ made. made ≡ get_or self.now.entries number []) }
+    {
+        let mut made = List::new(alloc);
+        for table in self.tables.as_slice() {
+            made.push(copy_of(alloc, table.record(number))?)?;
+        }
+        Ok(made)
     }
 
     /// What an entry says in a dimension.

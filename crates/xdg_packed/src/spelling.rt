@@ -1,29 +1,14 @@
 //! Values as texts, so that different values have different texts, and values can be looked up as texts are.
 
-ghost use Rattle.std.specs.Prelude.{◌≡◌, ◌+◌, ◌%◌, List, [], ◌∷◌, ◌++◌, IfOk, OnOk};
-ghost use Rattle.xdg_packed.specs.Lexicon.{Record};
+ghost use Rattle.std.specs.Prelude.{◌≡◌, ◌+◌, ◌%◌, [], ◌∷◌, ◌++◌, IfOk, OnOk};
 ghost use Rattle.xdg_packed.specs.Spelling as spec;
 
-use std::alloc::{AllocError, Global};
-use xdg_base::Text;
+use std::alloc::Global;
+use xdg_base::{OutOfMemory, Text};
 use xdg_domain::{CardMap, CardSet, Fields, Value};
 
-/// The text that spells an entry. Different entries have different texts. The time is linear in what the entry says.
-pub fn spell_entry(alloc: Global, entry: &[Fields]) -> Result<Text, AllocError>
-    ensures spelled { IfOk result (λ made. made ≡ spec.spelling_of_entry entry.now) }
-    ensures told { IfOk result (λ made. (other : List Record) → spec.spelling_of_entry other ≡ made → other ≡ entry.now) }
-{
-    let mut out = Text::new(alloc);
-    for fields in entry {
-        out.push_str(",")?;
-        push_fields(&mut out, fields)?;
-    }
-    out.push_str(";")?;
-    Ok(out)
-}
-
 /// The text that spells a record.
-pub(crate) fn spell_fields(alloc: Global, fields: &Fields) -> Result<Text, AllocError>
+pub(crate) fn spell_fields(alloc: Global, fields: &Fields) -> Result<Text, OutOfMemory>
     ensures { IfOk result (λ made. made ≡ spec.spelling_of_fields fields.now) }
 {
     let mut out = Text::new(alloc);
@@ -32,7 +17,7 @@ pub(crate) fn spell_fields(alloc: Global, fields: &Fields) -> Result<Text, Alloc
 }
 
 /// Adds the spelling of a record.
-fn push_fields(out: &mut Text, fields: &Fields) -> Result<(), AllocError>
+fn push_fields(out: &mut Text, fields: &Fields) -> Result<(), OutOfMemory>
     ensures { OnOk result (out.new ≡ out.old ++ spec.spelling_of_fields fields.now) }
 {
     for field in fields.as_slice() {
@@ -45,7 +30,7 @@ fn push_fields(out: &mut Text, fields: &Fields) -> Result<(), AllocError>
 
 /// Adds the spelling of a value: a mark of its variant, and what it holds.
 #[cycle(spell)]
-fn push_value(out: &mut Text, value: &Value) -> Result<(), AllocError>
+fn push_value(out: &mut Text, value: &Value) -> Result<(), OutOfMemory>
     ensures { OnOk result (out.new ≡ out.old ++ spec.spelling value.now) }
 {
     match value {
@@ -114,7 +99,7 @@ fn digit_of(holds: bool) -> &'static str
 
 /// Adds the spelling of a number: its binary digits, the lowest first, and a full stop.
 #[tactic(auto, using(crate::proofs::Writing::digit_written, crate::proofs::Writing::stop_written))]
-fn push_number(out: &mut Text, number: u64) -> Result<(), AllocError>
+pub(crate) fn push_number(out: &mut Text, number: u64) -> Result<(), OutOfMemory>
     ensures { OnOk result (out.new ≡ out.old ++ spec.number number) }
 {
     let mut rest = number;
@@ -136,7 +121,7 @@ fn lowest_digit(number: u64) -> &'static str
 }
 
 /// Adds the spelling of numbers: a comma before each, and a semicolon at the end.
-fn push_numbers(out: &mut Text, all: &[u16]) -> Result<(), AllocError>
+fn push_numbers(out: &mut Text, all: &[u16]) -> Result<(), OutOfMemory>
     ensures { OnOk result (out.new ≡ out.old ++ spec.numbers all.now) }
 {
     for number in all {
@@ -147,7 +132,7 @@ fn push_numbers(out: &mut Text, all: &[u16]) -> Result<(), AllocError>
 }
 
 /// Adds the spelling of the numbers of a cardinality.
-fn push_cards(out: &mut Text, cards: &CardSet) -> Result<(), AllocError>
+fn push_cards(out: &mut Text, cards: &CardSet) -> Result<(), OutOfMemory>
     ensures { OnOk result (out.new ≡ out.old ++ spec.numbers cards.now) }
 {
     for number in cards.least()..cards.greatest() + 1 {
@@ -161,7 +146,7 @@ fn push_cards(out: &mut Text, cards: &CardSet) -> Result<(), AllocError>
 }
 
 /// Adds the spelling of cardinalities by key.
-fn push_valency(out: &mut Text, map: &CardMap) -> Result<(), AllocError>
+fn push_valency(out: &mut Text, map: &CardMap) -> Result<(), OutOfMemory>
     ensures { OnOk result (out.new ≡ out.old ++ spec.keyed spec.numbers map.now) }
 {
     for entry in map.as_slice() {
@@ -173,7 +158,7 @@ fn push_valency(out: &mut Text, map: &CardMap) -> Result<(), AllocError>
 }
 
 /// Adds the spelling of a text: its length in bytes, and the text.
-fn push_text(out: &mut Text, text: &str) -> Result<(), AllocError>
+fn push_text(out: &mut Text, text: &str) -> Result<(), OutOfMemory>
     ensures { OnOk result (out.new ≡ out.old ++ spec.text text.now) }
 {
     push_number(out, text.len() as u64)?;

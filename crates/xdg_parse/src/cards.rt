@@ -81,7 +81,7 @@ pub(crate) fn card(
 }
 
 /// Whether a cardinality begins with the next token.
-#[tactic(auto, unfolding(xdg_ast::specs::Grammar::card, xdg_ast::specs::Grammar::card_kind, xdg_ast::specs::Grammar::hashed), using(crate::proofs::Sees::sees_or))]
+#[tactic(auto, using(crate::proofs::Sees::sees_or, crate::proofs::Sees::card_first))]
 pub(crate) fn begins_card(cursor: &Cursor<'_, '_>) -> bool
     ensures { result ≡ sees (grammar.card full).first cursor.now.left }
 {

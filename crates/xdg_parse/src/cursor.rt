@@ -7,10 +7,10 @@ ghost use Rattle.xdg_ast.specs.Grammar.{is_constant};
 ghost use Rattle.xdg_ast.specs.Derives.{place_of};
 ghost use Rattle.xdg_parse.specs.Steps.{Reads, Takes, Opens};
 
-use std::alloc::{AllocError, AllocFailed};
+use std::alloc::AllocFailed;
 use std::marker::Model;
 use xdg_ast::{Kind, Token};
-use xdg_base::Span;
+use xdg_base::{OutOfMemory, Span};
 
 /// Why reading stops at the next token, or at the end.
 #[derive(Clone, Copy, Debug)]
@@ -23,12 +23,12 @@ pub enum Why {
     TooDeep,
 }
 
-impl From<AllocError> for Why {
+impl From<OutOfMemory> for Why {
     ghost use Rattle.xdg_parse.specs.declared.cursor.Why.TheVariants.{Memory};
 
     ghost from_gives = { λ _ why. why ≡ Memory };
 
-    fn from(_: AllocError) -> Why {
+    fn from(_: OutOfMemory) -> Why {
         Why::Memory
     }
 }
@@ -50,7 +50,6 @@ impl<'l, 'a> Model for Cursor<'l, 'a> {
     ghost view = { λ c. record { ended = c.ended; left = lexemes_of c.left.now } };
 }
 
-#[tactic(auto, unfolding(xdg_ast::specs::Language::kind_of, xdg_ast::specs::Language::start_of, xdg_ast::specs::Language::skip, xdg_ast::specs::Language::next, xdg_ast::specs::Language::read_token))]
 impl<'l, 'a> Cursor<'l, 'a> {
     /// A cursor before the first of these tokens.
     pub fn new(tokens: &'l [Token<'a>]) -> Cursor<'l, 'a>
@@ -63,6 +62,7 @@ impl<'l, 'a> Cursor<'l, 'a> {
     }
 
     /// The kind of the next token, if there is one.
+    #[tactic(auto, unfolding(xdg_ast::specs::Language::kind_of))]
     pub fn kind(&self) -> Option<Kind>
         ensures { result ≡ spec.kind_of self.now.left }
     {
@@ -73,6 +73,7 @@ impl<'l, 'a> Cursor<'l, 'a> {
     }
 
     /// Whether the next token is of this kind.
+    #[tactic(auto, unfolding(xdg_ast::specs::Language::kind_of))]
     pub fn sees(&self, kind: Kind) -> bool
         ensures { result ≡ spec.sees (spec.is kind) self.now.left }
     {
@@ -83,6 +84,7 @@ impl<'l, 'a> Cursor<'l, 'a> {
     }
 
     /// Whether the next token is a constant.
+    #[tactic(auto, unfolding(xdg_ast::specs::Language::kind_of))]
     pub fn sees_constant(&self) -> bool
         ensures { result ≡ spec.sees is_constant self.now.left }
     {
@@ -95,6 +97,7 @@ impl<'l, 'a> Cursor<'l, 'a> {
     }
 
     /// Where the next token starts, in bytes from the start of the text, and 0 where there is none.
+    #[tactic(auto, unfolding(xdg_ast::specs::Language::start_of))]
     pub fn start(&self) -> u32
         ensures { result ≡ spec.start_of self.now.left }
     {
@@ -125,6 +128,7 @@ impl<'l, 'a> Cursor<'l, 'a> {
     }
 
     /// Goes past the next token, if there is one.
+    #[tactic(auto, unfolding(xdg_ast::specs::Language::skip))]
     pub(crate) fn skip(&mut self)
         ensures { self.new ≡ spec.skip self.old }
     {
@@ -136,6 +140,7 @@ impl<'l, 'a> Cursor<'l, 'a> {
     }
 
     /// The next token.
+    #[tactic(auto, unfolding(xdg_ast::specs::Language::next))]
     pub(crate) fn next(&mut self) -> Result<Token<'a>, Why>
         ensures { Takes (spec.next self.old) result self.new }
     {
@@ -149,6 +154,7 @@ impl<'l, 'a> Cursor<'l, 'a> {
 
     /// Goes past the next token, which is of this kind, and answers it. The error is [`Why::Unexpected`] where it is of
     /// another, or where there is none.
+    #[tactic(auto, unfolding(xdg_ast::specs::Language::read_token))]
     pub fn expect(&mut self, kind: Kind) -> Result<Token<'a>, Why>
         ensures { Takes ((spec.token (spec.is kind)).read self.old) result self.new }
     {
@@ -159,6 +165,7 @@ impl<'l, 'a> Cursor<'l, 'a> {
     }
 
     /// The next token, which is a constant.
+    #[tactic(auto, unfolding(xdg_ast::specs::Language::read_token))]
     pub(crate) fn constant(&mut self) -> Result<Token<'a>, Why>
         ensures { Takes ((spec.token is_constant).read self.old) result self.new }
     {
@@ -169,6 +176,7 @@ impl<'l, 'a> Cursor<'l, 'a> {
     }
 
     /// Goes past the next token and answers it, if it is of this kind.
+    #[tactic(auto, unfolding(xdg_ast::specs::Language::kind_of, xdg_ast::specs::Language::next, xdg_ast::specs::Language::read_token))]
     pub fn eat(&mut self, kind: Kind) -> Option<Token<'a>>
         ensures { (spec.optional (spec.token (spec.is kind))).read self.old ≡ Ok (option_map lexeme_of result, self.new) }
     {

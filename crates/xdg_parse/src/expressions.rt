@@ -120,7 +120,7 @@ fn next_prim(
     prim(alloc, params, cursor, within)
 }
 
-#[tactic(auto, unfolding(xdg_ast::specs::Grammar::next_prim, xdg_ast::specs::Grammar::prim, xdg_ast::specs::Grammar::dim, xdg_ast::specs::Grammar::use_of_class, xdg_ast::specs::Grammar::name), using(crate::proofs::Sees::sees_or))]
+#[tactic(auto, using(crate::proofs::Sees::sees_or, crate::proofs::Sees::next_prim_first))]
 fn begins_next_prim(cursor: &Cursor<'_, '_>) -> bool
     ensures { result ≡ sees (grammar.next_prim full).first cursor.now.left }
 {

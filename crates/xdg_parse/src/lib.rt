@@ -19,6 +19,6 @@ mod types;
 
 pub use cursor::{Cursor, Why};
 pub use names::{name, name_from};
-pub use parsing::parse;
+pub use parsing::{MOST_BRACKETS, parse, too_deep, unexpected};
 pub use terms::{braced_terms, term};
 pub use types::type_term;

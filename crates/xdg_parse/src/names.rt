@@ -7,13 +7,13 @@ ghost use Rattle.xdg_ast.specs.Grammar.{under, name_of};
 ghost use Rattle.xdg_parse.specs.Steps.{Reads};
 
 use crate::cursor::{Cursor, Why};
-use std::alloc::{AllocError, Global};
+use std::alloc::Global;
 use xdg_ast::{Kind, Name, Num, Params, Token};
-use xdg_base::List;
+use xdg_base::{List, OutOfMemory};
 use xdg_lex::{content, value};
 
 /// The name that a constant is. The error is want of memory.
-pub fn name_from(alloc: Global, token: &Token) -> Result<Name, AllocError>
+pub fn name_from(alloc: Global, token: &Token) -> Result<Name, OutOfMemory>
     ensures { IfOk result (λ name. name ≡ name_of (lexeme_of token.now)) }
 {
     let text = content(alloc, token)?;

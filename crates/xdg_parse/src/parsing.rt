@@ -15,22 +15,18 @@ use std::alloc::Global;
 use xdg_ast::{Grammar, Token};
 use xdg_base::{Cause, Fault, List, Stop};
 
-/// How many brackets may be open at a time.
-const MOST_BRACKETS: u32 = 64;
+/// How many brackets may be open at a time, in a grammar text and in any other that is read by a [`Cursor`].
+pub const MOST_BRACKETS: u32 = 64;
 
-/// Nothing goes on with what stands at a place.
-fn unexpected(at: u32) -> Stop
+/// The refusal at a place with which nothing goes on: [`Cause::Unexpected`].
+pub fn unexpected(at: u32) -> Stop
     ensures { result ≡ stops.Fault (record { cause = causes.Unexpected; at = at; reached = 0 }) }
 {
-    Stop::Fault(Fault {
-        cause: Cause::Unexpected,
-        at,
-        reached: 0,
-    })
+    Stop::Fault(Fault::at(Cause::Unexpected, at))
 }
 
-/// A bracket at a place is one too many.
-fn too_deep(at: u32) -> Stop
+/// The refusal of a bracket at a place that is one too many: [`Cause::TooDeep`].
+pub fn too_deep(at: u32) -> Stop
     ensures { result ≡ stops.Fault (record { cause = causes.TooDeep; at = at; reached = 65 }) }
 {
     Stop::Fault(Fault {

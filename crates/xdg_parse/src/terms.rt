@@ -4,20 +4,21 @@ ghost use Rattle.std.specs.Prelude.{◌≡◌, IfOk, []};
 ghost use Rattle.xdg_ast.specs.Lexemes.{lexeme_of};
 ghost use Rattle.xdg_ast.specs.Language.{sees, full};
 ghost use Rattle.xdg_ast.specs.Grammar as grammar;
-ghost use Rattle.xdg_ast.specs.Grammar.{under};
+ghost use Rattle.xdg_ast.specs.Grammar.{under, in_braces};
 ghost use Rattle.xdg_parse.specs.Steps.{Reads};
+ghost use Rattle.xdg_parse.specs.Parts.{giving};
 
 use crate::cards::{begins_card, card};
 use crate::cursor::{Cursor, Why};
 use crate::generators::generator;
 use crate::names::{bracketed_names, name, name_from};
-use std::alloc::{AllocError, Global};
-use xdg_ast::{Elem, ElemKind, Kind, Pair, Params, Term, TermKind, Token};
-use xdg_base::{Boxed, List};
+use std::alloc::Global;
+use xdg_ast::{Elem, ElemKind, Kind, Name, Pair, Params, Term, TermKind, Token};
+use xdg_base::{Boxed, List, OutOfMemory};
 use xdg_lex::value;
 
 /// A parameter of the class, if the token is a name of one, and else a constant.
-fn named(alloc: Global, params: &Params, token: &Token) -> Result<TermKind, AllocError>
+fn named(alloc: Global, params: &Params, token: &Token) -> Result<TermKind, OutOfMemory>
     ensures { IfOk result (λ kind. kind ≡ grammar.named params.now (lexeme_of token.now)) }
 {
     let name = name_from(alloc, token)?;
@@ -27,8 +28,25 @@ fn named(alloc: Global, params: &Params, token: &Token) -> Result<TermKind, Allo
     Ok(TermKind::Const(name))
 }
 
+/// Elements in braces, in the order of the text.
 #[cycle(term)]
-#[tactic(auto, unfolding(xdg_ast::specs::Grammar::term_kind, xdg_ast::specs::Grammar::under, xdg_ast::specs::Grammar::inside, xdg_ast::specs::Grammar::card, xdg_ast::specs::Grammar::bracketed_names))]
+#[tactic(auto, unfolding(xdg_ast::specs::Grammar::under, xdg_ast::specs::Grammar::inside))]
+fn braced_elems(
+    alloc: Global,
+    params: &Params,
+    cursor: &mut Cursor<'_, '_>,
+    within: u32,
+) -> Result<List<Elem>, Why>
+    ensures { Reads ((in_braces (under params.now within) (λ j. j.elems)).read cursor.old) result cursor.new }
+{
+    let inner = cursor.open(Kind::LeftBrace, within)?;
+    let elems = elems(alloc, params, cursor, inner)?;
+    cursor.expect(Kind::RightBrace)?;
+    Ok(elems)
+}
+
+#[cycle(term)]
+#[tactic(auto, unfolding(xdg_ast::specs::Grammar::term_kind, xdg_ast::specs::Grammar::bracketed_names))]
 fn term_kind(
     alloc: Global,
     params: &Params,
@@ -42,10 +60,7 @@ fn term_kind(
         return Ok(TermKind::Number(value(&token)));
     }
     if cursor.sees(Kind::LeftBrace) {
-        let inner = cursor.open(Kind::LeftBrace, within)?;
-        let elems = elems(alloc, params, cursor, inner)?;
-        cursor.expect(Kind::RightBrace)?;
-        return Ok(TermKind::Braces(elems));
+        return Ok(TermKind::Braces(braced_elems(alloc, params, cursor, within)?));
     }
     if cursor.sees(Kind::LeftBracket) {
         return Ok(TermKind::Tuple(bracketed_names(alloc, params, cursor, within)?));
@@ -80,8 +95,31 @@ pub fn term(
     })
 }
 
+/// What an element is, of which the constant was read.
 #[cycle(term)]
-#[tactic(auto, unfolding(xdg_ast::specs::Grammar::elem_kind, xdg_ast::specs::Grammar::elem_tail, xdg_ast::specs::Grammar::bracketed_names, xdg_ast::specs::Grammar::card, xdg_ast::specs::Grammar::card_kind, xdg_ast::specs::Grammar::hashed, xdg_ast::specs::Grammar::name))]
+#[tactic(auto, unfolding(xdg_ast::specs::Grammar::elem_tail), using(crate::proofs::Sees::card_first))]
+fn elem_tail(
+    alloc: Global,
+    params: &Params,
+    cursor: &mut Cursor<'_, '_>,
+    within: u32,
+    name: Name,
+) -> Result<ElemKind, Why>
+    ensures { Reads (giving (λ make. make name) ((grammar.elem_tail params.now (under params.now within)).read cursor.old)) result cursor.new }
+{
+    if cursor.sees(Kind::Colon) {
+        cursor.expect(Kind::Colon)?;
+        let term = term(alloc, params, cursor, within)?;
+        return Ok(ElemKind::Keyed(name, Boxed::new(alloc, term)?));
+    }
+    if begins_card(cursor) {
+        return Ok(ElemKind::Count(name, card(alloc, params, cursor, within)?));
+    }
+    Ok(ElemKind::Const(name))
+}
+
+#[cycle(term)]
+#[tactic(auto, unfolding(xdg_ast::specs::Grammar::elem_kind, xdg_ast::specs::Grammar::bracketed_names))]
 fn elem_kind(
     alloc: Global,
     params: &Params,
@@ -94,15 +132,7 @@ fn elem_kind(
         return Ok(ElemKind::Tuple(bracketed_names(alloc, params, cursor, within)?));
     }
     let name = name(alloc, cursor)?;
-    if cursor.sees(Kind::Colon) {
-        cursor.expect(Kind::Colon)?;
-        let term = term(alloc, params, cursor, within)?;
-        return Ok(ElemKind::Keyed(name, Boxed::new(alloc, term)?));
-    }
-    if begins_card(cursor) {
-        return Ok(ElemKind::Count(name, card(alloc, params, cursor, within)?));
-    }
-    Ok(ElemKind::Const(name))
+    elem_tail(alloc, params, cursor, within, name)
 }
 
 #[cycle(term)]
@@ -123,7 +153,7 @@ fn elem(
     })
 }
 
-#[tactic(auto, unfolding(xdg_ast::specs::Grammar::elem, xdg_ast::specs::Grammar::elem_kind, xdg_ast::specs::Grammar::bracketed_names, xdg_ast::specs::Grammar::name), using(crate::proofs::Sees::sees_or))]
+#[tactic(auto, using(crate::proofs::Sees::sees_or, crate::proofs::Sees::elem_first))]
 fn begins_elem(cursor: &Cursor<'_, '_>) -> bool
     ensures { result ≡ sees (grammar.elem [] full).first cursor.now.left }
 {

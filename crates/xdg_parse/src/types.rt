@@ -256,7 +256,7 @@ fn begins_plain_type(cursor: &Cursor<'_, '_>) -> bool
         || cursor.sees_constant()
 }
 
-#[tactic(auto, unfolding(xdg_ast::specs::Grammar::type_term, xdg_ast::specs::Grammar::type_kind, xdg_ast::specs::Grammar::name), using(crate::proofs::Sees::sees_or))]
+#[tactic(auto, using(crate::proofs::Sees::sees_or, crate::proofs::Sees::type_first))]
 fn begins_type(cursor: &Cursor<'_, '_>) -> bool
     ensures { result ≡ sees (grammar.type_term full).first cursor.now.left }
 {

@@ -13,9 +13,9 @@ ghost use Rattle.xdg_pgraph.specs.Allowances.{AreAllowances, AreClasses, AreRows
 use crate::bounds::Allowed;
 use crate::bundle::{Bundle, Way, argument, features_of, numbers_at};
 use crate::plane::{Plane, label_count};
-use std::alloc::{AllocError, Global};
+use std::alloc::Global;
 use std::marker::Model;
-use xdg_base::{List, NodeId};
+use xdg_base::{List, NodeId, OutOfMemory};
 use xdg_graph::entry_count;
 use xdg_problem::{Feat, Group, Parts};
 
@@ -196,7 +196,7 @@ fn add_rows(
     group: &Group,
     node: u8,
     labels: u8,
-) -> Result<(), AllocError>
+) -> Result<(), OutOfMemory>
     requires problem { IsProblem parts.now }
     requires node { node < nodes parts.now }
     requires rows { AreRows parts.now group.now labels rows.old }
@@ -235,7 +235,7 @@ impl Allowances {
     }
 
     /// The table of a use of valency.
-    pub(crate) fn of(alloc: Global, parts: &Parts, group: &Group) -> Result<Allowances, AllocError>
+    pub(crate) fn of(alloc: Global, parts: &Parts, group: &Group) -> Result<Allowances, OutOfMemory>
         requires problem { IsProblem parts.now }
         requires group { IsGroup parts.now group.now }
         requires family { IsOfFamily group.now.principle }

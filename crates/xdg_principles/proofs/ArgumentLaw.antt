@@ -1,6 +1,7 @@
 -- The offences of arguments that the pass lists are those of the rows.
 use Rattle.std.proofs.Common.{◌≡◌, inl, inr, false, List, [], ◌++◌, Option, None, Some, refl, sym, subst}
 use Rattle.std.specs.List.{flat_map}
+use Rattle.xdg_base.specs.Faults.{fault_at}
 use Rattle.xdg_base.specs.declared.faults.Cause.TheVariants as causes
 use Rattle.xdg_base.specs.declared.faults.Fault.{Fault}
 use Rattle.xdg_ast.specs.declared.names.Name.{Name}
@@ -10,22 +11,22 @@ use Rattle.xdg_names.specs.First.{Tells, first}
 use Rattle.xdg_names.proofs.First.{tells_as, first-tells}
 use Rattle.xdg_names.specs.Texts.{has_text}
 use Rattle.xdg_terms.specs.Forms.{Term}
-use Rattle.xdg_types.specs.Names.{fault_at}
 use Rattle.xdg_types.specs.NameFaults.{repeats}
 use Rattle.xdg_types.specs.Parts.{Statement}
 use Rattle.xdg_types.specs.Table.{Table}
 use Rattle.xdg_types.specs.declared.table.DimType.{DimType}
 use Rattle.xdg_types.proofs.NamesAgain.{again_sound, again_complete}
-use Rattle.xdg_principles.specs.declared.principle.Form.{Form}
-use Rattle.xdg_principles.specs.declared.principle.Parameter.{Parameter}
-use Rattle.xdg_principles.specs.declared.principle.Sort.{Sort}
-use Rattle.xdg_principles.specs.declared.principle.Which.{Which}
-use Rattle.xdg_principles.specs.declared.principle.Typing.{Typing}
-use Rattle.xdg_principles.specs.declared.principle.Wanted.{Wanted}
-use Rattle.xdg_principles.specs.declared.principle.Wanted.TheVariants as a
-use Rattle.xdg_principles.specs.Principles.{principle_named, parameters, told}
+use Rattle.xdg_problem.specs.declared.forms.Parameter.{Parameter}
+use Rattle.xdg_problem.specs.declared.forms.Sort.{Sort}
+use Rattle.xdg_problem.specs.declared.forms.Which.{Which}
+use Rattle.xdg_problem.specs.declared.forms.Typing.{Typing}
+use Rattle.xdg_problem.specs.declared.forms.Wanted.{Wanted}
+use Rattle.xdg_problem.specs.declared.forms.Wanted.TheVariants as a
+use Rattle.xdg_problem.specs.declared.parts.Principle.{Principle}
+use Rattle.xdg_problem.specs.Forms.{parameters, told}
+use Rattle.xdg_problem.specs.Names.{named}
 use Rattle.xdg_principles.specs.Uses.{Use, principle_uses}
-use Rattle.xdg_principles.specs.Settings.{Setting, Argument, Called, with_form, setting, arguments_in, labels, member_type, term_in, constant_in, listed_in, called_in}
+use Rattle.xdg_principles.specs.Settings.{Setting, Argument, Called, setting_of, setting_if, setting, arguments_in, labels, member_type, term_in, constant_in, listed_in, called_in}
 use Rattle.xdg_principles.specs.Wanted.{is_wanted}
 use Rattle.xdg_principles.specs.Arguments.{OneOffends, ArgumentOffends, has_form, truths}
 use Rattle.xdg_principles.specs.ArgumentFaults.{form_faults, type_faults, member_faults, outside, inner_faults, one_faults, setting_faults, known_faults, use_faults, argument_faults}
@@ -144,17 +145,17 @@ setting_complete s x f stands h =
     flat_map_in (one_faults s) (parameters s.form) k.0 f k.1.0 (to_one (argument s k.0) f (subst (λ (y : Argument). OneOffends y f) (sym k.1.1) h))
 
 module _ (dims : List DimType) (one : Use) where
-  form_sound : (form : Option Form) (f : Fault) → In (known_faults dims one form) f → (x : Argument) × (In (flat_map arguments_in (with_form dims one form)) x × OneOffends x f)
-  form_sound None f h = absurd h
-  form_sound (Some form) f h =
-      let s : Setting = record { dims = dims; one = one; form = form } in
+  use_sound : (principle : Option Principle) (f : Fault) → In (known_faults dims one principle) f → (x : Argument) × (In (flat_map arguments_in (setting_if dims one principle)) x × OneOffends x f)
+  use_sound None f h = absurd h
+  use_sound (Some principle) f h =
+      let s : Setting = setting_of dims one principle in
       let k = setting_sound s f h in
       (k.0, (in_left (arguments_in s) [] k.0 k.1.0, k.1.1))
 
-  form_complete : (form : Option Form) (x : Argument) (f : Fault) → In (flat_map arguments_in (with_form dims one form)) x → OneOffends x f → In (known_faults dims one form) f
-  form_complete None x f stands h = absurd stands
-  form_complete (Some form) x f stands h =
-      let s : Setting = record { dims = dims; one = one; form = form } in
+  use_complete : (principle : Option Principle) (x : Argument) (f : Fault) → In (flat_map arguments_in (setting_if dims one principle)) x → OneOffends x f → In (known_faults dims one principle) f
+  use_complete None x f stands h = absurd stands
+  use_complete (Some principle) x f stands h =
+      let s : Setting = setting_of dims one principle in
       elim (in_append (arguments_in s) [] x stands) [ inl l ↦ setting_complete s x f l h | inr z ↦ absurd z ]
 
 module _ (statements : List Statement) (table : Table) where
@@ -167,7 +168,7 @@ module _ (statements : List Statement) (table : Table) where
   sound : (f : Fault) → In (argument_faults statements dims) f → ArgumentOffends statements table f
   sound f h =
       let k = in_flat_map (use_faults dims) (principle_uses statements) f h in
-      let r = form_sound dims k.0 (principle_named k.0.name.text) f k.1.1 in
+      let r = use_sound dims k.0 (named k.0.name.text) f k.1.1 in
       let q = in_flat_map arguments_in (setting dims k.0) r.0 r.1.0 in
       (r.0, (flat_map_in arguments_in settings q.0 r.0 (flat_map_in (setting dims) (principle_uses statements) k.0 q.0 k.1.0 q.1.0) q.1.1, r.1.1))
 
@@ -176,7 +177,7 @@ module _ (statements : List Statement) (table : Table) where
       let k = in_flat_map arguments_in settings h.0 h.1.0 in
       let q = in_flat_map (setting dims) (principle_uses statements) k.0 k.1.0 in
       flat_map_in (use_faults dims) (principle_uses statements) q.0 f q.1.0
-      (form_complete dims q.0 (principle_named q.0.name.text) h.0 f (flat_map_in arguments_in (setting dims q.0) k.0 h.0 q.1.1 k.1.1) h.1.1)
+      (use_complete dims q.0 (named q.0.name.text) h.0 f (flat_map_in arguments_in (setting dims q.0) k.0 h.0 q.1.1 k.1.1) h.1.1)
 
   -- the first of the list is the first offence
   pub arguments_tell : Tells (ArgumentOffends statements table) (first (argument_faults statements dims))

@@ -7,11 +7,11 @@ use Rattle.xdg_base.specs.declared.faults.Fault.{Fault}
 use Rattle.xdg_names.specs.First.{first, earlier}
 use Rattle.xdg_names.proofs.First.{first_append, earlier-none}
 use Rattle.xdg_names.specs.Texts.{has_text}
-use Rattle.xdg_principles.specs.declared.principle.Parameter.{Parameter}
+use Rattle.xdg_problem.specs.declared.forms.Parameter.{Parameter}
 use Rattle.xdg_principles.specs.declared.building.Arg.{Arg}
 use Rattle.xdg_principles.specs.Made.{arg, args}
 use Rattle.xdg_principles.specs.Settings.{Setting}
-use Rattle.xdg_principles.specs.Principles.{key_text, told}
+use Rattle.xdg_problem.specs.Forms.{key_text, told}
 use Rattle.xdg_principles.specs.Names.{required_key}
 use Rattle.xdg_names.proofs.Texts.{has_text-append}
 

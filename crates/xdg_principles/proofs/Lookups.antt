@@ -6,8 +6,8 @@ use Rattle.xdg_names.specs.Texts.{place_of}
 use Rattle.xdg_types.specs.declared.table.DimType.{DimType}
 use Rattle.xdg_types.specs.Table.{KeepDims, firsts}
 use Rattle.xdg_principles.specs.declared.lookup.Lookup.{Lookup}
-use Rattle.xdg_principles.specs.declared.principle.Sort.{Sort}
-use Rattle.xdg_principles.specs.declared.principle.Sort.TheVariants as s
+use Rattle.xdg_problem.specs.declared.forms.Sort.{Sort}
+use Rattle.xdg_problem.specs.declared.forms.Sort.TheVariants as s
 use Rattle.xdg_principles.specs.Lent.{Knows, names_by, member_names}
 use Rattle.xdg_principles.specs.Settings.{dim_texts, labels_in, members_in, at_place}
 use Rattle.xdg_facts.specs.Membership.{Differ}

@@ -1,22 +1,24 @@
 -- The offences of names that the pass lists are those of the rules.
 use Rattle.std.proofs.Common.{◌≡◌, inl, inr, ◌⊎◌, ℕ, true, List, [], ◌++◌, Option, None, Some, refl, sym, subst}
 use Rattle.std.specs.List.{flat_map}
+use Rattle.xdg_base.specs.Faults.{fault_at}
 use Rattle.xdg_base.specs.declared.faults.Cause.TheVariants as causes
 use Rattle.xdg_base.specs.declared.faults.Fault.{Fault}
 use Rattle.xdg_ast.specs.declared.names.Name.{Name}
 use Rattle.xdg_names.specs.First.{Tells, first}
 use Rattle.xdg_names.proofs.First.{tells_as, first-tells}
 use Rattle.xdg_names.specs.Texts.{has_text}
-use Rattle.xdg_types.specs.Names.{fault_at}
 use Rattle.xdg_types.specs.NameFaults.{unknown, repeats, different}
 use Rattle.xdg_types.specs.Parts.{Statement, dim_names, used_names, keys}
 use Rattle.xdg_types.proofs.Distinct.{missing, not_there, same_known}
 use Rattle.xdg_names.proofs.Texts.{has_among, among_has}
 use Rattle.xdg_types.proofs.NamesAgain.{again_sound, again_complete}
-use Rattle.xdg_principles.specs.declared.principle.Form.{Form}
 use Rattle.xdg_principles.specs.Names.{IsForeign, IsMissing, PrincipleNameOffends, once, dim_keys, arg_keys, required_keys}
-use Rattle.xdg_principles.specs.NameFaults.{foreign, lacking, key_faults, left_out, form_faults, again, unused, use_faults, name_faults}
-use Rattle.xdg_principles.specs.Principles.{principle_named}
+use Rattle.xdg_principles.specs.NameFaults.{foreign, lacking, key_faults, left_out, principle_faults, again, unused, use_faults, name_faults}
+use Rattle.xdg_problem.specs.declared.forms.Form.{Form}
+use Rattle.xdg_problem.specs.declared.parts.Principle.{Principle}
+use Rattle.xdg_problem.specs.Forms.{form_of}
+use Rattle.xdg_problem.specs.Names.{named}
 use Rattle.xdg_principles.specs.Uses.{Use, principle_uses, values}
 use Rattle.xdg_principles.proofs.Tests.{not_among, no_text, when_some, some_when}
 use Rattle.xdg_facts.specs.Membership.{In}
@@ -66,12 +68,15 @@ module _ (statements : List Statement) where
           fault = sym e.1;
         }))))
 
-    module _ (form : Form) (known : principle_named one.name.text ≡ Some form) where
+    module _ (principle : Principle) (known : named one.name.text ≡ Some principle) where
+      abbrev form : Form
+      form = form_of principle
+
       unknown_key : (name : Name) (f : Fault) → IsForeign (dim_keys form) (keys one.dims) name ⊎ IsForeign (arg_keys form) (keys one.args) name → f ≡ fault_at causes.WrongParams name.span.start → Offends f
-      unknown_key name f is e = inr (inr (inr (inr (inl (record { one = one; stands = stands; form = form; known = known; name = name; foreign = is; fault = e })))))
+      unknown_key name f is e = inr (inr (inr (inr (inl (record { one = one; stands = stands; principle = principle; known = known; name = name; foreign = is; fault = e })))))
 
       omitted : (key : List ℕ) (f : Fault) → IsMissing (dim_keys form) (keys one.dims) key ⊎ IsMissing (required_keys form) (keys one.args) key → f ≡ fault_at causes.MissingArg one.name.span.start → Offends f
-      omitted key f is e = inr (inr (inr (inr (inr (record { one = one; stands = stands; form = form; known = known; key = key; missing = is; fault = e })))))
+      omitted key f is e = inr (inr (inr (inr (inr (record { one = one; stands = stands; principle = principle; known = known; key = key; missing = is; fault = e })))))
 
       of_foreign : (wanted : List (List ℕ)) (names : List Name) (f : Fault) → In (flat_map (foreign wanted) names) f → (name : Name) × (IsForeign wanted names name × (f ≡ fault_at causes.WrongParams name.span.start))
       of_foreign wanted names f h =
@@ -100,16 +105,16 @@ module _ (statements : List Statement) where
       of_known : (f : Fault) → In (key_faults form one ++ left_out form one) f → Offends f
       of_known f h = elim (in_append (key_faults form one) (left_out form one) f h) [ inl l ↦ of_keys f l | inr r ↦ of_left f r ]
 
-    of_form : (found : Option Form) → principle_named one.name.text ≡ found → (f : Fault) → In (form_faults one found) f → Offends f
-    of_form None e f h = elim h [ inl s ↦ inl (record { one = one; stands = stands; missing = e; fault = sym s }) | inr k ↦ absurd k ]
-    of_form (Some form) e f h = of_known form e f h
+    of_named : (found : Option Principle) → named one.name.text ≡ found → (f : Fault) → In (principle_faults one found) f → Offends f
+    of_named None e f h = elim h [ inl s ↦ inl (record { one = one; stands = stands; missing = e; fault = sym s }) | inr k ↦ absurd k ]
+    of_named (Some principle) e f h = of_known principle e f h
 
     of_use : (f : Fault) → In (use_faults defined used one) f → Offends f
-    of_use f h = elim (in_append (again one) ((flat_map (unknown defined) (values one.dims) ++ unused used one) ++ form_faults one (principle_named one.name.text)) f h) [
+    of_use f h = elim (in_append (again one) ((flat_map (unknown defined) (values one.dims) ++ unused used one) ++ principle_faults one (named one.name.text)) f h) [
       | inl a ↦ of_again f a
-      | inr r ↦ elim (in_append (flat_map (unknown defined) (values one.dims) ++ unused used one) (form_faults one (principle_named one.name.text)) f r) [
+      | inr r ↦ elim (in_append (flat_map (unknown defined) (values one.dims) ++ unused used one) (principle_faults one (named one.name.text)) f r) [
         | inl d ↦ elim (in_append (flat_map (unknown defined) (values one.dims)) (unused used one) f d) [ inl u ↦ of_unknown f u | inr u ↦ of_unused f u ]
-        | inr g ↦ of_form (principle_named one.name.text) refl f g
+        | inr g ↦ of_named (named one.name.text) refl f g
       ]
     ]
 
@@ -119,18 +124,18 @@ module _ (statements : List Statement) where
     all = use_faults defined used one
 
     from_again : (f : Fault) → In (again one) f → In all f
-    from_again f h = in_left (again one) ((flat_map (unknown defined) (values one.dims) ++ unused used one) ++ form_faults one (principle_named one.name.text)) f h
+    from_again f h = in_left (again one) ((flat_map (unknown defined) (values one.dims) ++ unused used one) ++ principle_faults one (named one.name.text)) f h
 
     from_dims : (f : Fault) → In (flat_map (unknown defined) (values one.dims) ++ unused used one) f → In all f
     from_dims f h =
-        in_right (again one) ((flat_map (unknown defined) (values one.dims) ++ unused used one) ++ form_faults one (principle_named one.name.text)) f
-        (in_left (flat_map (unknown defined) (values one.dims) ++ unused used one) (form_faults one (principle_named one.name.text)) f h)
+        in_right (again one) ((flat_map (unknown defined) (values one.dims) ++ unused used one) ++ principle_faults one (named one.name.text)) f
+        (in_left (flat_map (unknown defined) (values one.dims) ++ unused used one) (principle_faults one (named one.name.text)) f h)
 
-    from_form : (found : Option Form) → principle_named one.name.text ≡ found → (f : Fault) → In (form_faults one found) f → In all f
-    from_form found e f h =
-        in_right (again one) ((flat_map (unknown defined) (values one.dims) ++ unused used one) ++ form_faults one (principle_named one.name.text)) f
-        (in_right (flat_map (unknown defined) (values one.dims) ++ unused used one) (form_faults one (principle_named one.name.text)) f
-        (subst (λ (o : Option Form). In (form_faults one o) f) (sym e) h))
+    from_named : (found : Option Principle) → named one.name.text ≡ found → (f : Fault) → In (principle_faults one found) f → In all f
+    from_named found e f h =
+        in_right (again one) ((flat_map (unknown defined) (values one.dims) ++ unused used one) ++ principle_faults one (named one.name.text)) f
+        (in_right (flat_map (unknown defined) (values one.dims) ++ unused used one) (principle_faults one (named one.name.text)) f
+        (subst (λ (o : Option Principle). In (principle_faults one o) f) (sym e) h))
 
     again_here : (names : List Name) → In (once one) names → (f : Fault) → In (repeats [] names) f → In all f
     again_here names among f h = elim among [
@@ -149,13 +154,15 @@ module _ (statements : List Statement) where
     lacking_in at names wanted key f is e =
         flat_map_in (lacking at names) wanted key f is.0 (unless_in (has_text (texts names) key) (fault_at causes.MissingArg at) f (no_text (texts names) key is.1) (sym e))
 
-    keys_in : (form : Form) (name : Name) (f : Fault) → IsForeign (dim_keys form) (keys one.dims) name ⊎ IsForeign (arg_keys form) (keys one.args) name → f ≡ fault_at causes.WrongParams name.span.start → In (form_faults one (Some form)) f
+    keys_in : (form : Form) (name : Name) (f : Fault)
+        → IsForeign (dim_keys form) (keys one.dims) name ⊎ IsForeign (arg_keys form) (keys one.args) name → f ≡ fault_at causes.WrongParams name.span.start → In (key_faults form one ++ left_out form one) f
     keys_in form name f is e = in_left (key_faults form one) (left_out form one) f (elim is [
       | inl d ↦ in_left (flat_map (foreign (dim_keys form)) (keys one.dims)) (flat_map (foreign (arg_keys form)) (keys one.args)) f (foreign_in (dim_keys form) (keys one.dims) name f d e)
       | inr a ↦ in_right (flat_map (foreign (dim_keys form)) (keys one.dims)) (flat_map (foreign (arg_keys form)) (keys one.args)) f (foreign_in (arg_keys form) (keys one.args) name f a e)
     ])
 
-    left_in : (form : Form) (key : List ℕ) (f : Fault) → IsMissing (dim_keys form) (keys one.dims) key ⊎ IsMissing (required_keys form) (keys one.args) key → f ≡ fault_at causes.MissingArg one.name.span.start → In (form_faults one (Some form)) f
+    left_in : (form : Form) (key : List ℕ) (f : Fault)
+        → IsMissing (dim_keys form) (keys one.dims) key ⊎ IsMissing (required_keys form) (keys one.args) key → f ≡ fault_at causes.MissingArg one.name.span.start → In (key_faults form one ++ left_out form one) f
     left_in form key f is e = in_right (key_faults form one) (left_out form one) f (elim is [
       | inl d ↦ in_left (flat_map (lacking one.name.span.start (keys one.dims)) (dim_keys form)) (flat_map (lacking one.name.span.start (keys one.args)) (required_keys form)) f
           (lacking_in one.name.span.start (keys one.dims) (dim_keys form) key f d e)
@@ -183,7 +190,7 @@ module _ (statements : List Statement) where
 
   pub complete : (f : Fault) → Offends f → In (name_faults statements) f
   complete f h = elim h [
-    | inl u ↦ in_one u.one u.stands f (from_form u.one u.stands None u.missing f (inl (sym u.fault)))
+    | inl u ↦ in_one u.one u.stands f (from_named u.one u.stands None u.missing f (inl (sym u.fault)))
     | inr h₁ ↦ elim h₁ [
       | inl r ↦ in_one r.one r.stands f (again_here r.one r.stands r.names r.among f (subst (λ ns. In (repeats [] ns) f) (sym r.parts) (again_complete r.before r.name r.after [] f (inr r.earlier) (sym r.fault))))
       | inr h₂ ↦ elim h₂ [
@@ -191,8 +198,8 @@ module _ (statements : List Statement) where
         | inr h₃ ↦ elim h₃ [
           | inl u ↦ in_one u.one u.stands f (unused_in u.one u.stands u.name f u.used u.named u.missing u.fault)
           | inr h₄ ↦ elim h₄ [
-            | inl k ↦ in_one k.one k.stands f (from_form k.one k.stands (Some k.form) k.known f (keys_in k.one k.stands k.form k.name f k.foreign k.fault))
-            | inr l ↦ in_one l.one l.stands f (from_form l.one l.stands (Some l.form) l.known f (left_in l.one l.stands l.form l.key f l.missing l.fault))
+            | inl k ↦ in_one k.one k.stands f (from_named k.one k.stands (Some k.principle) k.known f (keys_in k.one k.stands (form_of k.principle) k.name f k.foreign k.fault))
+            | inr l ↦ in_one l.one l.stands f (from_named l.one l.stands (Some l.principle) l.known f (left_in l.one l.stands (form_of l.principle) l.key f l.missing l.fault))
           ]
         ]
       ]

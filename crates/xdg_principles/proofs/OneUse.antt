@@ -11,14 +11,14 @@ use Rattle.xdg_types.specs.Table.{Table}
 use Rattle.xdg_principles.specs.declared.building.Arg.{Arg}
 use Rattle.xdg_principles.specs.declared.building.Arg.TheVariants as g
 use Rattle.xdg_principles.specs.declared.building.PrincipleUse.{PrincipleUse}
-use Rattle.xdg_principles.specs.declared.principle.Parameter.{Parameter}
-use Rattle.xdg_principles.specs.declared.principle.Sort.{Sort}
-use Rattle.xdg_principles.specs.declared.principle.Sort.TheVariants as s
-use Rattle.xdg_principles.specs.declared.principle.Wanted.{Wanted}
-use Rattle.xdg_principles.specs.declared.principle.Wanted.TheVariants as a
-use Rattle.xdg_principles.specs.declared.principle.Which.{Which}
-use Rattle.xdg_principles.specs.Principles.{dims_in, parameters}
-use Rattle.xdg_principles.specs.Settings.{Setting, Called, dim_texts, dim_place, labels, term_in, constant_at, list_at, names_at}
+use Rattle.xdg_problem.specs.declared.forms.Parameter.{Parameter}
+use Rattle.xdg_problem.specs.declared.forms.Sort.{Sort}
+use Rattle.xdg_problem.specs.declared.forms.Sort.TheVariants as s
+use Rattle.xdg_problem.specs.declared.forms.Wanted.{Wanted}
+use Rattle.xdg_problem.specs.declared.forms.Wanted.TheVariants as a
+use Rattle.xdg_problem.specs.declared.forms.Which.{Which}
+use Rattle.xdg_problem.specs.Forms.{dims_in, form_of, parameters}
+use Rattle.xdg_principles.specs.Settings.{Setting, Called, setting_of, dim_texts, dim_place, labels, term_in, constant_at, list_at, names_at}
 use Rattle.xdg_principles.specs.Uses.{Use, principle_uses}
 use Rattle.xdg_principles.specs.Made.{IsMember, AreLabels, IsLabelList, IsTruth, IsArg, AreArgs, ArePlaces, IsUse, AreUses, ArePrincipleUses, or_zero, place_called, member_number, label_number, truth_of, arg, args, places, built_with, built}
 
@@ -66,16 +66,12 @@ all_places setting _ _ h = absurd h
 
 one_use : (dims : List DimType) (one : Use) (made : PrincipleUse) → IsUse dims one made → made ≡ built dims one
 one_use dims one made h =
-    let here : Setting = record { dims = dims; one = one; form = h.form } in
+    let p = made.principle in
+    let here : Setting = setting_of dims one p in
     let home : made.home ≡ or_zero (place_of (dim_texts dims) one.within.text) = sym (ap or_zero h.home) in
-    let given : made.dims ≡ places here = all_places here (dims_in h.form.dims) made.dims h.dimensions in
-    let filled : made.args ≡ args here (parameters h.form) = all_args here (parameters h.form) made.args h.arguments in
-    let same : made ≡ built_with dims one (Some h.form) =
-    ap (λ z. record { principle = z; home = made.home; dims = made.dims; args = made.args; at = made.at }) h.principle
-    ∙ ap (λ z. record { principle = one.name.text; home = z; dims = made.dims; args = made.args; at = made.at }) home
-    ∙ ap (λ z. record { principle = one.name.text; home = or_zero (place_of (dim_texts dims) one.within.text); dims = z; args = made.args; at = made.at }) given
-    ∙ ap (λ z. record { principle = one.name.text; home = or_zero (place_of (dim_texts dims) one.within.text); dims = places here; args = z; at = made.at }) filled
-    ∙ ap (λ z. record { principle = one.name.text; home = or_zero (place_of (dim_texts dims) one.within.text); dims = places here; args = args here (parameters h.form); at = z }) h.at in
+    let given : made.dims ≡ places here = all_places here (dims_in (form_of p).dims) made.dims h.dimensions in
+    let filled : made.args ≡ args here (parameters (form_of p)) = all_args here (parameters (form_of p)) made.args h.arguments in
+    let same : made ≡ built_with dims one (Some p) = λ i. record { principle = p; home = home i; dims = given i; args = filled i; at = h.at i } in
     same ∙ sym (ap (built_with dims one) h.known)
 
 all_uses : (dims : List DimType) (uses : List Use) (made : List PrincipleUse) → AreUses dims uses made → made ≡ map (built dims) uses

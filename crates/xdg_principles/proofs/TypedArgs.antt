@@ -4,6 +4,7 @@ use Rattle.std.specs.Prelude.{slice_get, option_map, if◌then◌else◌}
 use Rattle.std.proofs.lemmas.Bool.{true≢false, cases_Bool}
 use Rattle.std.proofs.lemmas.List.{length-map}
 use Rattle.std.proofs.lemmas.Option.{slice_get-map}
+use Rattle.xdg_base.specs.Faults.{fault_at}
 use Rattle.xdg_ast.specs.declared.names.Name.{Name}
 use Rattle.xdg_base.specs.declared.faults.Cause.TheVariants as causes
 use Rattle.xdg_base.specs.declared.faults.Fault.{Fault}
@@ -12,26 +13,25 @@ use Rattle.xdg_domain.specs.declared.types.Ty.{Ty}
 use Rattle.xdg_names.proofs.Texts.{place_of-Some}
 use Rattle.xdg_terms.specs.Forms.{Term, constant_of}
 use Rattle.xdg_types.specs.Kinds.{is_small}
-use Rattle.xdg_types.specs.Names.{fault_at}
 use Rattle.xdg_types.specs.Table as types
 use Rattle.xdg_types.specs.Table.{Table, typed, firsts}
 use Rattle.xdg_types.proofs.Elements.{differ_unless}
 use Rattle.xdg_principles.specs.declared.building.Arg.{Arg}
 use Rattle.xdg_principles.specs.declared.building.Arg.TheVariants as g
 use Rattle.xdg_principles.specs.declared.building.PrincipleUse.{PrincipleUse}
-use Rattle.xdg_principles.specs.declared.principle.Element.{Element}
-use Rattle.xdg_principles.specs.declared.principle.Element.TheVariants as el
-use Rattle.xdg_principles.specs.declared.principle.Parameter.{Parameter}
-use Rattle.xdg_principles.specs.declared.principle.Preset.{Preset}
-use Rattle.xdg_principles.specs.declared.principle.Preset.TheVariants as p
-use Rattle.xdg_principles.specs.declared.principle.Sort.{Sort}
-use Rattle.xdg_principles.specs.declared.principle.Sort.TheVariants as s
-use Rattle.xdg_principles.specs.declared.principle.Typing.{Typing}
-use Rattle.xdg_principles.specs.declared.principle.Typing.TheVariants as ty
-use Rattle.xdg_principles.specs.declared.principle.Wanted.{Wanted}
-use Rattle.xdg_principles.specs.declared.principle.Wanted.TheVariants as a
-use Rattle.xdg_principles.specs.declared.principle.Which.{Which}
-use Rattle.xdg_principles.specs.Principles.{preset_feature}
+use Rattle.xdg_problem.specs.declared.forms.Element.{Element}
+use Rattle.xdg_problem.specs.declared.forms.Element.TheVariants as el
+use Rattle.xdg_problem.specs.declared.forms.Parameter.{Parameter}
+use Rattle.xdg_problem.specs.declared.forms.Preset.{Preset}
+use Rattle.xdg_problem.specs.declared.forms.Preset.TheVariants as p
+use Rattle.xdg_problem.specs.declared.forms.Sort.{Sort}
+use Rattle.xdg_problem.specs.declared.forms.Sort.TheVariants as s
+use Rattle.xdg_problem.specs.declared.forms.Typing.{Typing}
+use Rattle.xdg_problem.specs.declared.forms.Typing.TheVariants as ty
+use Rattle.xdg_problem.specs.declared.forms.Wanted.{Wanted}
+use Rattle.xdg_problem.specs.declared.forms.Wanted.TheVariants as a
+use Rattle.xdg_problem.specs.declared.forms.Which.{Which}
+use Rattle.xdg_problem.specs.Forms.{preset_feature}
 use Rattle.xdg_principles.specs.Settings.{Setting, Called, dim, labels, labels_in, members, members_in, member_type, type_in, at_place, term_in, constant_at, constant_in, list_at, listed_in, names_at, called_in, called_or, called_at, called_by, if_small, type_called, fixed_by, fixed_in, shared}
 use Rattle.xdg_principles.specs.Wanted.{IsSame, IsShared, IsElement, IsSetOf, IsMapTo, IsWanted, is_wanted}
 use Rattle.xdg_principles.specs.Arguments.{OneOffends}

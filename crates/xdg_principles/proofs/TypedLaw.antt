@@ -1,6 +1,7 @@
 -- Where nothing is wrong, the uses of principles are typed.
-use Rattle.std.proofs.Common.{◌≡◌, inl, inr, ℕ, List, [], ◌∷◌, ◌++◌, map, Option, Some, Result, Ok, Err, refl, sym, ap, ◌∙◌, subst}
+use Rattle.std.proofs.Common.{◌≡◌, inl, inr, ℕ, List, [], ◌∷◌, ◌++◌, map, Option, Some, Result, Ok, Err, refl, sym, ap, subst}
 use Rattle.std.specs.Prelude.{IfOk}
+use Rattle.xdg_base.specs.Faults.{fault_at}
 use Rattle.xdg_ast.specs.declared.names.Name.{Name}
 use Rattle.xdg_base.specs.declared.faults.Cause.TheVariants as causes
 use Rattle.xdg_base.specs.declared.faults.Fault.{Fault}
@@ -8,21 +9,22 @@ use Rattle.xdg_domain.specs.Shapes.{Shape}
 use Rattle.xdg_names.specs.Texts.{place_of}
 use Rattle.xdg_types.specs.declared.table.DimType.{DimType}
 use Rattle.xdg_types.specs.Answers.{HasTable, None_of}
-use Rattle.xdg_types.specs.Names.{fault_at}
 use Rattle.xdg_types.specs.Parts.{Statement, used_names}
 use Rattle.xdg_types.specs.Table.{Table, IsTable}
 use Rattle.xdg_types.proofs.Elements.{among_or_not}
 use Rattle.xdg_principles.specs.declared.building.Arg.{Arg}
 use Rattle.xdg_principles.specs.declared.building.PrincipleUse.{PrincipleUse}
-use Rattle.xdg_principles.specs.declared.principle.Parameter.{Parameter}
-use Rattle.xdg_principles.specs.declared.principle.Which.{Which}
-use Rattle.xdg_principles.specs.Principles.{principle_named, dims_in, dim_key, parameters, told}
+use Rattle.xdg_problem.specs.declared.forms.Parameter.{Parameter}
+use Rattle.xdg_problem.specs.declared.forms.Which.{Which}
+use Rattle.xdg_problem.specs.Forms.{dims_in, dim_key, form_of, parameters, told}
+use Rattle.xdg_problem.specs.declared.forms.Form.{Form}
 use Rattle.xdg_principles.specs.Uses.{Use, principle_uses, values, under}
-use Rattle.xdg_principles.specs.Settings.{Setting, dim, dim_texts, at_place, shared}
+use Rattle.xdg_principles.specs.Settings.{Setting, setting_of, dim, dim_texts, at_place, shared}
 use Rattle.xdg_principles.specs.Names.{PrincipleNameOffends}
 use Rattle.xdg_principles.specs.Arguments.{OneOffends, ArgumentOffends}
 use Rattle.xdg_principles.specs.Made.{IsArg, AreArgs, IsUse, AreUses, ArePrincipleUses, built}
 use Rattle.xdg_principles.specs.Typed.{number_of, dim_at, IsTypedArg, AreTypedArgs, IsTypedUse, AreTypedUses}
+use Rattle.xdg_principles.proofs.Rows.{of_texts}
 use Rattle.xdg_principles.proofs.Tables.{has_dims}
 use Rattle.xdg_principles.proofs.TypedArgs.{shared_or, small_shared, fixes, typed_arg}
 use Rattle.xdg_principles.proofs.TypedPlaces.{place_in, as_many, dim_of_place, name_of_dim, place_below, used_text, used_place}
@@ -59,29 +61,32 @@ first_in first more parameter is = subst (λ (o : Option Parameter). In (told o 
 
 module _ (statements : List Statement) (table : Table) (has : HasTable statements table) (named : None_of (PrincipleNameOffends statements)) (right : None_of (ArgumentOffends statements table)) where
   module _ (types : IsTable table) (one : Use) (stands : In (principle_uses statements) one) (u : PrincipleUse) (is : IsUse table.dims one u) where
+    abbrev form : Form
+    form = form_of u.principle
+
     abbrev here : Setting
-    here = record { dims = table.dims; one = one; form = is.form }
+    here = setting_of table.dims one u.principle
 
-    one_right : (parameter : Parameter) → In (parameters is.form) parameter → (f : Fault) → OneOffends (record { setting = here; parameter = parameter }) f → ⊥
+    one_right : (parameter : Parameter) → In (parameters form) parameter → (f : Fault) → OneOffends (record { setting = here; parameter = parameter }) f → ⊥
     one_right parameter i f o =
-        right f (record { setting = here; parameter = parameter }, (stands_here statements table (has_dims statements table has) named right one stands is.form is.known parameter i, o))
+        right f (record { setting = here; parameter = parameter }, (stands_here statements table (has_dims statements table has) named right one stands u.principle is.known parameter i, o))
 
-    same_dim : (which : Which) → HasWhich is.form.dims which → dim_at table u which ≡ dim here which
-    same_dim which h = ap (at_place table.dims) (place_in here (dims_in is.form.dims) u.dims is.dimensions (number_of which) which (which_at is.form.dims which h))
+    same_dim : (which : Which) → HasWhich form.dims which → dim_at table u which ≡ dim here which
+    same_dim which h = ap (at_place table.dims) (place_in here (dims_in form.dims) u.dims is.dimensions (number_of which) which (which_at form.dims which h))
 
-    fixed : FixesShared is.form.first → (type : Shape) × (shared here ≡ Some type)
+    fixed : FixesShared form.first → (type : Shape) × (shared here ≡ Some type)
     fixed h =
-        let x = fixing is.form.first h in
-        let i = first_in is.form.first (told is.form.second ++ told is.form.third) x.parameter x.stands in
-        let arg = arg_of here (parameters is.form) u.args is.arguments x.parameter i in
+        let x = fixing form.first h in
+        let i = first_in form.first (told form.second ++ told form.third) x.parameter x.stands in
+        let arg = arg_of here (parameters form) u.args is.arguments x.parameter i in
         fixes here x.parameter (one_right x.parameter i) x.sort x.which x.wanted x.required x.stands arg.0 arg.1
 
     -- a dimension of the use is one of the table, and the text names it
     named_dim : (k : ℕ) → In u.dims k → (name : Name) × (In (values one.dims) name × (place_of (dim_texts table.dims) name.text ≡ Some k))
     named_dim k i =
-        let which = dim_of_place here (dims_in is.form.dims) u.dims is.dimensions k i in
-        let name = name_of_dim table.dims (under one.dims (dim_key is.form.dims which.0)) k which.1 in
-        (name.0, (value_under one.dims (dim_key is.form.dims which.0) name.0 name.1.0, name.1.1))
+        let which = dim_of_place here (dims_in form.dims) u.dims is.dimensions k i in
+        let name = name_of_dim table.dims (under one.dims (dim_key form.dims which.0)) k which.1 in
+        (name.0, (value_under one.dims (dim_key form.dims which.0) name.0 name.1.0, name.1.1))
 
     used_too : In table.used u.home → (k : ℕ) → In u.dims k → In table.used k
     used_too at k i =
@@ -95,16 +100,15 @@ module _ (statements : List Statement) (table : Table) (has : HasTable statement
 
     typed_use : IsTypedUse table u
     typed_use = record {
-      form = is.form;
-      known = ap principle_named is.principle ∙ is.known;
+      of_texts = of_texts one.name.text u.principle is.known;
       home = place_below table.dims one.within.text u.home is.home;
-      count = as_many here (dims_in is.form.dims) u.dims is.dimensions;
+      count = as_many here (dims_in form.dims) u.dims is.dimensions;
       dims = λ k i. (let name = named_dim k i in place_below table.dims name.0.text k name.1.1);
       used = used_too;
       shared = shared_or (shared here);
       small = small_shared here;
-      args = typed_args here table u (shared_or (shared here)) (parameters is.form) u.args is.arguments
-          (λ parameter i x h. typed_arg here parameter (one_right parameter i) table u same_dim fixed parameter.wanted refl (sound_wanted one.name.text is.form parameter is.known i) x h);
+      args = typed_args here table u (shared_or (shared here)) (parameters form) u.args is.arguments
+          (λ parameter i x h. typed_arg here parameter (one_right parameter i) table u same_dim fixed parameter.wanted refl (sound_wanted u.principle parameter i) x h);
     }
 
   -- all uses are typed

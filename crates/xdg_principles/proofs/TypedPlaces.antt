@@ -2,6 +2,7 @@
 use Rattle.std.proofs.Common.{◌≡◌, inl, inr, ℕ, zero, suc, ◌<◌, List, [], ◌∷◌, length, get_or, Option, None, Some, refl, sym, ap, ◌∙◌, arith}
 use Rattle.std.specs.Prelude.{slice_get}
 use Rattle.std.proofs.lemmas.List.{length-map, get_or-map}
+use Rattle.std.proofs.lemmas.Option.{get_or_from_slice_get}
 use Rattle.xdg_ast.specs.declared.names.Name.{Name}
 use Rattle.xdg_names.specs.Texts.{place_of}
 use Rattle.xdg_names.proofs.Texts.{place_of-Some, place_of-at}
@@ -9,9 +10,10 @@ use Rattle.xdg_types.specs.declared.table.DimType.{DimType}
 use Rattle.xdg_types.specs.Table as table
 use Rattle.xdg_types.specs.Table.{AreUsed}
 use Rattle.xdg_types.proofs.Elements.{all_differ}
-use Rattle.xdg_principles.specs.declared.principle.Which.{Which}
+use Rattle.xdg_problem.specs.declared.forms.Which.{Which}
 use Rattle.xdg_principles.specs.Settings.{Setting, dim_texts, dim_place, place_named}
 use Rattle.xdg_principles.specs.Made.{AreLabels, ArePlaces}
+use Rattle.xdg_facts.proofs.Lists.{get_within}
 use Rattle.xdg_facts.proofs.Options.{none_some, some_same}
 use Rattle.xdg_facts.specs.Membership.{In, Differ}
 use Rattle.xdg_ast.specs.Texts.{texts}
@@ -65,14 +67,15 @@ place_below dims t k h =
 
 -- ---- dimensions that are used
 
-name_at : (dims : List DimType) (k : ℕ) (dim : DimType) → k < length dims → get_or dims k dim ≡ dim → get_or (dim_texts dims) k [] ≡ dim.name
-name_at dims k dim within is = get_or-map (λ (x : DimType). x.name) dims k dim [] within ∙ ap (λ (x : DimType). x.name) is
+name_at : (dims : List DimType) (k : ℕ) (dim : DimType) → slice_get dims k ≡ Some dim → get_or (dim_texts dims) k [] ≡ dim.name
+name_at dims k dim there =
+    get_or-map (λ (x : DimType). x.name) dims k dim [] (get_within dims k dim there) ∙ ap (λ (x : DimType). x.name) (get_or_from_slice_get dims k dim dim there)
 
 -- a dimension whose place is used is named as used
 pub used_text : (dims : List DimType) (names : List Name) (ks : List ℕ) → AreUsed dims names ks → (k : ℕ) (t : List ℕ) → In ks k → place_of (dim_texts dims) t ≡ Some k → In (texts names) t
 used_text dims [] [] h k t i is = absurd i
 used_text dims (name ∷ names) (j ∷ ks) h k t i is = elim i [
-  | inl q ↦ inl (sym h.0.1.1.1 ∙ sym (name_at dims j h.0.0 h.0.1.0 h.0.1.1.0) ∙ ap (λ n. get_or (dim_texts dims) n []) q ∙ (place_of-Some (dim_texts dims) t k is).1)
+  | inl q ↦ inl (sym h.0.1.1 ∙ sym (name_at dims j h.0.0 h.0.1.0) ∙ ap (λ n. get_or (dim_texts dims) n []) q ∙ (place_of-Some (dim_texts dims) t k is).1)
   | inr r ↦ inr (used_text dims names ks h.1 k t r is)
 ]
 used_text dims _ _ h k t i is = absurd h
@@ -82,9 +85,9 @@ pub used_place : (dims : List DimType) (names : List Name) (ks : List ℕ) → D
 used_place dims [] ks apart h k t i is = absurd i
 used_place dims (name ∷ names) [] apart h k t i is = absurd h
 used_place dims (name ∷ names) (j ∷ ks) apart h k t i is = elim i [
-  | inl q ↦ inl (some_same j k (sym (place_of-at (dim_texts dims) j (all_differ (dim_texts dims) apart) inside) ∙ ap (place_of (dim_texts dims)) (name_at dims j h.0.0 h.0.1.0 h.0.1.1.0 ∙ h.0.1.1.1 ∙ q) ∙ is))
+  | inl q ↦ inl (some_same j k (sym (place_of-at (dim_texts dims) j (all_differ (dim_texts dims) apart) inside) ∙ ap (place_of (dim_texts dims)) (name_at dims j h.0.0 h.0.1.0 ∙ h.0.1.1 ∙ q) ∙ is))
   | inr r ↦ inr (used_place dims names ks apart h.1 k t r is)
 ]
   where
     inside : j < length (dim_texts dims)
-    inside = let len : length (dim_texts dims) ≡ length dims = length-map dims (λ dim. dim.name) in omega (arith, len, h.0.1.0)
+    inside = let len : length (dim_texts dims) ≡ length dims = length-map dims (λ dim. dim.name) in omega (arith, len, get_within dims j h.0.0 h.0.1.0)

@@ -1,23 +1,26 @@
 -- What the table of principles says of dimensions and of the type that arguments share.
-use Rattle.xdg_principles.proofs.Rows.{AllSound, sound_in}
-use Rattle.std.proofs.Common.{◌≡◌, ℕ, List, Option, None, Some, refl}
+use Rattle.xdg_principles.proofs.Rows.{one_of}
+use Rattle.std.proofs.Common.{◌≡◌, Option, None, Some, refl, rules}
+use Rattle.std.specs.List.{AllByRecursion}
 use Rattle.std.specs.Prelude.{slice_get}
-use Rattle.xdg_principles.specs.declared.principle.Dims.{Dims}
-use Rattle.xdg_principles.specs.declared.principle.Dims.TheVariants as d
-use Rattle.xdg_principles.specs.declared.principle.Element.{Element}
-use Rattle.xdg_principles.specs.declared.principle.Element.TheVariants as el
-use Rattle.xdg_principles.specs.declared.principle.Form.{Form}
-use Rattle.xdg_principles.specs.declared.principle.Parameter.{Parameter}
-use Rattle.xdg_principles.specs.declared.principle.Preset.{Preset}
-use Rattle.xdg_principles.specs.declared.principle.Preset.TheVariants as p
-use Rattle.xdg_principles.specs.declared.principle.Sort.{Sort}
-use Rattle.xdg_principles.specs.declared.principle.Typing.{Typing}
-use Rattle.xdg_principles.specs.declared.principle.Typing.TheVariants as ty
-use Rattle.xdg_principles.specs.declared.principle.Wanted.{Wanted}
-use Rattle.xdg_principles.specs.declared.principle.Wanted.TheVariants as a
-use Rattle.xdg_principles.specs.declared.principle.Which.{Which}
-use Rattle.xdg_principles.specs.declared.principle.Which.TheVariants as w
-use Rattle.xdg_principles.specs.Principles.{principle_named, principles, dims_in, parameters}
+use Rattle.xdg_problem.specs.declared.forms.Dims.{Dims}
+use Rattle.xdg_problem.specs.declared.forms.Dims.TheVariants as d
+use Rattle.xdg_problem.specs.declared.forms.Element.{Element}
+use Rattle.xdg_problem.specs.declared.forms.Element.TheVariants as el
+use Rattle.xdg_problem.specs.declared.forms.Form.{Form}
+use Rattle.xdg_problem.specs.declared.forms.Parameter.{Parameter}
+use Rattle.xdg_problem.specs.declared.forms.Preset.{Preset}
+use Rattle.xdg_problem.specs.declared.forms.Preset.TheVariants as p
+use Rattle.xdg_problem.specs.declared.forms.Sort.{Sort}
+use Rattle.xdg_problem.specs.declared.forms.Typing.{Typing}
+use Rattle.xdg_problem.specs.declared.forms.Typing.TheVariants as ty
+use Rattle.xdg_problem.specs.declared.forms.Wanted.{Wanted}
+use Rattle.xdg_problem.specs.declared.forms.Wanted.TheVariants as a
+use Rattle.xdg_problem.specs.declared.forms.Which.{Which}
+use Rattle.xdg_problem.specs.declared.forms.Which.TheVariants as w
+use Rattle.xdg_problem.specs.declared.parts.Principle.{Principle}
+use Rattle.xdg_problem.specs.declared.parts.Principle.TheVariants as principles
+use Rattle.xdg_problem.specs.Forms.{dims_in, form_of, parameters}
 use Rattle.xdg_principles.specs.Typed.{number_of}
 use Rattle.xdg_facts.specs.Membership.{In}
 
@@ -86,13 +89,14 @@ IsSoundWanted form (a.Member sort which typing) = HasWhich form.dims which × Is
 IsSoundWanted form (a.Labels which) = HasWhich form.dims which
 IsSoundWanted form a.Truth = Unit {0}
 
--- ---- all rows
+-- ---- all principles
 
 abbrev Sound : Form → Parameter → Type 0
 Sound form x = IsSoundWanted form x.wanted
 
-all_rows : AllSound Sound principles
-all_rows = (tt, (tt, (tt, (tt, ((tt, (tt, tt)), (((tt, tt), ((tt, tt), tt)), ((tt, ((tt, tt), (tt, tt))), (((tt, tt), ((tt, tt), tt)), (((tt, tt), ((tt, tt), ((tt, tt), tt))), (((tt, tt), ((tt, (tt, tt)), tt)), (tt, (((tt, tt), tt), (((tt, (tt, tt)), tt), (((tt, (tt, tt)), tt), (((tt, (tt, tt)), tt), (((tt, (tt, tt)), tt), (((tt, (tt, tt)), tt), (((tt, (tt, tt)), tt), (((tt, tt), tt), tt)))))))))))))))))))
+all_sound : (principle : Principle) → AllByRecursion (Sound (form_of principle)) (parameters (form_of principle))
+all_sound principles.Graph = tt
+all_sound principle = search rules
 
-pub sound_wanted : (name : List ℕ) (form : Form) (x : Parameter) → principle_named name ≡ Some form → In (parameters form) x → IsSoundWanted form x.wanted
-sound_wanted = sound_in Sound all_rows
+pub sound_wanted : (principle : Principle) (x : Parameter) → In (parameters (form_of principle)) x → IsSoundWanted (form_of principle) x.wanted
+sound_wanted principle x = one_of (Sound (form_of principle)) (parameters (form_of principle)) x (all_sound principle)

@@ -5,6 +5,7 @@ use Rattle.std.specs.List.{flat_map}
 use Rattle.std.specs.Prelude.{option_map, if◌then◌else◌, bytes_eq, codes}
 use Rattle.std.proofs.lemmas.Bool.{true≢false, cases_Bool}
 use Rattle.std.proofs.lemmas.Slice.Eq.{bytes_eq-Decides}
+use Rattle.xdg_base.specs.Faults.{fault_at}
 use Rattle.xdg_ast.specs.declared.names.Name.{Name}
 use Rattle.xdg_ast.specs.declared.names.Pair.{Pair}
 use Rattle.xdg_ast.specs.declared.grammar.DimPartKind.{DimPartKind}
@@ -15,24 +16,26 @@ use Rattle.xdg_names.specs.Texts.{place_of}
 use Rattle.xdg_terms.specs.Forms.{Term, constant_of}
 use Rattle.xdg_terms.specs.Means.{truth_text}
 use Rattle.xdg_types.specs.Answers.{None_of}
-use Rattle.xdg_types.specs.Names.{fault_at}
 use Rattle.xdg_types.specs.Parts.{DimPart, Statement, Dimension, dimensions, dim_names, keys}
 use Rattle.xdg_types.specs.Table.{Table, firsts}
 use Rattle.xdg_types.proofs.Elements.{among_or_not, in_texts}
-use Rattle.xdg_principles.specs.declared.principle.Form.{Form}
-use Rattle.xdg_principles.specs.declared.principle.Parameter.{Parameter}
-use Rattle.xdg_principles.specs.declared.principle.Preset.{Preset}
-use Rattle.xdg_principles.specs.declared.principle.Preset.TheVariants as p
-use Rattle.xdg_principles.specs.declared.principle.Sort.{Sort}
-use Rattle.xdg_principles.specs.declared.principle.Sort.TheVariants as s
-use Rattle.xdg_principles.specs.declared.principle.Which.{Which}
-use Rattle.xdg_principles.specs.declared.principle.Typing.{Typing}
-use Rattle.xdg_principles.specs.declared.principle.Wanted.{Wanted}
-use Rattle.xdg_principles.specs.declared.principle.Wanted.TheVariants as a
-use Rattle.xdg_principles.specs.Principles.{principle_named, dim_key, dims_in, key_text, parameters, preset_feature}
+use Rattle.xdg_problem.specs.declared.forms.Form.{Form}
+use Rattle.xdg_problem.specs.declared.forms.Parameter.{Parameter}
+use Rattle.xdg_problem.specs.declared.forms.Preset.{Preset}
+use Rattle.xdg_problem.specs.declared.forms.Preset.TheVariants as p
+use Rattle.xdg_problem.specs.declared.forms.Sort.{Sort}
+use Rattle.xdg_problem.specs.declared.forms.Sort.TheVariants as s
+use Rattle.xdg_problem.specs.declared.forms.Which.{Which}
+use Rattle.xdg_problem.specs.declared.forms.Typing.{Typing}
+use Rattle.xdg_problem.specs.declared.forms.Wanted.{Wanted}
+use Rattle.xdg_problem.specs.declared.forms.Wanted.TheVariants as a
+use Rattle.xdg_problem.specs.declared.parts.Principle.{Principle}
+use Rattle.xdg_problem.specs.Forms.{dim_key, dims_in, form_of, key_text, parameters, preset_feature}
+use Rattle.xdg_problem.specs.Names.{named}
 use Rattle.xdg_principles.specs.Names.{PrincipleNameOffends, key_if_required, required_key}
 use Rattle.xdg_principles.specs.Uses.{Use, use_in, uses_in, principle_uses, values, under}
-use Rattle.xdg_principles.specs.Settings.{Setting, Called, with_form, setting, arguments_in, arguments, dim_texts, dim_place, place_named, labels, members, term_in, constant_at, list_of, list_at, listed_in, called_in, called_or, called_at, called_by, names_at}
+use Rattle.xdg_principles.specs.Settings.{Setting, Called, setting_of, setting_if, setting, arguments_in, arguments, dim_texts, dim_place, place_named, labels, members}
+use Rattle.xdg_principles.specs.Settings.{term_in, constant_at, list_of, list_at, listed_in, called_in, called_or, called_at, called_by, names_at}
 use Rattle.xdg_principles.specs.Arguments.{OneOffends, ArgumentOffends, has_form, truths}
 use Rattle.xdg_principles.specs.Made.{HasDims, IsMember, AreLabels, IsLabelList, IsTruth, IsArg, AreArgs, ArePlaces, IsUse, AreUses, ArePrincipleUses, or_zero, place_called, member_number, label_number, truth_of, arg, args, built_with, built}
 use Rattle.xdg_principles.proofs.Rows.{IsDefaulted, sound_parameter}
@@ -188,26 +191,29 @@ places_are setting (w ∷ ws) h = (h w (inl refl), places_are setting ws (λ v k
 required_in : (ps : List Parameter) (x : Parameter) → In ps x → x.preset ≡ p.Required → In (flat_map required_key ps) (key_text x.key)
 required_in ps x h e = flat_map_in required_key ps x (key_text x.key) h (subst (λ (q : Preset). In (key_if_required (key_text x.key) q) (key_text x.key)) (sym e) (inl refl))
 
-module _ (statements : List Statement) (table : Table) (has : HasDims statements table) (named : None_of (PrincipleNameOffends statements)) (right : None_of (ArgumentOffends statements table)) where
+module _ (statements : List Statement) (table : Table) (has : HasDims statements table) (names_right : None_of (PrincipleNameOffends statements)) (right : None_of (ArgumentOffends statements table)) where
   module _ (one : Use) (stands : In (principle_uses statements) one) where
     known_dim : (name : Name) → In (dim_names statements) name → IsThere (place_of (dim_texts table.dims) name.text)
     known_dim name h = place_there (dim_texts table.dims) name.text (subst (λ ts. In ts name.text) (sym has) (in_texts (dim_names statements) name h))
 
-    module _ (form : Form) (known : principle_named one.name.text ≡ Some form) where
+    module _ (principle : Principle) (known : named one.name.text ≡ Some principle) where
+      abbrev form : Form
+      form = form_of principle
+
       abbrev here : Setting
-      here = record { dims = table.dims; one = one; form = form }
+      here = setting_of table.dims one principle
 
       pub stands_here : (x : Parameter) → In (parameters form) x → In (arguments statements table.dims) (record { setting = here; parameter = x })
       stands_here x h = flat_map_in arguments_in (flat_map (setting table.dims) (principle_uses statements)) here (record { setting = here; parameter = x })
-          (flat_map_in (setting table.dims) (principle_uses statements) one here stands (subst (λ (o : Option Form). In (with_form table.dims one o) here) (sym known) (inl refl)))
+          (flat_map_in (setting table.dims) (principle_uses statements) one here stands (subst (λ (o : Option Principle). In (setting_if table.dims one o) here) (sym known) (inl refl)))
           (map_in (λ (y : Parameter). record { setting = here; parameter = y }) (parameters form) x h)
 
       not_left_out : (x : Parameter) → In (parameters form) x → x.preset ≡ p.Required → term_in here x ≡ None → ⊥
-      not_left_out x h e none = named (fault_at causes.MissingArg one.name.span.start)
+      not_left_out x h e none = names_right (fault_at causes.MissingArg one.name.span.start)
           (inr (inr (inr (inr (inr (record {
             one = one;
             stands = stands;
-            form = form;
+            principle = principle;
             known = known;
             key = key_text x.key;
             missing = inr (required_in (parameters form) x h e, none_under one.args (key_text x.key) none);
@@ -216,14 +222,14 @@ module _ (statements : List Statement) (table : Table) (has : HasDims statements
 
       each_arg : (x : Parameter) → In (parameters form) x → IsArg here x x.wanted (arg here x x.wanted)
       each_arg x h = is_arg here x (λ f o. right f (record { setting = here; parameter = x }, (stands_here x h, o)))
-          (sound_parameter one.name.text form x known h) (not_left_out x h) x.wanted refl
+          (sound_parameter principle x h) (not_left_out x h) x.wanted refl
 
       dim_there : (w : Which) → In (dims_in form.dims) w → (o : Option Name) → under one.dims (dim_key form.dims w) ≡ o → IsThere (place_named table.dims o)
-      dim_there w h None e = absurd (named (fault_at causes.MissingArg one.name.span.start)
+      dim_there w h None e = absurd (names_right (fault_at causes.MissingArg one.name.span.start)
           (inr (inr (inr (inr (inr (record {
             one = one;
             stands = stands;
-            form = form;
+            principle = principle;
             known = known;
             key = dim_key form.dims w;
             missing = inl (map_in (dim_key form.dims) (dims_in form.dims) w h, none_under one.dims (dim_key form.dims w) e);
@@ -231,24 +237,22 @@ module _ (statements : List Statement) (table : Table) (has : HasDims statements
           })))))))
       dim_there w h (Some name) e = elim (among_or_not (texts (dim_names statements)) name.text) [
         | inl k ↦ place_there (dim_texts table.dims) name.text (subst (λ ts. In ts name.text) (sym has) k)
-        | inr k ↦ absurd (named (fault_at causes.UnknownName name.span.start)
+        | inr k ↦ absurd (names_right (fault_at causes.UnknownName name.span.start)
             (inr (inr (inl (record { one = one; stands = stands; name = name; named = value_under one.dims (dim_key form.dims w) name e; missing = k; fault = refl })))))
       ]
 
-      is_use : IsUse table.dims one (built_with table.dims one (Some form))
+      is_use : IsUse table.dims one (built_with table.dims one (Some principle))
       is_use = record {
-        form = form;
         known = known;
-        principle = refl;
         at = refl;
         home = known_dim one.within (within_dim statements one stands);
         dimensions = places_are here (dims_in form.dims) (λ w h. dim_there w h (under one.dims (dim_key form.dims w)) refl);
         arguments = args_are here (parameters form) each_arg;
       }
 
-    use_by : (o : Option Form) → principle_named one.name.text ≡ o → IsUse table.dims one (built_with table.dims one o)
-    use_by None e = absurd (named (fault_at causes.UnknownPrinciple one.name.span.start) (inl (record { one = one; stands = stands; missing = e; fault = refl })))
-    use_by (Some form) e = is_use form e
+    use_by : (o : Option Principle) → named one.name.text ≡ o → IsUse table.dims one (built_with table.dims one o)
+    use_by None e = absurd (names_right (fault_at causes.UnknownPrinciple one.name.span.start) (inl (record { one = one; stands = stands; missing = e; fault = refl })))
+    use_by (Some principle) e = is_use principle e
 
   all_uses : (uses : List Use) → ((one : Use) → In uses one → IsUse table.dims one (built table.dims one)) → AreUses table.dims uses (map (built table.dims) uses)
   all_uses [] h = tt
@@ -256,4 +260,4 @@ module _ (statements : List Statement) (table : Table) (has : HasDims statements
 
   -- what is built is what is meant
   pub are_uses : ArePrincipleUses statements table (map (built table.dims) (principle_uses statements))
-  are_uses = all_uses (principle_uses statements) (λ one stands. use_by one stands (principle_named one.name.text) refl)
+  are_uses = all_uses (principle_uses statements) (λ one stands. use_by one stands (named one.name.text) refl)

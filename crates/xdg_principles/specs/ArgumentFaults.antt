@@ -1,5 +1,6 @@
 -- The offences of arguments as a list, in the order in which the code comes to them.
 use Rattle.std.specs.Prelude.{ℕ, if◌then◌else◌, List, [], ◌∷◌, ◌++◌, flat_map, Option, None, Some}
+use Rattle.xdg_base.specs.Faults.{fault_at}
 use Rattle.xdg_ast.specs.declared.names.Name.{Name}
 use Rattle.xdg_base.specs.declared.faults.Cause.TheVariants as causes
 use Rattle.xdg_base.specs.declared.faults.Fault.{Fault}
@@ -9,18 +10,18 @@ use Rattle.xdg_names.specs.Texts.{has_text}
 use Rattle.xdg_terms.specs.Forms.{Term}
 use Rattle.xdg_types.specs.declared.table.DimType.{DimType}
 use Rattle.xdg_types.specs.NameFaults.{repeats}
-use Rattle.xdg_types.specs.Names.{fault_at}
 use Rattle.xdg_types.specs.Parts.{Statement}
-use Rattle.xdg_principles.specs.declared.principle.Which.{Which}
-use Rattle.xdg_principles.specs.declared.principle.Typing.{Typing}
-use Rattle.xdg_principles.specs.declared.principle.Sort.{Sort}
-use Rattle.xdg_principles.specs.declared.principle.Wanted.{Wanted}
-use Rattle.xdg_principles.specs.declared.principle.Wanted.TheVariants as a
-use Rattle.xdg_principles.specs.declared.principle.Parameter.{Parameter}
-use Rattle.xdg_principles.specs.Principles.{principle_named, parameters, told}
+use Rattle.xdg_problem.specs.declared.forms.Which.{Which}
+use Rattle.xdg_problem.specs.declared.forms.Typing.{Typing}
+use Rattle.xdg_problem.specs.declared.forms.Sort.{Sort}
+use Rattle.xdg_problem.specs.declared.forms.Wanted.{Wanted}
+use Rattle.xdg_problem.specs.declared.forms.Wanted.TheVariants as a
+use Rattle.xdg_problem.specs.declared.forms.Parameter.{Parameter}
+use Rattle.xdg_problem.specs.declared.parts.Principle.{Principle}
+use Rattle.xdg_problem.specs.Forms.{parameters, told}
+use Rattle.xdg_problem.specs.Names.{named}
 use Rattle.xdg_principles.specs.Uses.{Use, principle_uses}
-use Rattle.xdg_principles.specs.declared.principle.Form.{Form}
-use Rattle.xdg_principles.specs.Settings.{Setting, Called, labels, member_type, term_in, constant_in, listed_in, called_in}
+use Rattle.xdg_principles.specs.Settings.{Setting, Called, setting_of, labels, member_type, term_in, constant_in, listed_in, called_in}
 use Rattle.xdg_principles.specs.Wanted.{is_wanted}
 use Rattle.xdg_principles.specs.Arguments.{has_form, truths}
 
@@ -57,12 +58,12 @@ abbrev pub setting_faults : Setting → List Fault
 setting_faults setting = flat_map (one_faults setting) (parameters setting.form)
 
 -- of the principle, where it is known
-abbrev pub known_faults : List DimType → Use → Option Form → List Fault
+abbrev pub known_faults : List DimType → Use → Option Principle → List Fault
 known_faults dims one None = []
-known_faults dims one (Some form) = setting_faults (record { dims = dims; one = one; form = form })
+known_faults dims one (Some principle) = setting_faults (setting_of dims one principle)
 
 abbrev pub use_faults : List DimType → Use → List Fault
-use_faults dims one = known_faults dims one (principle_named one.name.text)
+use_faults dims one = known_faults dims one (named one.name.text)
 
 -- all of them
 abbrev pub argument_faults : List Statement → List DimType → List Fault

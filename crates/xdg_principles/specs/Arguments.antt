@@ -1,5 +1,6 @@
 -- What is wrong with the arguments in the uses of principles.
 use Rattle.std.specs.Prelude.{◌≡◌, ◌⊎◌, ℕ, Bool, false, List, [], ◌∷◌, ◌++◌, Some, codes}
+use Rattle.xdg_base.specs.Faults.{fault_at}
 use Rattle.xdg_ast.specs.declared.names.Name.{Name}
 use Rattle.xdg_base.specs.declared.faults.Cause.TheVariants as causes
 use Rattle.xdg_base.specs.declared.faults.Fault.{Fault}
@@ -7,14 +8,13 @@ use Rattle.xdg_domain.specs.Shapes.{shape}
 use Rattle.xdg_domain.specs.declared.types.Ty.{Ty}
 use Rattle.xdg_terms.specs.Forms.{Term, constant_of}
 use Rattle.xdg_terms.specs.Offences.{is_some}
-use Rattle.xdg_types.specs.Names.{fault_at}
 use Rattle.xdg_types.specs.Parts.{Statement}
 use Rattle.xdg_types.specs.Table.{Table, firsts}
-use Rattle.xdg_principles.specs.declared.principle.Which.{Which}
-use Rattle.xdg_principles.specs.declared.principle.Typing.{Typing}
-use Rattle.xdg_principles.specs.declared.principle.Sort.{Sort}
-use Rattle.xdg_principles.specs.declared.principle.Wanted.{Wanted}
-use Rattle.xdg_principles.specs.declared.principle.Wanted.TheVariants as a
+use Rattle.xdg_problem.specs.declared.forms.Which.{Which}
+use Rattle.xdg_problem.specs.declared.forms.Typing.{Typing}
+use Rattle.xdg_problem.specs.declared.forms.Sort.{Sort}
+use Rattle.xdg_problem.specs.declared.forms.Wanted.{Wanted}
+use Rattle.xdg_problem.specs.declared.forms.Wanted.TheVariants as a
 use Rattle.xdg_principles.specs.Settings.{Argument, Called, arguments, labels, members, member_type, term_in, constant_in, listed_in, list_of, called_in}
 use Rattle.xdg_principles.specs.Wanted.{IsWanted}
 use Rattle.xdg_facts.specs.Membership.{In}

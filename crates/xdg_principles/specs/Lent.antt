@@ -3,8 +3,8 @@ use Rattle.std.specs.Prelude.{◌≡◌, ℕ, List, map, Some}
 use Rattle.xdg_types.specs.declared.table.DimType.{DimType}
 use Rattle.xdg_types.specs.Table.{KeepDims, firsts}
 use Rattle.xdg_principles.specs.declared.lookup.Lookup.{Lookup}
-use Rattle.xdg_principles.specs.declared.principle.Sort.{Sort}
-use Rattle.xdg_principles.specs.declared.principle.Sort.TheVariants as s
+use Rattle.xdg_problem.specs.declared.forms.Sort.{Sort}
+use Rattle.xdg_problem.specs.declared.forms.Sort.TheVariants as s
 use Rattle.xdg_principles.specs.declared.settings.SettingRef.{SettingRef}
 use Rattle.xdg_principles.specs.declared.settings.CalledRef.{CalledRef}
 use Rattle.xdg_principles.specs.Settings.{Setting, Called, dim_texts, members_in}

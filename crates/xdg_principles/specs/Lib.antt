@@ -4,7 +4,6 @@ pub mod Lent
 pub mod Made
 pub mod NameFaults
 pub mod Names
-pub mod Principles
 pub mod Settings
 pub mod Typed
 pub mod Uses

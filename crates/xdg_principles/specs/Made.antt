@@ -10,15 +10,18 @@ use Rattle.xdg_types.specs.Table.{Table}
 use Rattle.xdg_principles.specs.declared.building.Arg.{Arg}
 use Rattle.xdg_principles.specs.declared.building.Arg.TheVariants as g
 use Rattle.xdg_principles.specs.declared.building.PrincipleUse.{PrincipleUse}
-use Rattle.xdg_principles.specs.declared.principle.Form.{Form}
-use Rattle.xdg_principles.specs.declared.principle.Parameter.{Parameter}
-use Rattle.xdg_principles.specs.declared.principle.Sort.{Sort}
-use Rattle.xdg_principles.specs.declared.principle.Sort.TheVariants as s
-use Rattle.xdg_principles.specs.declared.principle.Wanted.{Wanted}
-use Rattle.xdg_principles.specs.declared.principle.Wanted.TheVariants as a
-use Rattle.xdg_principles.specs.declared.principle.Which.{Which}
-use Rattle.xdg_principles.specs.Principles.{principle_named, dims_in, parameters}
-use Rattle.xdg_principles.specs.Settings.{Setting, Called, dim_texts, dim_place, labels, member_place, term_in, constant_in, listed_in, list_of, called_in}
+use Rattle.xdg_problem.specs.declared.forms.Parameter.{Parameter}
+use Rattle.xdg_problem.specs.declared.forms.Sort.{Sort}
+use Rattle.xdg_problem.specs.declared.forms.Sort.TheVariants as s
+use Rattle.xdg_problem.specs.declared.forms.Wanted.{Wanted}
+use Rattle.xdg_problem.specs.declared.forms.Wanted.TheVariants as a
+use Rattle.xdg_problem.specs.declared.forms.Which.{Which}
+use Rattle.xdg_problem.specs.declared.parts.Principle.{Principle}
+use Rattle.xdg_problem.specs.declared.parts.Principle.TheVariants as principles
+use Rattle.xdg_problem.specs.Forms.{dims_in, form_of, parameters}
+use Rattle.xdg_problem.specs.Names.{named}
+use Rattle.xdg_principles.specs.Settings.{Setting, Called, setting_of, dim_texts, dim_place, labels, member_place}
+use Rattle.xdg_principles.specs.Settings.{term_in, constant_in, listed_in, list_of, called_in}
 use Rattle.xdg_principles.specs.Uses.{Use, principle_uses}
 use Rattle.xdg_ast.specs.Texts.{texts}
 
@@ -70,16 +73,14 @@ ArePlaces setting [] [] = Unit {0}
 ArePlaces setting (which ∷ more) (k ∷ ks) = (dim_place setting which ≡ Some k) × ArePlaces setting more ks
 ArePlaces setting _ _ = ⊥
 
--- The use has its principle's name and place and stands in its home, and its dimensions and arguments, given or by
--- default, stand in the order of the table of principles.
+-- The use is one of the principle that its name says, has the place of that name and stands in its home, and its dimensions and
+-- arguments, given or by default, stand in the order of the table of principles.
 pub record IsUse (dims : List DimType) (one : Use) (made : PrincipleUse) : Type 0 where
-  pub form : Form
-  pub known : principle_named one.name.text ≡ Some form
-  pub principle : made.principle ≡ one.name.text
+  pub known : named one.name.text ≡ Some made.principle
   pub at : made.at ≡ one.name.span.start
   pub home : place_of (dim_texts dims) one.within.text ≡ Some made.home
-  pub dimensions : ArePlaces (record { dims = dims; one = one; form = form }) (dims_in form.dims) made.dims
-  pub arguments : AreArgs (record { dims = dims; one = one; form = form }) (parameters form) made.args
+  pub dimensions : ArePlaces (setting_of dims one made.principle) (dims_in (form_of made.principle).dims) made.dims
+  pub arguments : AreArgs (setting_of dims one made.principle) (parameters (form_of made.principle)) made.args
 
 abbrev pub AreUses : List DimType → List Use → List PrincipleUse → Type 0
 AreUses dims [] [] = Unit {0}
@@ -90,7 +91,7 @@ AreUses dims _ _ = ⊥
 abbrev pub ArePrincipleUses : List Statement → Table → List PrincipleUse → Type 0
 ArePrincipleUses statements table made = AreUses table.dims (principle_uses statements) made
 
--- ---- the same as a function, which gives 0 for what isn't there
+-- ---- the same as a function, which gives 0 for what isn't there, and the principle graph
 
 abbrev pub or_zero : Option ℕ → ℕ
 or_zero None = 0
@@ -122,17 +123,17 @@ args setting parameters = map (λ parameter. arg setting parameter parameter.wan
 abbrev pub places : Setting → List ℕ
 places setting = map (λ which. or_zero (dim_place setting which)) (dims_in setting.form.dims)
 
-abbrev pub built_with : List DimType → Use → Option Form → PrincipleUse
+abbrev pub built_with : List DimType → Use → Option Principle → PrincipleUse
 built_with dims one None =
-    record { principle = one.name.text; home = or_zero (place_of (dim_texts dims) one.within.text); dims = []; args = []; at = one.name.span.start }
-built_with dims one (Some form) =
+    record { principle = principles.Graph; home = or_zero (place_of (dim_texts dims) one.within.text); dims = []; args = []; at = one.name.span.start }
+built_with dims one (Some principle) =
     record {
-      principle = one.name.text;
+      principle = principle;
       home = or_zero (place_of (dim_texts dims) one.within.text);
-      dims = places (record { dims = dims; one = one; form = form });
-      args = args (record { dims = dims; one = one; form = form }) (parameters form);
+      dims = places (setting_of dims one principle);
+      args = args (setting_of dims one principle) (parameters (form_of principle));
       at = one.name.span.start;
     }
 
 abbrev pub built : List DimType → Use → PrincipleUse
-built dims one = built_with dims one (principle_named one.name.text)
+built dims one = built_with dims one (named one.name.text)

@@ -1,15 +1,17 @@
 -- The offences of names in the uses of principles as a list, in the order in which the code comes to them.
 use Rattle.std.specs.Prelude.{ℕ, if◌then◌else◌, List, [], ◌∷◌, ◌++◌, flat_map, Option, None, Some}
+use Rattle.xdg_base.specs.Faults.{fault_at}
 use Rattle.xdg_ast.specs.declared.names.Name.{Name}
 use Rattle.xdg_base.specs.declared.faults.Cause.TheVariants as causes
 use Rattle.xdg_base.specs.declared.faults.Fault.{Fault}
 use Rattle.xdg_names.specs.Texts.{has_text}
 use Rattle.xdg_types.specs.NameFaults.{unknown, repeats, different}
-use Rattle.xdg_types.specs.Names.{fault_at}
 use Rattle.xdg_types.specs.Parts.{Statement, dim_names, used_names, keys}
-use Rattle.xdg_principles.specs.declared.principle.Form.{Form}
+use Rattle.xdg_problem.specs.declared.forms.Form.{Form}
 use Rattle.xdg_principles.specs.Names.{dim_keys, arg_keys, required_keys}
-use Rattle.xdg_principles.specs.Principles.{principle_named}
+use Rattle.xdg_problem.specs.declared.parts.Principle.{Principle}
+use Rattle.xdg_problem.specs.Forms.{form_of}
+use Rattle.xdg_problem.specs.Names.{named}
 use Rattle.xdg_principles.specs.Uses.{Use, principle_uses, values}
 use Rattle.xdg_ast.specs.Texts.{texts}
 
@@ -32,9 +34,9 @@ left_out form one =
     ++ flat_map (lacking one.name.span.start (keys one.args)) (required_keys form)
 
 -- where this is the principle
-abbrev pub form_faults : Use → Option Form → List Fault
-form_faults one None = fault_at causes.UnknownPrinciple one.name.span.start ∷ []
-form_faults one (Some form) = key_faults form one ++ left_out form one
+abbrev pub principle_faults : Use → Option Principle → List Fault
+principle_faults one None = fault_at causes.UnknownPrinciple one.name.span.start ∷ []
+principle_faults one (Some principle) = key_faults (form_of principle) one ++ left_out (form_of principle) one
 
 -- the keys that stand again
 abbrev pub again : Use → List Fault
@@ -47,7 +49,7 @@ unused used one = if has_text used one.within.text then flat_map (unknown used) 
 -- in one use
 abbrev pub use_faults : List (List ℕ) → List (List ℕ) → Use → List Fault
 use_faults defined used one =
-    again one ++ ((flat_map (unknown defined) (values one.dims) ++ unused used one) ++ form_faults one (principle_named one.name.text))
+    again one ++ ((flat_map (unknown defined) (values one.dims) ++ unused used one) ++ principle_faults one (named one.name.text))
 
 -- all of them
 abbrev pub name_faults : List Statement → List Fault

@@ -1,15 +1,17 @@
 -- What is wrong with the names in the uses of principles.
 use Rattle.std.specs.Prelude.{◌≡◌, ◌⊎◌, ℕ, List, [], ◌∷◌, ◌++◌, map, flat_map, None, Some}
+use Rattle.xdg_base.specs.Faults.{fault_at}
 use Rattle.xdg_ast.specs.declared.names.Name.{Name}
 use Rattle.xdg_base.specs.declared.faults.Cause.TheVariants as causes
 use Rattle.xdg_base.specs.declared.faults.Fault.{Fault}
-use Rattle.xdg_types.specs.Names.{fault_at}
 use Rattle.xdg_types.specs.Parts.{Statement, dim_names, used_names, keys}
-use Rattle.xdg_principles.specs.declared.principle.Form.{Form}
-use Rattle.xdg_principles.specs.declared.principle.Parameter.{Parameter}
-use Rattle.xdg_principles.specs.declared.principle.Preset.{Preset}
-use Rattle.xdg_principles.specs.declared.principle.Preset.TheVariants as p
-use Rattle.xdg_principles.specs.Principles.{principle_named, dim_key, dims_in, key_text, parameters}
+use Rattle.xdg_problem.specs.declared.forms.Form.{Form}
+use Rattle.xdg_problem.specs.declared.forms.Parameter.{Parameter}
+use Rattle.xdg_problem.specs.declared.forms.Preset.{Preset}
+use Rattle.xdg_problem.specs.declared.forms.Preset.TheVariants as p
+use Rattle.xdg_problem.specs.declared.parts.Principle.{Principle}
+use Rattle.xdg_problem.specs.Forms.{dim_key, dims_in, form_of, key_text, parameters}
+use Rattle.xdg_problem.specs.Names.{named}
 use Rattle.xdg_principles.specs.Uses.{Use, principle_uses, values}
 use Rattle.xdg_facts.specs.Membership.{In}
 use Rattle.xdg_ast.specs.Texts.{texts}
@@ -41,7 +43,7 @@ required_keys form = flat_map required_key (parameters form)
 pub record IsUnknownPrinciple (statements : List Statement) (f : Fault) : Type 0 where
   pub one : Use
   pub stands : In (principle_uses statements) one
-  pub missing : principle_named one.name.text ≡ None
+  pub missing : named one.name.text ≡ None
   pub fault : f ≡ fault_at causes.UnknownPrinciple one.name.span.start
 
 -- the lists of names in each of which a name may stand once
@@ -88,10 +90,10 @@ IsForeign known names name = In names name × (In known name.text → ⊥)
 pub record IsUnknownKey (statements : List Statement) (f : Fault) : Type 0 where
   pub one : Use
   pub stands : In (principle_uses statements) one
-  pub form : Form
-  pub known : principle_named one.name.text ≡ Some form
+  pub principle : Principle
+  pub known : named one.name.text ≡ Some principle
   pub name : Name
-  pub foreign : IsForeign (dim_keys form) (keys one.dims) name ⊎ IsForeign (arg_keys form) (keys one.args) name
+  pub foreign : IsForeign (dim_keys (form_of principle)) (keys one.dims) name ⊎ IsForeign (arg_keys (form_of principle)) (keys one.args) name
   pub fault : f ≡ fault_at causes.WrongParams name.span.start
 
 -- one of these keys that no name is
@@ -102,10 +104,10 @@ IsMissing wanted names key = In wanted key × (In (texts names) key → ⊥)
 pub record IsLeftOut (statements : List Statement) (f : Fault) : Type 0 where
   pub one : Use
   pub stands : In (principle_uses statements) one
-  pub form : Form
-  pub known : principle_named one.name.text ≡ Some form
+  pub principle : Principle
+  pub known : named one.name.text ≡ Some principle
   pub key : List ℕ
-  pub missing : IsMissing (dim_keys form) (keys one.dims) key ⊎ IsMissing (required_keys form) (keys one.args) key
+  pub missing : IsMissing (dim_keys (form_of principle)) (keys one.dims) key ⊎ IsMissing (required_keys (form_of principle)) (keys one.args) key
   pub fault : f ≡ fault_at causes.MissingArg one.name.span.start
 
 -- what is wrong with the names in the uses of principles, in dimensions that are used and in others

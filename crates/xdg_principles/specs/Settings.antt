@@ -12,16 +12,18 @@ use Rattle.xdg_types.specs.declared.table.DimType.{DimType}
 use Rattle.xdg_types.specs.Kinds.{is_small}
 use Rattle.xdg_types.specs.Parts.{Statement}
 use Rattle.xdg_types.specs.Table.{firsts}
-use Rattle.xdg_principles.specs.declared.principle.Which.{Which}
-use Rattle.xdg_principles.specs.declared.principle.Element.TheVariants as e
-use Rattle.xdg_principles.specs.declared.principle.Typing.TheVariants as t
-use Rattle.xdg_principles.specs.declared.principle.Sort.{Sort}
-use Rattle.xdg_principles.specs.declared.principle.Sort.TheVariants as s
-use Rattle.xdg_principles.specs.declared.principle.Wanted.{Wanted}
-use Rattle.xdg_principles.specs.declared.principle.Wanted.TheVariants as a
-use Rattle.xdg_principles.specs.declared.principle.Parameter.{Parameter}
-use Rattle.xdg_principles.specs.declared.principle.Form.{Form}
-use Rattle.xdg_principles.specs.Principles.{principle_named, dim_key, key_text, preset_feature, parameters}
+use Rattle.xdg_problem.specs.declared.forms.Which.{Which}
+use Rattle.xdg_problem.specs.declared.forms.Element.TheVariants as e
+use Rattle.xdg_problem.specs.declared.forms.Typing.TheVariants as t
+use Rattle.xdg_problem.specs.declared.forms.Sort.{Sort}
+use Rattle.xdg_problem.specs.declared.forms.Sort.TheVariants as s
+use Rattle.xdg_problem.specs.declared.forms.Wanted.{Wanted}
+use Rattle.xdg_problem.specs.declared.forms.Wanted.TheVariants as a
+use Rattle.xdg_problem.specs.declared.forms.Parameter.{Parameter}
+use Rattle.xdg_problem.specs.declared.forms.Form.{Form}
+use Rattle.xdg_problem.specs.declared.parts.Principle.{Principle}
+use Rattle.xdg_problem.specs.Forms.{dim_key, form_of, key_text, preset_feature, parameters}
+use Rattle.xdg_problem.specs.Names.{named}
 use Rattle.xdg_principles.specs.Uses.{Use, principle_uses, under}
 
 -- a use of a known principle, among the dimensions of a grammar
@@ -30,12 +32,18 @@ pub record Setting : Type 0 where
   pub one : Use
   pub form : Form
 
-abbrev pub with_form : List DimType → Use → Option Form → List Setting
-with_form dims one None = []
-with_form dims one (Some form) = record { dims = dims; one = one; form = form } ∷ []
+-- a use of that principle
+abbrev pub setting_of : List DimType → Use → Principle → Setting
+setting_of dims one principle = record { dims = dims; one = one; form = form_of principle }
 
+-- the same where the principle is known
+abbrev pub setting_if : List DimType → Use → Option Principle → List Setting
+setting_if dims one None = []
+setting_if dims one (Some principle) = setting_of dims one principle ∷ []
+
+-- a use of the principle that has the name which it says
 abbrev pub setting : List DimType → Use → List Setting
-setting dims one = with_form dims one (principle_named one.name.text)
+setting dims one = setting_if dims one (named one.name.text)
 
 -- an argument that a principle has, in a use of it
 pub record Argument : Type 0 where

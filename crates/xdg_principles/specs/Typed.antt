@@ -7,19 +7,19 @@ use Rattle.xdg_types.specs.Table.{Table, Typed, typed, ArePlaces}
 use Rattle.xdg_principles.specs.declared.building.Arg.{Arg}
 use Rattle.xdg_principles.specs.declared.building.Arg.TheVariants as g
 use Rattle.xdg_principles.specs.declared.building.PrincipleUse.{PrincipleUse}
-use Rattle.xdg_principles.specs.declared.principle.Element.{Element}
-use Rattle.xdg_principles.specs.declared.principle.Element.TheVariants as e
-use Rattle.xdg_principles.specs.declared.principle.Form.{Form}
-use Rattle.xdg_principles.specs.declared.principle.Parameter.{Parameter}
-use Rattle.xdg_principles.specs.declared.principle.Sort.{Sort}
-use Rattle.xdg_principles.specs.declared.principle.Sort.TheVariants as s
-use Rattle.xdg_principles.specs.declared.principle.Typing.{Typing}
-use Rattle.xdg_principles.specs.declared.principle.Typing.TheVariants as t
-use Rattle.xdg_principles.specs.declared.principle.Wanted.{Wanted}
-use Rattle.xdg_principles.specs.declared.principle.Wanted.TheVariants as a
-use Rattle.xdg_principles.specs.declared.principle.Which.{Which}
-use Rattle.xdg_principles.specs.declared.principle.Which.TheVariants as w
-use Rattle.xdg_principles.specs.Principles.{principle_named, dims_in, parameters}
+use Rattle.xdg_problem.specs.declared.forms.Element.{Element}
+use Rattle.xdg_problem.specs.declared.forms.Element.TheVariants as e
+use Rattle.xdg_problem.specs.declared.forms.Parameter.{Parameter}
+use Rattle.xdg_problem.specs.declared.forms.Sort.{Sort}
+use Rattle.xdg_problem.specs.declared.forms.Sort.TheVariants as s
+use Rattle.xdg_problem.specs.declared.forms.Typing.{Typing}
+use Rattle.xdg_problem.specs.declared.forms.Typing.TheVariants as t
+use Rattle.xdg_problem.specs.declared.forms.Wanted.{Wanted}
+use Rattle.xdg_problem.specs.declared.forms.Wanted.TheVariants as a
+use Rattle.xdg_problem.specs.declared.forms.Which.{Which}
+use Rattle.xdg_problem.specs.declared.forms.Which.TheVariants as w
+use Rattle.xdg_problem.specs.Forms.{dims_in, form_of, parameters}
+use Rattle.xdg_problem.specs.Names.{IsOfTexts}
 use Rattle.xdg_principles.specs.Settings.{at_place, labels_in, members_in}
 use Rattle.xdg_principles.specs.Wanted.{IsSame, IsSetOf, IsMapTo}
 use Rattle.xdg_facts.specs.Membership.{In}
@@ -88,18 +88,17 @@ AreTypedArgs table u shared _ _ = ⊥
 
 -- ---- uses
 
--- The principle is known, its home and its dimensions are dimensions of the table, which are used if its home is, and its
+-- Grammar texts can use the principle, its home and its dimensions are dimensions of the table, which are used if its home is, and its
 -- arguments are of the wanted kinds, where those that share a type share this one, a domain or a tuple type.
 pub record IsTypedUse (table : Table) (u : PrincipleUse) : Type 0 where
-  pub form : Form
-  pub known : principle_named u.principle ≡ Some form
+  pub of_texts : IsOfTexts u.principle
   pub home : u.home < length table.dims
-  pub count : length u.dims ≡ length (dims_in form.dims)
+  pub count : length u.dims ≡ length (dims_in (form_of u.principle).dims)
   pub dims : (k : ℕ) → In u.dims k → k < length table.dims
   pub used : In table.used u.home → (k : ℕ) → In u.dims k → In table.used k
   pub shared : Shape
   pub small : is_small shared ≡ true
-  pub args : AreTypedArgs table u shared (parameters form) u.args
+  pub args : AreTypedArgs table u shared (parameters (form_of u.principle)) u.args
 
 -- all of these uses are so
 abbrev pub AreTypedUses : Table → List PrincipleUse → Type 0

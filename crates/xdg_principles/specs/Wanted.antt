@@ -2,10 +2,10 @@
 use Rattle.std.specs.Prelude.{◌≡◌, ℕ, Bool, true, false, ◌&&◌, List, [], ◌∷◌, Option, None, Some, bytes_eq}
 use Rattle.xdg_domain.specs.Shapes.{Shape, domain, tuple, set, iset, valency, mapping, constants_of}
 use Rattle.xdg_types.specs.Kinds.{is_small}
-use Rattle.xdg_principles.specs.declared.principle.Element.{Element}
-use Rattle.xdg_principles.specs.declared.principle.Element.TheVariants as e
-use Rattle.xdg_principles.specs.declared.principle.Typing.{Typing}
-use Rattle.xdg_principles.specs.declared.principle.Typing.TheVariants as t
+use Rattle.xdg_problem.specs.declared.forms.Element.{Element}
+use Rattle.xdg_problem.specs.declared.forms.Element.TheVariants as e
+use Rattle.xdg_problem.specs.declared.forms.Typing.{Typing}
+use Rattle.xdg_problem.specs.declared.forms.Typing.TheVariants as t
 use Rattle.xdg_principles.specs.Settings.{Setting, labels, shared}
 
 -- Two domains are the same where they list the same constants in the same order, and two tuple types where their domains are.

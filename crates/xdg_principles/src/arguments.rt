@@ -4,26 +4,26 @@ ghost use Rattle.std.specs.Prelude.{◌≡◌, [], ◌∷◌, map, flat_map, ◌
 ghost use Rattle.xdg_base.specs.declared.faults.Cause.TheVariants as causes;
 ghost use Rattle.xdg_names.specs.First.{first, Tells};
 ghost use Rattle.xdg_names.specs.Texts.{has_text};
-ghost use Rattle.xdg_types.specs.Names.{fault_at};
 ghost use Rattle.xdg_types.specs.NameFaults.{repeats};
 ghost use Rattle.xdg_principles.specs.ArgumentFaults as spec;
 ghost use Rattle.xdg_principles.specs.Arguments as rules;
 ghost use Rattle.xdg_principles.specs.Lent.{Knows, IsReady, as_setting};
-ghost use Rattle.xdg_principles.specs.Principles.{told};
-ghost use Rattle.xdg_principles.specs.declared.principle.Wanted.TheVariants as wanted;
+ghost use Rattle.xdg_problem.specs.Forms.{told};
+ghost use Rattle.xdg_problem.specs.declared.forms.Wanted.TheVariants as wanted;
 ghost use Rattle.xdg_principles.specs.Settings.{term_in, called_in, member_type};
 ghost use Rattle.xdg_principles.specs.Uses.{seen};
 
 use crate::fitting::is_wanted;
 use crate::lookup::{Lookup, index_names};
-use crate::principle::{Parameter, Sort, Typing, Wanted, Which, principle};
-use crate::settings::{SettingRef, constant, is_list};
+use crate::settings::{SettingRef, is_list};
 use crate::using::{UseRef, principle_uses};
-use std::alloc::{AllocError, Global};
+use std::alloc::Global;
 use xdg_ast::{Name, Statement, Term};
-use xdg_base::{Cause, Fault, Text};
-use xdg_names::{Index, earlier};
-use xdg_types::{DimType, TypeTable, repeated};
+use xdg_base::{Cause, Fault, OutOfMemory, Text};
+use xdg_names::{earlier, has_text};
+use xdg_problem::{Parameter, Sort, Typing, Wanted, Which, form_of, principle_named};
+use xdg_terms::constant;
+use xdg_types::{DimType, TypeTable, names_again};
 
 /// The first fault of the arguments in the uses of principles, in dimensions that are used and in others, if there is
 /// one. The table is that of the grammar's types.
@@ -48,7 +48,7 @@ pub fn check_arguments(
     alloc: Global,
     statements: &[Statement],
     table: &TypeTable,
-) -> Result<Option<Fault>, AllocError>
+) -> Result<Option<Fault>, OutOfMemory>
     ensures { IfOk result (λ found. Tells (rules.ArgumentOffends statements.now table.now) found) }
 {
     arguments_wrong(alloc, statements, table)
@@ -58,7 +58,7 @@ fn arguments_wrong(
     alloc: Global,
     statements: &[Statement],
     table: &TypeTable,
-) -> Result<Option<Fault>, AllocError>
+) -> Result<Option<Fault>, OutOfMemory>
     ensures { IfOk result (λ found. found ≡ first (spec.argument_faults statements.now table.now.dims)) }
 {
     let lookup = index_names(alloc, table)?;
@@ -72,7 +72,7 @@ fn check_uses<'a>(
     lookup: &'a Lookup,
     dims: &'a [DimType],
     uses: &[UseRef<'a>],
-) -> Result<Option<Fault>, AllocError>
+) -> Result<Option<Fault>, OutOfMemory>
     requires { Knows dims.now lookup.now }
     ensures { IfOk result (λ found. found ≡ first (flat_map (spec.use_faults dims.now) (map seen uses.now))) }
 {
@@ -89,19 +89,18 @@ fn check_use<'a>(
     lookup: &'a Lookup,
     dims: &'a [DimType],
     one: &UseRef<'a>,
-) -> Result<Option<Fault>, AllocError>
+) -> Result<Option<Fault>, OutOfMemory>
     requires { Knows dims.now lookup.now }
     ensures { IfOk result (λ found. found ≡ first (spec.use_faults dims.now (seen one.now))) }
 {
-    match principle(one.name.text.as_str()) {
+    match principle_named(one.name.text.as_str()) {
         None => Ok(None),
-        Some(form) => {
-            let one = *one;
+        Some(principle) => {
             let setting = SettingRef {
                 lookup,
                 dims,
-                one,
-                form,
+                one: *one,
+                form: form_of(&principle),
             };
             check_setting(alloc, &setting)
         }
@@ -110,7 +109,7 @@ fn check_use<'a>(
 
 /// In a use of a known principle.
 #[tactic(auto, using(crate::proofs::Forms::each_of))]
-fn check_setting<'a>(alloc: Global, setting: &SettingRef<'a>) -> Result<Option<Fault>, AllocError>
+fn check_setting<'a>(alloc: Global, setting: &SettingRef<'a>) -> Result<Option<Fault>, OutOfMemory>
     requires { IsReady setting.now }
     ensures { IfOk result (λ found. found ≡ first (spec.setting_faults (as_setting setting.now))) }
 {
@@ -125,7 +124,7 @@ fn check_parameter<'a>(
     alloc: Global,
     setting: &SettingRef<'a>,
     parameter: Option<Parameter>,
-) -> Result<Option<Fault>, AllocError>
+) -> Result<Option<Fault>, OutOfMemory>
     requires { IsReady setting.now }
     ensures { IfOk result (λ found. found ≡ first (flat_map (spec.one_faults (as_setting setting.now)) (told parameter))) }
 {
@@ -141,7 +140,7 @@ fn check_argument<'a>(
     alloc: Global,
     setting: &SettingRef<'a>,
     parameter: Parameter,
-) -> Result<Option<Fault>, AllocError>
+) -> Result<Option<Fault>, OutOfMemory>
     requires { IsReady setting.now }
     ensures { IfOk result (λ found. found ≡ first (spec.one_faults (as_setting setting.now) parameter)) }
 {
@@ -159,7 +158,7 @@ fn check_form<'a>(setting: &SettingRef<'a>, parameter: Parameter) -> Option<Faul
             if has_form(parameter.wanted, term) {
                 None
             } else {
-                Some(wrong_kind(term.span.start))
+                Some(Fault::at(Cause::WrongKind, term.span.start))
             }
         }
     }
@@ -176,23 +175,13 @@ fn has_form(wanted: Wanted, term: &Term) -> bool
     }
 }
 
-fn wrong_kind(at: u32) -> Fault
-    ensures { result ≡ fault_at causes.WrongKind at }
-{
-    Fault {
-        cause: Cause::WrongKind,
-        at,
-        reached: 0,
-    }
-}
-
 /// What is given where it has the form.
 fn check_inside<'a>(
     alloc: Global,
     setting: &SettingRef<'a>,
     parameter: Parameter,
     wanted: Wanted,
-) -> Result<Option<Fault>, AllocError>
+) -> Result<Option<Fault>, OutOfMemory>
     requires { IsReady setting.now }
     ensures { IfOk result (λ found. found ≡ first (spec.inner_faults (as_setting setting.now) parameter wanted)) }
 {
@@ -237,16 +226,12 @@ fn check_named<'a>(
     ensures { result ≡ first (spec.type_faults (as_setting setting.now) typing at (member_type (as_setting setting.now) sort which name.now)) }
 {
     match setting.member_type(sort, which, name) {
-        None => Some(Fault {
-            cause: Cause::UnknownName,
-            at,
-            reached: 0,
-        }),
+        None => Some(Fault::at(Cause::UnknownName, at)),
         Some(ty) => {
             if is_wanted(setting, typing, ty) {
                 None
             } else {
-                Some(wrong_kind(at))
+                Some(Fault::at(Cause::WrongKind, at))
             }
         }
     }
@@ -254,23 +239,15 @@ fn check_named<'a>(
 
 /// Labels, which have to be different.
 #[tactic(auto, using(xdg_names::proofs::First::first_append))]
-fn check_labels(alloc: Global, labels: &[Text], names: &[Name]) -> Result<Option<Fault>, AllocError>
+fn check_labels(
+    alloc: Global,
+    labels: &[Text],
+    names: &[Name],
+) -> Result<Option<Fault>, OutOfMemory>
     ensures { IfOk result (λ found. found ≡ first (flat_map (spec.outside labels.now) names.now ++ repeats [] names.now)) }
 {
     let again = names_again(alloc, names)?;
     Ok(earlier(outside(labels, names), again))
-}
-
-/// The first name that stands there before.
-fn names_again(alloc: Global, names: &[Name]) -> Result<Option<Fault>, AllocError>
-    ensures { IfOk result (λ found. found ≡ first (repeats [] names.now)) }
-{
-    let mut seen = Index::new(alloc);
-    let mut found = None;
-    for name in names {
-        found = earlier(found, repeated(alloc, &mut seen, name)?);
-    }
-    Ok(found)
 }
 
 /// The first name that is no label.
@@ -287,31 +264,10 @@ fn outside(labels: &[Text], names: &[Name]) -> Option<Fault>
 fn not_label(labels: &[Text], name: &Name) -> Option<Fault>
     ensures { result ≡ first (spec.outside labels.now name.now) }
 {
-    if is_label(labels, name.text.as_str()) {
+    if has_text(labels, name.text.as_str()) {
         None
     } else {
-        Some(not_member(name))
-    }
-}
-
-fn is_label(labels: &[Text], name: &str) -> bool
-    ensures { result ≡ has_text labels.now name.now }
-{
-    for label in labels {
-        if label.as_str() == name {
-            return true;
-        }
-    }
-    false
-}
-
-fn not_member(name: &Name) -> Fault
-    ensures { result ≡ fault_at causes.NotMember name.now.span.start }
-{
-    Fault {
-        cause: Cause::NotMember,
-        at: name.span.start,
-        reached: 0,
+        Some(Fault::at(Cause::NotMember, name.span.start))
     }
 }
 
@@ -325,7 +281,7 @@ fn check_truth<'a>(setting: &SettingRef<'a>, parameter: Parameter) -> Option<Fau
             if is_truth(name.text.as_str()) {
                 None
             } else {
-                Some(not_member(name))
+                Some(Fault::at(Cause::NotMember, name.span.start))
             }
         }
     }

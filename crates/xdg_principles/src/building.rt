@@ -7,25 +7,25 @@ ghost use Rattle.xdg_principles.specs.Arguments.{ArgumentOffends};
 ghost use Rattle.xdg_principles.specs.Lent.{Knows, IsReady, as_setting};
 ghost use Rattle.xdg_principles.specs.Made as spec;
 ghost use Rattle.xdg_principles.specs.Names.{PrincipleNameOffends};
-ghost use Rattle.xdg_principles.specs.Principles.{told, parameters};
+ghost use Rattle.xdg_problem.specs.Forms.{told, parameters};
 ghost use Rattle.xdg_principles.specs.Settings.{constant_in};
 ghost use Rattle.xdg_principles.specs.Typed.{AreTypedUses};
 ghost use Rattle.xdg_principles.specs.Uses.{seen, principle_uses};
 
 use crate::lookup::{Lookup, index_names};
-use crate::principle::{Dims, Parameter, Sort, Wanted, Which, principle};
 use crate::settings::SettingRef;
 use crate::using::{UseRef, principle_uses};
-use std::alloc::{AllocError, Global};
+use std::alloc::Global;
 use xdg_ast::{Name, Statement};
-use xdg_base::{List, Text};
+use xdg_base::{List, OutOfMemory, Text};
+use xdg_problem::{Dims, Parameter, Principle, Sort, Wanted, Which, form_of, principle_named};
 use xdg_types::{DimType, TypeTable};
 
 /// A use of a principle, with its dimensions and arguments by number, in the order of the table of principles.
 #[derive(Debug, Drop)]
 pub struct PrincipleUse {
-    /// The name of the principle.
-    pub principle: Text,
+    /// The principle: one that grammar texts can use.
+    pub principle: Principle,
     /// The place of the dimension in which it stands, among all dimensions, from 0.
     pub home: usize,
     /// The places of its dimensions among all, from 0: one to three.
@@ -59,7 +59,7 @@ pub fn uses(
     alloc: Global,
     statements: &[Statement],
     table: &TypeTable,
-) -> Result<List<PrincipleUse>, AllocError>
+) -> Result<List<PrincipleUse>, OutOfMemory>
     requires table { HasTable statements.now table.now }
     requires names { None_of (PrincipleNameOffends statements.now) }
     requires arguments { None_of (ArgumentOffends statements.now table.now) }
@@ -73,7 +73,7 @@ fn built_uses(
     alloc: Global,
     statements: &[Statement],
     table: &TypeTable,
-) -> Result<List<PrincipleUse>, AllocError>
+) -> Result<List<PrincipleUse>, OutOfMemory>
     ensures same { IfOk result (λ made. made ≡ map (spec.built table.now.dims) (principle_uses statements.now)) }
     ensures keeps { IfOk result (λ _. IsTable table.now) }
 {
@@ -87,7 +87,7 @@ fn build_all<'a>(
     lookup: &'a Lookup,
     dims: &'a [DimType],
     uses: &[UseRef<'a>],
-) -> Result<List<PrincipleUse>, AllocError>
+) -> Result<List<PrincipleUse>, OutOfMemory>
     requires { Knows dims.now lookup.now }
     ensures { IfOk result (λ made. made ≡ map (spec.built dims.now) (map seen uses.now)) }
 {
@@ -98,37 +98,35 @@ fn build_all<'a>(
     Ok(made)
 }
 
-/// One use.
+/// One use, and where no principle has its name a use of graph on no dimension.
 fn build<'a>(
     alloc: Global,
     lookup: &'a Lookup,
     dims: &'a [DimType],
     one: &UseRef<'a>,
-) -> Result<PrincipleUse, AllocError>
+) -> Result<PrincipleUse, OutOfMemory>
     requires { Knows dims.now lookup.now }
     ensures { IfOk result (λ made. made ≡ spec.built dims.now (seen one.now)) }
 {
     let home = or_zero(lookup.dims.find(one.within.text.as_str()));
     let at = one.name.span.start;
-    let principle_text = one.name.text.copy(alloc)?;
-    match principle(one.name.text.as_str()) {
+    match principle_named(one.name.text.as_str()) {
         None => Ok(PrincipleUse {
-            principle: principle_text,
+            principle: Principle::Graph,
             home,
             dims: List::new(alloc),
             args: List::new(alloc),
             at,
         }),
-        Some(form) => {
-            let one = *one;
+        Some(principle) => {
             let setting = SettingRef {
                 lookup,
                 dims,
-                one,
-                form,
+                one: *one,
+                form: form_of(&principle),
             };
             Ok(PrincipleUse {
-                principle: principle_text,
+                principle,
                 home,
                 dims: places(alloc, &setting)?,
                 args: args(alloc, &setting)?,
@@ -148,7 +146,7 @@ fn or_zero(place: Option<usize>) -> usize
 }
 
 /// The places of the dimensions.
-fn places<'a>(alloc: Global, setting: &SettingRef<'a>) -> Result<List<usize>, AllocError>
+fn places<'a>(alloc: Global, setting: &SettingRef<'a>) -> Result<List<usize>, OutOfMemory>
     requires { IsReady setting.now }
     ensures { IfOk result (λ made. made ≡ spec.places (as_setting setting.now)) }
 {
@@ -164,7 +162,7 @@ fn places<'a>(alloc: Global, setting: &SettingRef<'a>) -> Result<List<usize>, Al
 
 /// The arguments.
 #[tactic(auto, using(crate::proofs::Forms::all_args))]
-fn args<'a>(alloc: Global, setting: &SettingRef<'a>) -> Result<List<Arg>, AllocError>
+fn args<'a>(alloc: Global, setting: &SettingRef<'a>) -> Result<List<Arg>, OutOfMemory>
     requires { IsReady setting.now }
     ensures { IfOk result (λ made. made ≡ spec.args (as_setting setting.now) (parameters setting.now.form)) }
 {
@@ -182,7 +180,7 @@ fn add_arg<'a>(
     setting: &SettingRef<'a>,
     parameter: Option<Parameter>,
     made: &mut List<Arg>,
-) -> Result<(), AllocError>
+) -> Result<(), OutOfMemory>
     requires { IsReady setting.now }
     ensures { IfOk result (λ _. made.new ≡ made.old ++ spec.args (as_setting setting.now) (told parameter)) }
 {
@@ -198,7 +196,7 @@ fn make_arg<'a>(
     setting: &SettingRef<'a>,
     parameter: Parameter,
     wanted: Wanted,
-) -> Result<Arg, AllocError>
+) -> Result<Arg, OutOfMemory>
     requires { IsReady setting.now }
     ensures { IfOk result (λ made. made ≡ spec.arg (as_setting setting.now) parameter wanted) }
 {
@@ -228,7 +226,7 @@ fn member<'a>(setting: &SettingRef<'a>, parameter: Parameter, sort: Sort, which:
 }
 
 /// The numbers of these labels.
-fn label_numbers(alloc: Global, labels: &[Text], names: &[Name]) -> Result<List<u8>, AllocError>
+fn label_numbers(alloc: Global, labels: &[Text], names: &[Name]) -> Result<List<u8>, OutOfMemory>
     requires { length labels.now ≤ 32 }
     ensures { IfOk result (λ made. made ≡ map (spec.label_number labels.now) names.now) }
 {

@@ -1,16 +1,16 @@
 //! Whether a type is the one that an argument wants.
 
 ghost use Rattle.std.specs.Prelude.{◌≡◌, List, ℕ, map};
-ghost use Rattle.xdg_domain.specs.Shapes.{shape, shapes_of, constants, constants_of};
+ghost use Rattle.xdg_domain.specs.Shapes.{shape, shapes_of, constants_of};
 ghost use Rattle.xdg_types.specs.Kinds as kinds;
 ghost use Rattle.xdg_principles.specs.Lent.{IsReady, as_setting};
 ghost use Rattle.xdg_principles.specs.Settings.{shared};
 ghost use Rattle.xdg_principles.specs.Wanted as spec;
 
-use crate::principle::{Element, Typing};
 use crate::settings::{SettingRef, is_small};
 use xdg_base::Text;
 use xdg_domain::Ty;
+use xdg_problem::{Element, Typing};
 
 /// Whether two lists have the same texts in the same order.
 fn same_texts(a: &[Text], b: &[Text]) -> bool
@@ -31,16 +31,6 @@ fn same_texts(a: &[Text], b: &[Text]) -> bool
     others.is_empty()
 }
 
-/// The constants of a domain.
-fn constants(ty: &Ty) -> &[Text]
-    ensures { result.now ≡ constants (shape ty.now) }
-{
-    match ty {
-        Ty::Domain(constants) => constants.as_slice(),
-        _ => &[],
-    }
-}
-
 /// Whether two lists have the same domains in the same order.
 fn same_domains(a: &[Ty], b: &[Ty]) -> bool
     ensures { result ≡ spec.same_domains (constants_of (shapes_of (map shape a.now))) (constants_of (shapes_of (map shape b.now))) }
@@ -50,7 +40,7 @@ fn same_domains(a: &[Ty], b: &[Ty]) -> bool
         match others.split_first() {
             None => return false,
             Some((other, rest)) => {
-                if !same_texts(constants(ty), constants(other)) {
+                if !same_texts(ty.constants(), other.constants()) {
                     return false;
                 }
                 others = rest;

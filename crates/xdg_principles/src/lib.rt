@@ -7,11 +7,9 @@ mod fitting;
 mod keys;
 mod lookup;
 mod names;
-mod principle;
 mod settings;
 mod using;
 
 pub use arguments::check_arguments;
 pub use building::{Arg, PrincipleUse, uses};
 pub use names::check_names;
-pub use principle::{Dims, Element, Form, Key, Parameter, Preset, Sort, Typing, Wanted, Which};

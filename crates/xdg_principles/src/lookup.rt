@@ -6,11 +6,11 @@ ghost use Rattle.xdg_types.specs.Table.{KeepDims, firsts};
 ghost use Rattle.xdg_principles.specs.Lent as spec;
 ghost use Rattle.xdg_principles.specs.Settings.{members_in};
 
-use crate::principle::Sort;
-use std::alloc::{AllocError, Global};
-use xdg_base::{List, Text};
+use std::alloc::Global;
+use xdg_base::{List, OutOfMemory, Text};
 use xdg_domain::Ty;
 use xdg_names::Index;
+use xdg_problem::Sort;
 use xdg_types::{DimType, TypeTable, index_dims};
 
 /// Indexes of the names in a table of types, each by its place.
@@ -48,7 +48,7 @@ pub(crate) fn members(dim: &DimType, sort: Sort) -> &[(Text, Ty)]
 
 /// The indexes of a table. Its time is linear in the number of names.
 #[tactic(auto, using(crate::proofs::Lookups::knows))]
-pub(crate) fn index_names(alloc: Global, table: &TypeTable) -> Result<Lookup, AllocError>
+pub(crate) fn index_names(alloc: Global, table: &TypeTable) -> Result<Lookup, OutOfMemory>
     ensures { IfOk result (λ made. spec.Knows table.now.dims made) }
 {
     let dims = table.dims();
@@ -60,7 +60,7 @@ pub(crate) fn index_names(alloc: Global, table: &TypeTable) -> Result<Lookup, Al
 }
 
 /// The names of the features or the attributes of each dimension.
-fn all_names(alloc: Global, dims: &[DimType], sort: Sort) -> Result<List<Index>, AllocError>
+fn all_names(alloc: Global, dims: &[DimType], sort: Sort) -> Result<List<Index>, OutOfMemory>
     requires { KeepDims dims.now }
     ensures { IfOk result (λ made. made ≡ spec.member_names sort dims.now) }
 {
@@ -71,7 +71,7 @@ fn all_names(alloc: Global, dims: &[DimType], sort: Sort) -> Result<List<Index>,
     Ok(all)
 }
 
-fn names_of(alloc: Global, members: &[(Text, Ty)]) -> Result<Index, AllocError>
+fn names_of(alloc: Global, members: &[(Text, Ty)]) -> Result<Index, OutOfMemory>
     requires { Differ (firsts members.now) }
     ensures { IfOk result (λ made. made ≡ firsts members.now) }
 {

@@ -1,24 +1,25 @@
 //! The pass over the names in the uses of principles.
 
 ghost use Rattle.std.specs.Prelude.{◌≡◌, [], ◌∷◌, map, flat_map, IfOk, if◌then◌else◌};
+ghost use Rattle.xdg_base.specs.Faults.{fault_at};
 ghost use Rattle.xdg_base.specs.declared.faults.Cause.TheVariants as causes;
 ghost use Rattle.xdg_names.specs.First.{first, Tells};
 ghost use Rattle.xdg_names.specs.Texts.{has_text};
 ghost use Rattle.xdg_types.specs.NameFaults as names;
-ghost use Rattle.xdg_types.specs.Names.{fault_at};
 ghost use Rattle.xdg_types.specs.Parts.{dim_names, used_name, used_names, keys};
 ghost use Rattle.xdg_principles.specs.Names.{PrincipleNameOffends, dim_keys, arg_keys, required_key, required_keys};
 ghost use Rattle.xdg_principles.specs.NameFaults as spec;
-ghost use Rattle.xdg_principles.specs.Principles.{dim_key, dims_in, told, key_text, principle_named};
+ghost use Rattle.xdg_problem.specs.Forms.{dim_key, dims_in, told, key_text};
+ghost use Rattle.xdg_problem.specs.Names.{named};
 ghost use Rattle.xdg_principles.specs.Uses.{seen};
 
 use crate::keys::{has_key, unknown_among};
-use crate::principle::{Dims, Form, Parameter, Preset, Which, principle};
 use crate::using::{UseRef, principle_uses};
-use std::alloc::{AllocError, Global};
+use std::alloc::Global;
 use xdg_ast::{Name, Pair, Statement, StatementKind, Term};
-use xdg_base::{Cause, Fault};
+use xdg_base::{Cause, Fault, OutOfMemory};
 use xdg_names::{Index, earlier};
+use xdg_problem::{Dims, Form, Parameter, Preset, Which, form_of, principle_named};
 use xdg_types::{keys_again, repeated};
 
 /// The first fault of the names in the uses of principles, in dimensions that are used and in others, if there is one.
@@ -35,13 +36,13 @@ use xdg_types::{keys_again, repeated};
 ///
 /// Want of memory.
 #[tactic(auto, using(crate::proofs::NameLaw::names_tell))]
-pub fn check_names(alloc: Global, statements: &[Statement]) -> Result<Option<Fault>, AllocError>
+pub fn check_names(alloc: Global, statements: &[Statement]) -> Result<Option<Fault>, OutOfMemory>
     ensures { IfOk result (λ found. Tells (PrincipleNameOffends statements.now) found) }
 {
     names_wrong(alloc, statements)
 }
 
-fn names_wrong(alloc: Global, statements: &[Statement]) -> Result<Option<Fault>, AllocError>
+fn names_wrong(alloc: Global, statements: &[Statement]) -> Result<Option<Fault>, OutOfMemory>
     ensures { IfOk result (λ found. found ≡ first (spec.name_faults statements.now)) }
 {
     let defined = defined_dims(alloc, statements)?;
@@ -51,7 +52,7 @@ fn names_wrong(alloc: Global, statements: &[Statement]) -> Result<Option<Fault>,
 }
 
 /// The different names of the dimensions, in the order of the text.
-fn defined_dims(alloc: Global, statements: &[Statement]) -> Result<Index, AllocError>
+fn defined_dims(alloc: Global, statements: &[Statement]) -> Result<Index, OutOfMemory>
     ensures { IfOk result (λ made. made ≡ names.different (dim_names statements.now)) }
 {
     let mut known = Index::new(alloc);
@@ -61,7 +62,7 @@ fn defined_dims(alloc: Global, statements: &[Statement]) -> Result<Index, AllocE
     Ok(known)
 }
 
-fn add_defined(alloc: Global, known: &mut Index, statement: &Statement) -> Result<(), AllocError>
+fn add_defined(alloc: Global, known: &mut Index, statement: &Statement) -> Result<(), OutOfMemory>
     ensures { IfOk result (λ _. known.new ≡ names.with_all known.old (names.dim_name statement.now.kind)) }
 {
     if let StatementKind::DefDim(name, _) = &statement.kind {
@@ -71,7 +72,7 @@ fn add_defined(alloc: Global, known: &mut Index, statement: &Statement) -> Resul
 }
 
 /// The different names of the dimensions that are used, in the order of their uses.
-fn used_dims(alloc: Global, statements: &[Statement]) -> Result<Index, AllocError>
+fn used_dims(alloc: Global, statements: &[Statement]) -> Result<Index, OutOfMemory>
     ensures { IfOk result (λ made. made ≡ names.different (used_names statements.now)) }
 {
     let mut known = Index::new(alloc);
@@ -81,7 +82,7 @@ fn used_dims(alloc: Global, statements: &[Statement]) -> Result<Index, AllocErro
     Ok(known)
 }
 
-fn add_used(alloc: Global, known: &mut Index, statement: &Statement) -> Result<(), AllocError>
+fn add_used(alloc: Global, known: &mut Index, statement: &Statement) -> Result<(), OutOfMemory>
     ensures { IfOk result (λ _. known.new ≡ names.with_all known.old (used_name statement.now.kind)) }
 {
     if let StatementKind::UseDim(name) = &statement.kind {
@@ -96,7 +97,7 @@ fn check_uses<'a>(
     defined: &Index,
     used: &Index,
     uses: &[UseRef<'a>],
-) -> Result<Option<Fault>, AllocError>
+) -> Result<Option<Fault>, OutOfMemory>
     ensures { IfOk result (λ found. found ≡ first (flat_map (spec.use_faults defined.now used.now) (map seen uses.now))) }
 {
     let mut found = None;
@@ -113,13 +114,13 @@ fn check_use<'a>(
     defined: &Index,
     used: &Index,
     one: &UseRef<'a>,
-) -> Result<Option<Fault>, AllocError>
+) -> Result<Option<Fault>, OutOfMemory>
     ensures { IfOk result (λ found. found ≡ first (spec.use_faults defined.now used.now (seen one.now))) }
 {
     let again = earlier(keys_again(alloc, one.dims)?, keys_again(alloc, one.args)?);
     let unknown = unknown_among(defined, one.dims);
     let dims = earlier(unknown, unused_dims(used, one));
-    Ok(earlier(again, earlier(dims, check_form(one))))
+    Ok(earlier(again, earlier(dims, check_principle(one))))
 }
 
 /// The first dimension that isn't used, where the use stands in one that is used.
@@ -135,16 +136,15 @@ fn unused_dims<'a>(used: &Index, one: &UseRef<'a>) -> Option<Fault>
 
 /// What the principle that is named hasn't, or lacks.
 #[tactic(auto, using(xdg_names::proofs::First::first_append))]
-fn check_form<'a>(one: &UseRef<'a>) -> Option<Fault>
-    ensures { result ≡ first (spec.form_faults (seen one.now) (principle_named one.now.name.now.text)) }
+fn check_principle<'a>(one: &UseRef<'a>) -> Option<Fault>
+    ensures { result ≡ first (spec.principle_faults (seen one.now) (named one.now.name.now.text)) }
 {
-    match principle(one.name.text.as_str()) {
-        None => Some(Fault {
-            cause: Cause::UnknownPrinciple,
-            at: one.name.span.start,
-            reached: 0,
-        }),
-        Some(form) => earlier(foreign_keys(form, one), left_out(form, one)),
+    match principle_named(one.name.text.as_str()) {
+        None => Some(Fault::at(Cause::UnknownPrinciple, one.name.span.start)),
+        Some(principle) => {
+            let form = form_of(&principle);
+            earlier(foreign_keys(form, one), left_out(form, one))
+        }
     }
 }
 
@@ -191,11 +191,7 @@ fn foreign(key: &Name, is_known: bool) -> Option<Fault>
     if is_known {
         None
     } else {
-        Some(Fault {
-            cause: Cause::WrongParams,
-            at: key.span.start,
-            reached: 0,
-        })
+        Some(Fault::at(Cause::WrongParams, key.span.start))
     }
 }
 
@@ -285,10 +281,6 @@ fn lacking(principle: &Name, is_given: bool) -> Option<Fault>
     if is_given {
         None
     } else {
-        Some(Fault {
-            cause: Cause::MissingArg,
-            at: principle.span.start,
-            reached: 0,
-        })
+        Some(Fault::at(Cause::MissingArg, principle.span.start))
     }
 }

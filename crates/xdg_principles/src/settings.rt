@@ -7,16 +7,17 @@ ghost use Rattle.xdg_terms.specs.Forms.{constant_of};
 ghost use Rattle.xdg_terms.specs.Offences.{is_some};
 ghost use Rattle.xdg_types.specs.Kinds as kinds;
 ghost use Rattle.xdg_principles.specs.Lent.{IsReady, as_setting, as_called};
-ghost use Rattle.xdg_principles.specs.Principles.{preset_feature};
+ghost use Rattle.xdg_problem.specs.Forms.{preset_feature};
 ghost use Rattle.xdg_principles.specs.Settings as spec;
 
 use crate::keys::under;
 use crate::lookup::{Lookup, members};
-use crate::principle::{Element, Form, Parameter, Sort, Typing, Wanted, Which};
 use crate::using::UseRef;
 use xdg_ast::{Name, Term, TermKind};
 use xdg_base::Text;
 use xdg_domain::Ty;
+use xdg_problem::{Element, Form, Parameter, Sort, Typing, Wanted, Which};
+use xdg_terms::constant;
 use xdg_types::DimType;
 
 /// A use of a known principle, among the dimensions of a grammar.
@@ -39,17 +40,6 @@ pub(crate) struct CalledRef<'a> {
     pub(crate) text: &'a str,
     /// Where it stands; of a default where the name of the principle stands.
     pub(crate) at: u32,
-}
-
-/// The constant that the term is.
-#[tactic(auto, unfolding(xdg_terms::specs::Forms::constant_of))]
-pub(crate) fn constant(term: &Term) -> Option<&Name>
-    ensures { option_copied result ≡ constant_of term.now }
-{
-    match &term.kind {
-        TermKind::Const(name) => Some(name),
-        _ => None,
-    }
 }
 
 /// Whether the term is in square brackets.

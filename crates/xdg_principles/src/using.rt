@@ -3,9 +3,9 @@
 ghost use Rattle.std.specs.Prelude.{◌≡◌, ◌++◌, map, IfOk};
 ghost use Rattle.xdg_principles.specs.Uses as spec;
 
-use std::alloc::{AllocError, Global};
+use std::alloc::Global;
 use xdg_ast::{DimPart, DimPartKind, Name, Pair, Statement, StatementKind, Term};
-use xdg_base::List;
+use xdg_base::{List, OutOfMemory};
 
 /// A use of a principle, with what it is given.
 #[derive(Clone, Copy)]
@@ -35,7 +35,7 @@ fn add_uses<'a>(
     within: &'a Name,
     parts: &'a [DimPart],
     made: &mut Vec<UseRef<'a>>,
-) -> Result<(), AllocError>
+) -> Result<(), OutOfMemory>
     ensures { IfOk result (λ _. map spec.seen made.new.items ≡ map spec.seen made.old.items ++ spec.uses_by within.now parts.now) }
 {
     for part in parts {
@@ -55,7 +55,7 @@ fn add_uses<'a>(
 pub(crate) fn principle_uses<'a>(
     alloc: Global,
     statements: &'a [Statement],
-) -> Result<Vec<UseRef<'a>>, AllocError>
+) -> Result<Vec<UseRef<'a>>, OutOfMemory>
     ensures { IfOk result (λ made. map spec.seen made.items ≡ spec.principle_uses statements.now) }
 {
     let mut made = Vec::new(alloc);

@@ -1,7 +1,8 @@
 -- The lines of the lexicon, put one after the other.
-use Rattle.std.proofs.Common.{◌≡◌, ℕ, zero, suc, ◌<◌, ◌≤◌, ◌+◌, List, [], ◌∷◌, length, get_or, slice_get, drop, Option, Some, None, unwrap_or, refl, sym, ap, ap₂, ◌∙◌, subst, arith}
+use Rattle.std.proofs.Common.{◌≡◌, ℕ, zero, suc, ◌<◌, ◌≤◌, ◌+◌, List, [], ◌∷◌, length, get_or, slice_get, drop, Option, Some, None, refl, sym, ap, ap₂, ◌∙◌, subst, arith}
+use Rattle.std.specs.Prelude.{IfSome}
 use Rattle.std.proofs.lemmas.List.{drop_all}
-use Rattle.std.proofs.lemmas.Option.{slice_get_read, slice_get-get_or, unwrap_or-slice_get}
+use Rattle.std.proofs.lemmas.Option.{slice_get_read, slice_get-get_or, slice_get_within}
 use Rattle.xdg_ast.specs.declared.token.Kind.TheVariants as k
 use Rattle.xdg_ast.specs.Words.{mark, constant}
 use Rattle.xdg_domain.specs.Shapes.{fields, fields_of, AreTypes}
@@ -11,8 +12,8 @@ use Rattle.xdg_domain.specs.declared.values.Value.{out-Value}
 use Rattle.xdg_domain.specs.declared.values.Value.TheVariants as v
 use Rattle.xdg_types.specs.declared.table.DimType.{DimType}
 use Rattle.xdg_types.specs.Table.{Table, Typed, typed, AreFeatures, KeepsDim, KeepDims, ArePlaces, IsTable}
-use Rattle.xdg_packed.specs.Lexicon.{Record, Entry, said_in}
-use Rattle.xdg_packed.specs.Entries.{IsEntry, AreEntries}
+use Rattle.xdg_packed.specs.Lexicon.{Record, Entry}
+use Rattle.xdg_packed.specs.Entries.{IsEntry, AreEntries, TellsWordPlace}
 use Rattle.xdg_print.specs.declared.printer.Printer.{Printer}
 use Rattle.xdg_print.specs.Printed.{put, put_lines, begun, ended}
 use Rattle.xdg_print.proofs.Put.{put_append, put_lines_append, text_of_lines}
@@ -20,25 +21,17 @@ use Rattle.xdg_print.proofs.Written.{put_mark}
 use Rattle.xdg_print.specs.LexiconText.{dim_line, dim_line_at, dim_lines, end_line, entries_line, entry_line, entry_lines, entries_lines, lexicon_lines, lexicon_text, word_at}
 use Rattle.xdg_print.specs.ValueWords.{features_words}
 use Rattle.xdg_print.specs.WordPlaces.{place_of_word}
-use Rattle.xdg_facts.proofs.Lists.{from_place}
-use Rattle.xdg_facts.proofs.Lists.{any_default}
+use Rattle.xdg_facts.proofs.Lists.{from_place, any_default}
 
 abbrev start : Printer
 start = record { text = []; last = None }
 
 -- ---- words
 
--- where there is no record, there is no word
-pub no_record : (entry : Entry) (dim field : ℕ) → None ≡ slice_get entry dim → [] ≡ said_in (get_or entry dim []) field
-no_record entry dim field none = ap (λ m. said_in m field) (ap (λ o. unwrap_or o []) none ∙ unwrap_or-slice_get entry dim [])
-
-pub record_there : (entry : Entry) (dim field : ℕ) (m given : Record) (said : List ℕ) → Some m ≡ slice_get entry dim → given ≡ m → said ≡ said_in given field → said ≡ said_in (get_or entry dim []) field
-record_there entry dim field m given said some same is = is ∙ ap (λ x. said_in x field) (same ∙ ap (λ o. unwrap_or o m) some ∙ unwrap_or-slice_get entry dim m ∙ any_default_at entry dim m [] (sym some))
-  where
-    any_default_at : (xs : Entry) (i : ℕ) (d e : Record) → slice_get xs i ≡ Some d → get_or xs i d ≡ get_or xs i e
-    any_default_at [] i d e h = absurd (cc)
-    any_default_at (x ∷ xs) zero d e h = refl
-    any_default_at (x ∷ xs) (suc i) d e h = any_default_at xs i d e h
+-- the place of the words stands in each entry
+pub place_within : (table : Table) (place : Option (ℕ × ℕ)) → TellsWordPlace table place → IfSome place (λ at. at.0 < length table.used)
+place_within table None h = tt
+place_within table (Some at) h = slice_get_within table.used at.0 h.used.0 h.used.1.0
 
 -- ---- dimensions
 
@@ -53,11 +46,15 @@ dim_done dim m name types said p began marked named opened listed closed name_is
     ap ended (six ∙ ap (put_mark k.RightBrace) (five ∙ ap₂ (λ ts ms. put (features_words (fields_of (typed ts)) ms) opened) types_are same ∙ ap (put words) before)
     ∙ sym (put_append words (mark k.RightBrace ∷ []) (put_mark k.LeftBrace (put (constant dim.name ∷ []) (put_mark k.Dim (begun [] p))))))
 
--- the place of a used dimension is one of a dimension
-pub place_below : (bound : ℕ) (ks : List ℕ) (i : ℕ) → ArePlaces bound ks → i < length ks → get_or ks i 0 < bound
+place_below : (bound : ℕ) (ks : List ℕ) (i : ℕ) → ArePlaces bound ks → i < length ks → get_or ks i 0 < bound
 place_below bound [] i h within = absurd (omega (arith, within))
 place_below bound (j ∷ ks) zero h within = h.0.0
 place_below bound (j ∷ ks) (suc i) h within = place_below bound ks i h.1 (omega (arith, within))
+
+-- the place of a used dimension is one of a dimension
+pub used_below : (table : Table) (dims : List DimType) (used : List ℕ) (i : ℕ) → IsTable table → dims ≡ table.dims → used ≡ table.used → i < length used → get_or used i 0 < length dims
+used_below table dims used i h same lent within =
+    place_below (length dims) used i (subst (λ n. ArePlaces n used) (ap length (sym same)) (subst (ArePlaces (length table.dims)) (sym lent) h.used)) within
 
 kept_at : (dims : List DimType) (i : ℕ) (dim : DimType) → KeepDims dims → i < length dims → dim ≡ get_or dims i dim → KeepsDim dim
 kept_at [] i dim h within is = absurd (omega (arith, within))
@@ -73,23 +70,21 @@ pub dim_types : (table : Table) (dims : List DimType) (k : ℕ) (dim : DimType) 
 dim_types table dims k dim h same within is = types_of_features (typed dim.fields) (kept_at dims k dim (subst KeepDims (sym same) h.dims) within is).features
 
 -- and the record of an entry says values of them
-pub dim_said : (table : Table) (dims : List DimType) (used : List ℕ) (entry records : List Record) (i : ℕ) (dim : DimType) (m : Record) → IsEntry table entry → dims ≡ table.dims → used ≡ table.used → records ≡ entry → i < length used → get_or used i 0 < length dims
-    → dim ≡ get_or dims (get_or used i 0) dim → i < length records → m ≡ get_or records i m → EachSaid (IsFieldOf (fields_of (typed dim.fields))) m
-dim_said table dims used entry records i dim m h same lent given within below is there at =
+pub dim_said : (table : Table) (dims : List DimType) (used : List ℕ) (entry : Entry) (i : ℕ) (dim : DimType) (m : Record) → IsEntry table entry → dims ≡ table.dims → used ≡ table.used → i < length used → get_or used i 0 < length dims
+    → dim ≡ get_or dims (get_or used i 0) dim → m ≡ get_or entry i [] → EachSaid (IsFieldOf (fields_of (typed dim.fields))) m
+dim_said table dims used entry i dim m h same lent within below is at =
     let place : slice_get table.used i ≡ Some (get_or used i 0) = ap (λ us. slice_get us i) (sym lent) ∙ slice_get-get_or used i 0 within in
     let stands : slice_get table.dims (get_or used i 0) ≡ Some dim = ap (λ ds. slice_get ds (get_or used i 0)) (sym same) ∙ slice_get_read dims (length dims) (get_or used i 0) dim refl below is in
-    let record_is : get_or entry i [] ≡ m = ap (λ ms. get_or ms i []) (sym given) ∙ any_default records i [] m there ∙ sym at in
-    (subst (IsIn (fields (fields_of (typed dim.fields)))) (ap (λ x. out-Value (v.Rec x)) record_is ∙ v.outs-Rec m) (h.each i dim (get_or used i 0, (place, stands))).0).1
+    (subst (IsIn (fields (fields_of (typed dim.fields)))) (ap (λ x. out-Value (v.Rec x)) (sym at) ∙ v.outs-Rec m) (h.each i dim (get_or used i 0, (place, stands))).0).1
 
-pub as_many : (table : Table) (used : List ℕ) (entry records : List Record) (i : ℕ) → IsEntry table entry → used ≡ table.used → records ≡ entry → i < length used → i < length records
-as_many table used entry records i h lent given within =
+pub as_many : (table : Table) (used : List ℕ) (entry : Entry) (i : ℕ) → IsEntry table entry → used ≡ table.used → i < length used → i < length entry
+as_many table used entry i h lent within =
     let a = h.count in
-    let b = ap length lent in
-    let c = ap length given in omega (arith, a, b, c, within)
+    let b = ap length lent in omega (arith, a, b, within)
 
 -- the line of the used dimension at a place was added
-pub next_dim : (dims : List DimType) (used : List ℕ) (records : List Record) (i : ℕ) (dim : DimType) (m : Record) (p q end : Printer) → i < length used → get_or used i 0 < length dims → dim ≡ get_or dims (get_or used i 0) dim
-    → i < length records → m ≡ get_or records i m → q ≡ put_lines (dim_line dim m ∷ []) p → put_lines (dim_lines dims (drop i used) (drop i records)) p ≡ end → put_lines (dim_lines dims (drop (i + 1) used) (drop (i + 1) records)) q ≡ end
+pub next_dim : (dims : List DimType) (used : List ℕ) (records : Entry) (i : ℕ) (dim : DimType) (m : Record) (p q end : Printer) → i < length used → get_or used i 0 < length dims → dim ≡ get_or dims (get_or used i 0) dim
+    → i < length records → m ≡ get_or records i [] → q ≡ put_lines (dim_line dim m ∷ []) p → put_lines (dim_lines dims (drop i used) (drop i records)) p ≡ end → put_lines (dim_lines dims (drop (i + 1) used) (drop (i + 1) records)) q ≡ end
 unfolding dim_lines
 next_dim dims used records i dim m p q end within below is there at added before =
     let k = get_or used i 0 in
@@ -97,7 +92,7 @@ next_dim dims used records i dim m p q end within below is there at added before
     let later = dim_lines dims (drop (i + 1) used) (drop (i + 1) records) in
     ap (put_lines later) (added ∙ ap (λ o. put_lines (dim_line_at o m) p) (sym stands))
     ∙ sym (put_lines_append (dim_line_at (slice_get dims k) m) later p)
-    ∙ ap₂ (λ us ms. put_lines (dim_lines dims us ms) p) (sym (from_place used i k within (any_default used i 0 k within))) (sym (from_place records i m there at))
+    ∙ ap₂ (λ us ms. put_lines (dim_lines dims us ms) p) (sym (from_place used i k within (any_default used i 0 k within))) (sym (from_place records i m there (at ∙ any_default records i [] m there)))
     ∙ before
 
 pub all_dims : (dims : List DimType) (used : List ℕ) (records : List Record) (i : ℕ) (p end : Printer) → length used ≤ i → put_lines (dim_lines dims (drop i used) (drop i records)) p ≡ end → p ≡ end
@@ -112,18 +107,18 @@ entry_done table place n entry word p q r is one two =
     ap (put_lines (end_line ∷ [])) (two ∙ ap (put_lines (dim_lines table.dims table.used entry)) (one ∙ ap (λ w. put_lines (entry_line n w ∷ []) p) is))
     ∙ sym (put_lines_append (dim_lines table.dims table.used entry) (end_line ∷ []) (put_lines (entry_line n (word_at place entry) ∷ []) p))
 
-pub entry_at : (table : Table) (entries : List Entry) (i : ℕ) (entry : Entry) → AreEntries table entries → i < length entries → entry ≡ get_or entries i entry → IsEntry table entry
+pub entry_at : (table : Table) (entries : List Entry) (i : ℕ) (entry : Entry) → AreEntries table entries → i < length entries → entry ≡ get_or entries i [] → IsEntry table entry
 entry_at table [] i entry h within is = absurd (omega (arith, within))
 entry_at table (e ∷ entries) zero entry h within is = subst (IsEntry table) (sym is) h.0
 entry_at table (e ∷ entries) (suc i) entry h within is = entry_at table entries i entry h.1 (omega (arith, within)) is
 
 -- the lines of the entry at a place were added
-pub next_entry : {q end : Printer} (p : Printer) (table : Table) (place : Option (ℕ × ℕ)) (entries : List Entry) (i : ℕ) (entry : Entry) → i < length entries → entry ≡ get_or entries i entry
+pub next_entry : {q end : Printer} (p : Printer) (table : Table) (place : Option (ℕ × ℕ)) (entries : List Entry) (i : ℕ) (entry : Entry) → i < length entries → entry ≡ get_or entries i []
     → put_lines (entries_lines table place (i + 1) (drop i entries)) p ≡ end → q ≡ put_lines (entry_lines table place (i + 1) entry) p → put_lines (entries_lines table place (i + 1 + 1) (drop (i + 1) entries)) q ≡ end
 unfolding entries_lines
 next_entry {q} {end} p table place entries i entry within is before added =
     ap (put_lines (entries_lines table place (i + 1 + 1) (drop (i + 1) entries))) added ∙ sym (put_lines_append (entry_lines table place (i + 1) entry) (entries_lines table place (i + 1 + 1) (drop (i + 1) entries)) p)
-    ∙ ap (λ z. put_lines (entries_lines table place (i + 1) z) p) (sym (from_place entries i entry within is)) ∙ before
+    ∙ ap (λ z. put_lines (entries_lines table place (i + 1) z) p) (sym (from_place entries i entry within (is ∙ any_default entries i [] entry within))) ∙ before
 
 -- where no entry is left, all were added
 pub all_entries : {end : Printer} (p : Printer) (table : Table) (place : Option (ℕ × ℕ)) (entries : List Entry) (i : ℕ) → length entries ≤ i → put_lines (entries_lines table place (i + 1) (drop i entries)) p ≡ end → p ≡ end

@@ -8,8 +8,8 @@ ghost use Rattle.xdg_print.specs.Printed.{put};
 ghost use Rattle.xdg_print.specs.ValueWords.{sign_for, card_words};
 
 use crate::printer::Printer;
-use std::alloc::AllocError;
 use xdg_ast::Kind;
+use xdg_base::OutOfMemory;
 use xdg_domain::CardSet;
 
 /// Whether it allows the number 0 alone.
@@ -68,7 +68,7 @@ fn sign_of(cards: &CardSet) -> Option<Kind>
 }
 
 /// Adds the numbers of a cardinality, rising.
-fn put_numbers(printer: &mut Printer, cards: &CardSet) -> Result<(), AllocError>
+fn put_numbers(printer: &mut Printer, cards: &CardSet) -> Result<(), OutOfMemory>
     ensures { OnOk result (printer.new ≡ put (map word.number cards.now) printer.old) }
 {
     for number in 0..128u8 {
@@ -81,7 +81,7 @@ fn put_numbers(printer: &mut Printer, cards: &CardSet) -> Result<(), AllocError>
 }
 
 /// Adds a cardinality: `!`, `?`, `*` or `+` where it is one of these, else `#{..}` with its numbers.
-pub(crate) fn put_cards(printer: &mut Printer, cards: &CardSet) -> Result<(), AllocError>
+pub(crate) fn put_cards(printer: &mut Printer, cards: &CardSet) -> Result<(), OutOfMemory>
     ensures { OnOk result (printer.new ≡ put (card_words cards.now) printer.old) }
 {
     match sign_of(cards) {

@@ -5,8 +5,8 @@ ghost use Rattle.xdg_ast.specs.Trees.{expr_phrase};
 ghost use Rattle.xdg_print.specs.Printed.{put, is_joined, is_disjoined};
 
 use crate::printer::Printer;
-use std::alloc::AllocError;
 use xdg_ast::{ExprKind, Kind, Params};
+use xdg_base::OutOfMemory;
 
 /// Whether an expression stands in brackets in a conjunction.
 #[tactic(auto, using(crate::proofs::WrittenTerms::expr_steps))]
@@ -27,7 +27,7 @@ fn is_disjoined(params: &Params, expr: &ExprKind) -> bool
 impl Printer {
     /// Adds an expression in the body of a class with these parameters.
     #[tactic(auto, using(crate::proofs::WrittenTerms::expr_steps))]
-    pub(crate) fn expr(&mut self, params: &Params, expr: &ExprKind) -> Result<(), AllocError>
+    pub(crate) fn expr(&mut self, params: &Params, expr: &ExprKind) -> Result<(), OutOfMemory>
         ensures { OnOk result (self.new ≡ put (expr_phrase params.now expr.now).words self.old) }
     {
         match expr {

@@ -1,11 +1,9 @@
 //! The lines of the lexicon.
 
-ghost use Rattle.std.specs.Prelude.{◌≡◌, ◌<◌, ◌^◌, [], ◌∷◌, length, IfOk, OnOk};
+ghost use Rattle.std.specs.Prelude.{◌≡◌, ◌<◌, [], ◌∷◌, length, IfOk, IfSome, OnOk};
 ghost use Rattle.xdg_domain.specs.Shapes.{fields_of, AreTypes};
 ghost use Rattle.xdg_domain.specs.Values.{EachSaid, IsFieldOf};
 ghost use Rattle.xdg_packed.specs.Entries.{AreEntries, IsEntry};
-ghost use Rattle.xdg_domain.specs.declared.values.Value.{out-Value};
-ghost use Rattle.xdg_packed.specs.Lexicon.{said_in, text_in};
 ghost use Rattle.xdg_print.specs.Printed.{put, put_lines};
 ghost use Rattle.xdg_types.specs.Table.{typed};
 ghost use Rattle.xdg_print.specs.LexiconText.{dim_line, dim_lines, end_line, entries_line, entries_lines, entry_line, entry_lines, lexicon_text, word_at};
@@ -14,51 +12,28 @@ ghost use Rattle.xdg_print.specs.WordPlaces.{place_of_word};
 
 use crate::printer::Printer;
 use crate::values::put_value;
-use std::alloc::{AllocError, Global};
+use std::alloc::Global;
 use xdg_ast::Kind;
-use xdg_base::{OutOfMemory, Text};
-use xdg_domain::{Entry, Fields, Ty, Value};
-use xdg_packed::word_place;
+use xdg_base::{EntryNo, OutOfMemory, Text};
+use xdg_domain::{Fields, Ty, Value};
+use xdg_packed::{EntryView, Packed, text_at, word_place};
 use xdg_types::{DimType, TypeTable};
 
-/// The text of a value, if it is one.
-fn text_of(value: &Value) -> &str
-    ensures { result.now ≡ text_in (out-Value value.now) }
-{
-    match value {
-        Value::Str(text) => text.as_str(),
-        _ => "",
-    }
-}
-
-/// The text that a record says for a field.
-fn said_text(said: &[(u32, Value)], field: usize) -> &str
-    ensures { result.now ≡ said_in said.now field }
-{
-    for feature in said {
-        if feature.0 as usize == field {
-            return text_of(&feature.1);
-        }
-    }
-    ""
-}
-
 /// The word that an entry says at the place.
-fn word_of(entry: &Entry, place: Option<(usize, usize)>) -> &str
+fn word_of<'a>(entry: &EntryView<'a>, place: Option<(usize, usize)>) -> &'a str
+    requires { IfSome place (λ at. at.0 < length entry.now) }
     ensures { result.now ≡ word_at place entry.now }
 {
     match place {
         None => "",
-        Some((dim, field)) => match entry.get(dim) {
-            None => "",
-            Some(said) => said_text(said.as_slice(), field),
-        },
+        Some((dim, field)) => text_at(entry.fields(dim), field),
     }
 }
 
 /// Where entries say their words, if they have one.
 fn place_of_words(types: &TypeTable) -> Option<(usize, usize)>
-    ensures { result ≡ place_of_word types.now }
+    ensures place { result ≡ place_of_word types.now }
+    ensures within { IfSome result (λ at. at.0 < length types.now.used) }
 {
     // This call tells that names differ.
     let _ = types.dims();
@@ -66,7 +41,7 @@ fn place_of_words(types: &TypeTable) -> Option<(usize, usize)>
 }
 
 /// Adds the line `entry E "W"`.
-fn put_entry_line(printer: &mut Printer, place: u32, word: &str) -> Result<(), AllocError>
+fn put_entry_line(printer: &mut Printer, place: u32, word: &str) -> Result<(), OutOfMemory>
     ensures { OnOk result (printer.new ≡ put_lines (entry_line place word.now ∷ []) printer.old) }
 {
     printer.begin("")?;
@@ -81,7 +56,7 @@ fn put_features(
     printer: &mut Printer,
     types: &[(Text, Ty)],
     said: &[(u32, Value)],
-) -> Result<(), AllocError>
+) -> Result<(), OutOfMemory>
     requires right { AreTypes (fields_of (typed types.now)) }
     requires said { EachSaid (IsFieldOf (fields_of (typed types.now))) said.now }
     ensures { OnOk result (printer.new ≡ put (features_words (fields_of (typed types.now)) said.now) printer.old) }
@@ -96,7 +71,7 @@ fn put_features(
 }
 
 /// Adds the line `dim D {..}`.
-fn put_dim_line(printer: &mut Printer, dim: &DimType, said: &Fields) -> Result<(), AllocError>
+fn put_dim_line(printer: &mut Printer, dim: &DimType, said: &Fields) -> Result<(), OutOfMemory>
     requires right { AreTypes (fields_of (typed dim.now.fields)) }
     requires said { EachSaid (IsFieldOf (fields_of (typed dim.now.fields))) said.now }
     ensures { OnOk result (printer.new ≡ put_lines (dim_line dim.now said.now ∷ []) printer.old) }
@@ -111,21 +86,24 @@ fn put_dim_line(printer: &mut Printer, dim: &DimType, said: &Fields) -> Result<(
 }
 
 /// Adds a line for each used dimension.
-fn put_dim_lines(printer: &mut Printer, types: &TypeTable, entry: &Entry) -> Result<(), AllocError>
+fn put_dim_lines(
+    printer: &mut Printer,
+    types: &TypeTable,
+    entry: &EntryView<'_>,
+) -> Result<(), OutOfMemory>
     requires { IsEntry types.now entry.now }
     ensures { OnOk result (printer.new ≡ put_lines (dim_lines types.now.dims types.now.used entry.now) printer.old) }
 {
     let dims = types.dims();
     let used = types.used();
-    let records = entry.as_slice();
     for (place, at) in used.iter().enumerate() {
-        put_dim_line(printer, &dims[*at], &records[place])?;
+        put_dim_line(printer, &dims[*at], entry.fields(place))?;
     }
     Ok(())
 }
 
 /// Adds the line `end`.
-fn put_end_line(printer: &mut Printer) -> Result<(), AllocError>
+fn put_end_line(printer: &mut Printer) -> Result<(), OutOfMemory>
     ensures { OnOk result (printer.new ≡ put_lines (end_line ∷ []) printer.old) }
 {
     printer.begin("")?;
@@ -134,7 +112,7 @@ fn put_end_line(printer: &mut Printer) -> Result<(), AllocError>
 }
 
 /// Adds the line `entries E`.
-fn put_entries_line(printer: &mut Printer, count: u32) -> Result<(), AllocError>
+fn put_entries_line(printer: &mut Printer, count: u32) -> Result<(), OutOfMemory>
     ensures { OnOk result (printer.new ≡ put_lines (entries_line count ∷ []) printer.old) }
 {
     printer.begin("")?;
@@ -149,9 +127,10 @@ fn put_entry(
     types: &TypeTable,
     place: Option<(usize, usize)>,
     number: u32,
-    entry: &Entry,
-) -> Result<(), AllocError>
-    requires { IsEntry types.now entry.now }
+    entry: &EntryView<'_>,
+) -> Result<(), OutOfMemory>
+    requires within { IfSome place (λ at. at.0 < length types.now.used) }
+    requires entry { IsEntry types.now entry.now }
     ensures { OnOk result (printer.new ≡ put_lines (entry_lines types.now place number entry.now) printer.old) }
 {
     put_entry_line(printer, number, word_of(entry, place))?;
@@ -159,19 +138,20 @@ fn put_entry(
     put_end_line(printer)
 }
 
-/// Adds the lines of entries, numbered from 1.
+/// Adds the lines of the entries, numbered from 1.
 fn put_entries(
     printer: &mut Printer,
     types: &TypeTable,
     place: Option<(usize, usize)>,
-    entries: &[Entry],
-) -> Result<(), AllocError>
-    requires few { length entries.now < 2 ^ 32 }
-    requires entries { AreEntries types.now entries.now }
-    ensures { OnOk result (printer.new ≡ put_lines (entries_lines types.now place 1 entries.now) printer.old) }
+    lexicon: &Packed,
+) -> Result<(), OutOfMemory>
+    requires within { IfSome place (λ at. at.0 < length types.now.used) }
+    requires entries { AreEntries types.now lexicon.now.entries }
+    ensures { OnOk result (printer.new ≡ put_lines (entries_lines types.now place 1 lexicon.now.entries) printer.old) }
 {
-    for (at, entry) in entries.iter().enumerate() {
-        put_entry(printer, types, place, at as u32 + 1, entry)?;
+    let count = lexicon.len() as u32;
+    for at in 0..count {
+        put_entry(printer, types, place, at + 1, &lexicon.entry(EntryNo(at)))?;
     }
     Ok(())
 }
@@ -184,20 +164,13 @@ fn put_entries(
 ///
 /// # Errors
 ///
-/// Want of memory, also where there are 2^32 entries or more.
-pub fn lexicon_text(
-    alloc: Global,
-    types: &TypeTable,
-    entries: &[Entry],
-) -> Result<Text, OutOfMemory>
-    requires { AreEntries types.now entries.now }
-    ensures { IfOk result (λ text. text ≡ lexicon_text types.now entries.now) }
+/// Want of memory.
+pub fn lexicon_text(alloc: Global, types: &TypeTable, lexicon: &Packed) -> Result<Text, OutOfMemory>
+    requires { AreEntries types.now lexicon.now.entries }
+    ensures { IfOk result (λ text. text ≡ lexicon_text types.now lexicon.now.entries) }
 {
-    let Ok(count) = u32::try_from(entries.len()) else {
-        return Err(OutOfMemory);
-    };
     let mut printer = Printer::new(alloc);
-    put_entries(&mut printer, types, place_of_words(types), entries)?;
-    put_entries_line(&mut printer, count)?;
+    put_entries(&mut printer, types, place_of_words(types), lexicon)?;
+    put_entries_line(&mut printer, lexicon.len() as u32)?;
     Ok(printer.into_text())
 }

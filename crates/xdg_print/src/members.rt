@@ -1,7 +1,7 @@
 //! Constants, tuples and sets as they are written.
 
 ghost use Rattle.std.specs.Prelude.{◌≡◌, ◌<◌, map, OnOk};
-ghost use Rattle.xdg_domain.specs.Shapes.{shape, shapes_of, constants, constants_of, count, IsSmall};
+ghost use Rattle.xdg_domain.specs.Shapes.{shape, shapes_of, constants_of, count, IsSmall};
 ghost use Rattle.xdg_domain.specs.Sized.{sizes_of};
 ghost use Rattle.xdg_domain.specs.Tuples.{InRange};
 ghost use Rattle.xdg_domain.specs.Values.{AllBelow};
@@ -9,35 +9,24 @@ ghost use Rattle.xdg_print.specs.Printed.{put};
 ghost use Rattle.xdg_print.specs.ValueWords.{constants_at, member_words, members_words};
 
 use crate::printer::Printer;
-use std::alloc::AllocError;
 use xdg_ast::Kind;
-use xdg_base::Text;
+use xdg_base::{OutOfMemory, Text};
 use xdg_domain::{Tuple, Ty, tuple_of};
 
-/// The constants of a domain.
-fn constants_in(ty: &Ty) -> &[Text]
-    ensures { result.now ≡ constants (shape ty.now) }
-{
-    match ty {
-        Ty::Domain(all) => all.as_slice(),
-        _ => &[],
-    }
-}
-
 /// Adds the constant of each field of a tuple.
-fn put_fields(printer: &mut Printer, types: &[Ty], tuple: &Tuple<'_>) -> Result<(), AllocError>
+fn put_fields(printer: &mut Printer, types: &[Ty], tuple: &Tuple<'_>) -> Result<(), OutOfMemory>
     requires { InRange (sizes_of types.now) tuple.now }
     ensures { OnOk result (printer.new ≡ put (constants_at (constants_of (shapes_of (map shape types.now))) tuple.now) printer.old) }
 {
     for (field, ty) in types.iter().enumerate() {
-        let names = constants_in(ty);
+        let names = ty.constants();
         printer.constant(names[tuple.at(field) as usize].as_str())?;
     }
     Ok(())
 }
 
 /// Adds the constant or the tuple with that number.
-pub(crate) fn put_member(printer: &mut Printer, ty: &Ty, number: u16) -> Result<(), AllocError>
+pub(crate) fn put_member(printer: &mut Printer, ty: &Ty, number: u16) -> Result<(), OutOfMemory>
     requires small { IsSmall (shape ty.now) }
     requires below { number < count (shape ty.now) }
     ensures { OnOk result (printer.new ≡ put (member_words (shape ty.now) number) printer.old) }
@@ -54,7 +43,11 @@ pub(crate) fn put_member(printer: &mut Printer, ty: &Ty, number: u16) -> Result<
 }
 
 /// Adds a set with all its members.
-pub(crate) fn put_members(printer: &mut Printer, ty: &Ty, numbers: &[u16]) -> Result<(), AllocError>
+pub(crate) fn put_members(
+    printer: &mut Printer,
+    ty: &Ty,
+    numbers: &[u16],
+) -> Result<(), OutOfMemory>
     requires small { IsSmall (shape ty.now) }
     requires below { AllBelow (count (shape ty.now)) numbers.now }
     ensures { OnOk result (printer.new ≡ put (members_words (shape ty.now) numbers.now) printer.old) }

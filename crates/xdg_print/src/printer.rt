@@ -9,9 +9,9 @@ ghost use Rattle.xdg_print.specs.Printed.{put, begun, ended, opening, closing};
 
 use crate::words::{is_tight, mark_text, push_escaped};
 use itoa::Buffer;
-use std::alloc::{AllocError, Global};
+use std::alloc::Global;
 use xdg_ast::{Kind, Name, Num, Params};
-use xdg_base::{Text, is_name};
+use xdg_base::{OutOfMemory, Text, is_name};
 
 /// The text so far, and the kind of the last word of its last line, if it has one.
 #[derive(Drop)]
@@ -40,7 +40,7 @@ impl Printer {
 
     /// Begins a line with its indent.
     #[tactic(auto, unfolding(crate::specs::Printed::begun))]
-    pub fn begin(&mut self, indent: &str) -> Result<(), AllocError>
+    pub fn begin(&mut self, indent: &str) -> Result<(), OutOfMemory>
         ensures { OnOk result (self.new ≡ begun indent.now self.old) }
     {
         self.text.push_str(indent)?;
@@ -50,7 +50,7 @@ impl Printer {
 
     /// Ends a line.
     #[tactic(auto, unfolding(crate::specs::Printed::ended))]
-    pub fn end(&mut self) -> Result<(), AllocError>
+    pub fn end(&mut self) -> Result<(), OutOfMemory>
         ensures { OnOk result (self.new ≡ ended self.old) }
     {
         self.text.push_str("\n")?;
@@ -60,7 +60,7 @@ impl Printer {
 
     /// Adds what stands between the last word and the next, of this kind.
     #[tactic(auto, unfolding(xdg_ast::specs::Canon::gap))]
-    fn lead(&mut self, kind: Kind) -> Result<(), AllocError>
+    fn lead(&mut self, kind: Kind) -> Result<(), OutOfMemory>
         ensures { OnOk result (self.new ≡ (record { text = self.old.text ++ gap self.old.last kind; last = Some kind })) }
     {
         if let Some(last) = self.last
@@ -74,7 +74,7 @@ impl Printer {
 
     /// Adds a keyword or a sign.
     #[tactic(auto, unfolding(crate::specs::Printed::put_one, xdg_ast::specs::Canon::spelling))]
-    pub fn mark(&mut self, kind: Kind) -> Result<(), AllocError>
+    pub fn mark(&mut self, kind: Kind) -> Result<(), OutOfMemory>
         ensures { OnOk result (self.new ≡ put (mark kind ∷ []) self.old) }
     {
         self.lead(kind)?;
@@ -83,7 +83,7 @@ impl Printer {
 
     /// Adds a quoted text.
     #[tactic(auto, unfolding(crate::specs::Printed::put_one, xdg_ast::specs::Canon::spelling))]
-    pub fn quoted(&mut self, text: &str) -> Result<(), AllocError>
+    pub fn quoted(&mut self, text: &str) -> Result<(), OutOfMemory>
         ensures { OnOk result (self.new ≡ put (quoted text.now ∷ []) self.old) }
     {
         self.lead(Kind::Quoted)?;
@@ -94,7 +94,7 @@ impl Printer {
 
     /// Adds a constant, as a name where it can be one.
     #[tactic(auto, unfolding(crate::specs::Printed::put_one, xdg_ast::specs::Canon::spelling))]
-    pub fn constant(&mut self, text: &str) -> Result<(), AllocError>
+    pub fn constant(&mut self, text: &str) -> Result<(), OutOfMemory>
         ensures { OnOk result (self.new ≡ put (constant text.now ∷ []) self.old) }
     {
         if is_name(text) {
@@ -105,7 +105,7 @@ impl Printer {
     }
 
     /// Adds a constant in the body of a class: with the characters of a parameter it is quoted.
-    pub(crate) fn constant_in(&mut self, params: &Params, text: &str) -> Result<(), AllocError>
+    pub(crate) fn constant_in(&mut self, params: &Params, text: &str) -> Result<(), OutOfMemory>
         ensures { OnOk result (self.new ≡ put (constant_in params.now text.now ∷ []) self.old) }
     {
         if params.contains(text) {
@@ -115,14 +115,14 @@ impl Printer {
     }
 
     /// Adds a name.
-    pub(crate) fn name(&mut self, name: &Name) -> Result<(), AllocError>
+    pub(crate) fn name(&mut self, name: &Name) -> Result<(), OutOfMemory>
         ensures { OnOk result (self.new ≡ put (name_word name.now ∷ []) self.old) }
     {
         self.constant(name.text.as_str())
     }
 
     /// Adds names.
-    pub(crate) fn names(&mut self, names: &[Name]) -> Result<(), AllocError>
+    pub(crate) fn names(&mut self, names: &[Name]) -> Result<(), OutOfMemory>
         ensures { OnOk result (self.new ≡ put (names_words names.now) self.old) }
     {
         for name in names {
@@ -133,7 +133,7 @@ impl Printer {
 
     /// Adds a number.
     #[tactic(auto, unfolding(crate::specs::Printed::put_one, xdg_ast::specs::Canon::spelling))]
-    pub fn number(&mut self, value: u32) -> Result<(), AllocError>
+    pub fn number(&mut self, value: u32) -> Result<(), OutOfMemory>
         ensures { OnOk result (self.new ≡ put (number value ∷ []) self.old) }
     {
         self.lead(Kind::Number)?;
@@ -142,14 +142,14 @@ impl Printer {
     }
 
     /// Adds a number of a cardinality.
-    pub(crate) fn num(&mut self, num: &Num) -> Result<(), AllocError>
+    pub(crate) fn num(&mut self, num: &Num) -> Result<(), OutOfMemory>
         ensures { OnOk result (self.new ≡ put (number num.now.value ∷ []) self.old) }
     {
         self.number(num.value)
     }
 
     /// Adds numbers.
-    pub(crate) fn nums(&mut self, nums: &[Num]) -> Result<(), AllocError>
+    pub(crate) fn nums(&mut self, nums: &[Num]) -> Result<(), OutOfMemory>
         ensures { OnOk result (self.new ≡ put (nums_words nums.now) self.old) }
     {
         for num in nums {
@@ -159,7 +159,12 @@ impl Printer {
     }
 
     /// Adds what stands before a member of a conjunction or a disjunction.
-    pub(crate) fn open(&mut self, sign: Kind, first: bool, brackets: bool) -> Result<(), AllocError>
+    pub(crate) fn open(
+        &mut self,
+        sign: Kind,
+        first: bool,
+        brackets: bool,
+    ) -> Result<(), OutOfMemory>
         ensures { OnOk result (self.new ≡ put (opening sign first brackets) self.old) }
     {
         if !first {
@@ -172,7 +177,7 @@ impl Printer {
     }
 
     /// Adds what stands behind it.
-    pub(crate) fn close(&mut self, brackets: bool) -> Result<(), AllocError>
+    pub(crate) fn close(&mut self, brackets: bool) -> Result<(), OutOfMemory>
         ensures { OnOk result (self.new ≡ put (closing brackets) self.old) }
     {
         if brackets {

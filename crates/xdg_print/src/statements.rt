@@ -9,7 +9,7 @@ ghost use Rattle.xdg_print.specs.Again.{IsReadAgain};
 ghost use Rattle.xdg_print.specs.Printed.{put, put_lines, name_pairs_words, dim_lines};
 
 use crate::printer::Printer;
-use std::alloc::{AllocError, Global};
+use std::alloc::Global;
 use xdg_ast::{
     ClassParam, DimPart, DimPartKind, Expr, Grammar, Kind, Name, Pair, Params, StatementKind, Term,
     TypeTerm,
@@ -18,7 +18,7 @@ use xdg_base::{List, OutOfMemory, Text};
 
 impl Printer {
     /// Adds what the dimensions of a principle are.
-    fn dims(&mut self, pairs: &[Pair<Name>]) -> Result<(), AllocError>
+    fn dims(&mut self, pairs: &[Pair<Name>]) -> Result<(), OutOfMemory>
         ensures { OnOk result (self.new ≡ put (name_pairs_words pairs.now) self.old) }
     {
         for pair in pairs {
@@ -36,7 +36,7 @@ impl Printer {
         alloc: Global,
         dims: &[Pair<Name>],
         args: &Option<List<Pair<Term>>>,
-    ) -> Result<(), AllocError>
+    ) -> Result<(), OutOfMemory>
         ensures { OnOk result (self.new ≡ put (principle_words dims.now args.now) self.old) }
     {
         self.mark(Kind::Dims)?;
@@ -54,7 +54,7 @@ impl Printer {
 
     /// Adds a part of a dimension.
     #[tactic(auto, unfolding(xdg_ast::specs::Canon::part_words), using(crate::proofs::Written::put_braces))]
-    fn part(&mut self, alloc: Global, part: &DimPartKind) -> Result<(), AllocError>
+    fn part(&mut self, alloc: Global, part: &DimPartKind) -> Result<(), OutOfMemory>
         ensures { OnOk result (self.new ≡ put (part_words part.now) self.old) }
     {
         match part {
@@ -78,7 +78,7 @@ impl Printer {
     }
 
     /// Adds a keyword and a type.
-    fn type_part(&mut self, keyword: Kind, given: &TypeTerm) -> Result<(), AllocError>
+    fn type_part(&mut self, keyword: Kind, given: &TypeTerm) -> Result<(), OutOfMemory>
         ensures { OnOk result (self.new ≡ put (mark keyword ∷ type_words given.now.kind) self.old) }
     {
         self.mark(keyword)?;
@@ -86,7 +86,7 @@ impl Printer {
     }
 
     /// Adds a keyword and a name.
-    fn named(&mut self, keyword: Kind, name: &Name) -> Result<(), AllocError>
+    fn named(&mut self, keyword: Kind, name: &Name) -> Result<(), OutOfMemory>
         ensures { OnOk result (self.new ≡ put (mark keyword ∷ name_word name.now ∷ []) self.old) }
     {
         self.mark(keyword)?;
@@ -94,7 +94,7 @@ impl Printer {
     }
 
     /// Adds the line of a part of a dimension.
-    fn part_line(&mut self, alloc: Global, part: &DimPart) -> Result<(), AllocError>
+    fn part_line(&mut self, alloc: Global, part: &DimPart) -> Result<(), OutOfMemory>
         ensures { OnOk result (self.new ≡ put_lines (indented (part_words part.now.kind) ∷ []) self.old) }
     {
         self.begin("  ")?;
@@ -103,7 +103,12 @@ impl Printer {
     }
 
     /// Adds the lines of a definition of a dimension.
-    fn dim_lines(&mut self, alloc: Global, name: &Name, parts: &[DimPart]) -> Result<(), AllocError>
+    fn dim_lines(
+        &mut self,
+        alloc: Global,
+        name: &Name,
+        parts: &[DimPart],
+    ) -> Result<(), OutOfMemory>
         ensures { OnOk result (self.new ≡ put_lines (dim_lines name.now parts.now) self.old) }
     {
         self.begin("")?;
@@ -119,7 +124,7 @@ impl Printer {
     }
 
     /// Adds parameters of a class.
-    fn class_params(&mut self, alloc: Global, params: &[ClassParam]) -> Result<(), AllocError>
+    fn class_params(&mut self, alloc: Global, params: &[ClassParam]) -> Result<(), OutOfMemory>
         ensures { OnOk result (self.new ≡ put (flat_map class_param_words params.now) self.old) }
     {
         for param in params {
@@ -129,7 +134,7 @@ impl Printer {
     }
 
     /// Adds a parameter of a class.
-    fn class_param(&mut self, alloc: Global, param: &ClassParam) -> Result<(), AllocError>
+    fn class_param(&mut self, alloc: Global, param: &ClassParam) -> Result<(), OutOfMemory>
         ensures { OnOk result (self.new ≡ put (class_param_words param.now) self.old) }
     {
         self.name(&param.name)?;
@@ -143,7 +148,7 @@ impl Printer {
     }
 
     /// Adds the body of a class with these parameters.
-    fn body(&mut self, params: &Params, body: &Expr) -> Result<(), AllocError>
+    fn body(&mut self, params: &Params, body: &Expr) -> Result<(), OutOfMemory>
         ensures { OnOk result (self.new ≡ put (body_words params.now body.now) self.old) }
     {
         self.mark(Kind::LeftBrace)?;
@@ -153,7 +158,7 @@ impl Printer {
 
     /// Adds the lines of a statement.
     #[tactic(auto, using(crate::proofs::WrittenStatements::statement_steps))]
-    fn statement(&mut self, alloc: Global, statement: &StatementKind) -> Result<(), AllocError>
+    fn statement(&mut self, alloc: Global, statement: &StatementKind) -> Result<(), OutOfMemory>
         ensures { OnOk result (self.new ≡ put_lines (statement_lines statement.now) self.old) }
     {
         match statement {

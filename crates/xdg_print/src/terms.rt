@@ -5,8 +5,8 @@ ghost use Rattle.xdg_ast.specs.Trees.{card_words, gen_phrase, term_words, elem_w
 ghost use Rattle.xdg_print.specs.Printed.{put, is_joined, is_disjoined};
 
 use crate::printer::Printer;
-use std::alloc::AllocError;
 use xdg_ast::{CardKind, ElemKind, GenKind, Kind, Pair, Params, Term, TermKind};
+use xdg_base::OutOfMemory;
 
 /// Whether a generator stands in brackets in a conjunction.
 #[tactic(auto, using(crate::proofs::WrittenTerms::gen_steps))]
@@ -33,7 +33,7 @@ fn is_disjoined(generator: &GenKind) -> bool
 impl Printer {
     /// Adds a cardinality.
     #[tactic(auto, unfolding(xdg_ast::specs::Trees::card_words), using(crate::proofs::Written::put_braces))]
-    fn card(&mut self, card: &CardKind) -> Result<(), AllocError>
+    fn card(&mut self, card: &CardKind) -> Result<(), OutOfMemory>
         ensures { OnOk result (self.new ≡ put (card_words card.now) self.old) }
     {
         match card {
@@ -59,7 +59,7 @@ impl Printer {
 
     /// Adds a generator.
     #[tactic(auto, using(crate::proofs::WrittenTerms::gen_steps))]
-    fn generator(&mut self, generator: &GenKind) -> Result<(), AllocError>
+    fn generator(&mut self, generator: &GenKind) -> Result<(), OutOfMemory>
         ensures { OnOk result (self.new ≡ put (gen_phrase generator.now).words self.old) }
     {
         match generator {
@@ -92,7 +92,7 @@ impl Printer {
     /// Adds a term in the body of a class with these parameters.
     #[cycle(term)]
     #[tactic(auto, using(crate::proofs::WrittenTerms::term_steps))]
-    pub(crate) fn term(&mut self, params: &Params, term: &TermKind) -> Result<(), AllocError>
+    pub(crate) fn term(&mut self, params: &Params, term: &TermKind) -> Result<(), OutOfMemory>
         ensures { OnOk result (self.new ≡ put (term_words params.now term.now) self.old) }
     {
         match term {
@@ -122,7 +122,7 @@ impl Printer {
     /// Adds an element of a term in braces.
     #[cycle(term)]
     #[tactic(auto, using(crate::proofs::WrittenTerms::elem_steps))]
-    fn elem(&mut self, params: &Params, elem: &ElemKind) -> Result<(), AllocError>
+    fn elem(&mut self, params: &Params, elem: &ElemKind) -> Result<(), OutOfMemory>
         ensures { OnOk result (self.new ≡ put (elem_words params.now elem.now) self.old) }
     {
         match elem {
@@ -145,7 +145,7 @@ impl Printer {
     }
 
     /// Adds what is said of features or arguments, in braces.
-    pub(crate) fn terms(&mut self, params: &Params, pairs: &[Pair<Term>]) -> Result<(), AllocError>
+    pub(crate) fn terms(&mut self, params: &Params, pairs: &[Pair<Term>]) -> Result<(), OutOfMemory>
         ensures { OnOk result (self.new ≡ put (terms_words params.now pairs.now) self.old) }
     {
         self.mark(Kind::LeftBrace)?;

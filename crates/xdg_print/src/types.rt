@@ -7,14 +7,14 @@ ghost use Rattle.xdg_ast.specs.Trees.{in_braces, in_parentheses, names_words, ty
 ghost use Rattle.xdg_print.specs.Printed.{put};
 
 use crate::printer::Printer;
-use std::alloc::AllocError;
 use xdg_ast::{Kind, Name, TypeKind};
+use xdg_base::OutOfMemory;
 
 impl Printer {
     /// Adds a type.
     #[cycle(types)]
     #[tactic(auto, using(crate::proofs::Written::type_steps))]
-    pub(crate) fn type_term(&mut self, given: &TypeKind) -> Result<(), AllocError>
+    pub(crate) fn type_term(&mut self, given: &TypeKind) -> Result<(), OutOfMemory>
         ensures { OnOk result (self.new ≡ put (type_words given.now) self.old) }
     {
         match given {
@@ -56,7 +56,7 @@ impl Printer {
     /// Adds a type that is made of one other.
     #[cycle(types)]
     #[tactic(auto, using(crate::proofs::Put::put_append))]
-    fn type_of(&mut self, word: Kind, given: &TypeKind) -> Result<(), AllocError>
+    fn type_of(&mut self, word: Kind, given: &TypeKind) -> Result<(), OutOfMemory>
         ensures { OnOk result (self.new ≡ put (mark word ∷ in_parentheses (type_words given.now)) self.old) }
     {
         self.open_type(word)?;
@@ -66,7 +66,7 @@ impl Printer {
 
     /// Adds names in braces.
     #[tactic(auto, using(crate::proofs::Put::put_append))]
-    fn names_in_braces(&mut self, names: &[Name]) -> Result<(), AllocError>
+    fn names_in_braces(&mut self, names: &[Name]) -> Result<(), OutOfMemory>
         ensures { OnOk result (self.new ≡ put (in_braces (names_words names.now)) self.old) }
     {
         self.mark(Kind::LeftBrace)?;
@@ -75,7 +75,7 @@ impl Printer {
     }
 
     /// Adds the word of a type and its opening bracket.
-    fn open_type(&mut self, word: Kind) -> Result<(), AllocError>
+    fn open_type(&mut self, word: Kind) -> Result<(), OutOfMemory>
         ensures { OnOk result (self.new ≡ put (mark word ∷ mark k.LeftParenthesis ∷ []) self.old) }
     {
         self.mark(word)?;

@@ -13,8 +13,8 @@ use crate::cards::{is_zero, put_cards};
 use crate::defaults::is_default;
 use crate::members::{put_member, put_members};
 use crate::printer::Printer;
-use std::alloc::AllocError;
 use xdg_ast::Kind;
+use xdg_base::OutOfMemory;
 use xdg_domain::{CardSet, Ty, Value};
 
 /// The constant of a truth value.
@@ -28,7 +28,11 @@ fn truth(holds: bool) -> &'static str
 }
 
 /// Adds the keys of a valency with their cardinalities, but for those whose cardinality is the number 0 alone.
-fn put_valency(printer: &mut Printer, key: &Ty, entries: &[(u8, CardSet)]) -> Result<(), AllocError>
+fn put_valency(
+    printer: &mut Printer,
+    key: &Ty,
+    entries: &[(u8, CardSet)],
+) -> Result<(), OutOfMemory>
     requires key { IsDomain (shape key.now) }
     requires said { EachSaid (λ n ns. (n < count (shape key.now)) × IsCards ns) entries.now }
     ensures { OnOk result (printer.new ≡ put (in_braces (flat_map (counted_words (shape key.now)) entries.now)) printer.old) }
@@ -46,7 +50,7 @@ fn put_valency(printer: &mut Printer, key: &Ty, entries: &[(u8, CardSet)]) -> Re
 
 /// Adds a value of the type. A row of the table of types is an arm.
 #[cycle(value)]
-pub(crate) fn put_value(printer: &mut Printer, ty: &Ty, value: &Value) -> Result<(), AllocError>
+pub(crate) fn put_value(printer: &mut Printer, ty: &Ty, value: &Value) -> Result<(), OutOfMemory>
     requires right { IsType (shape ty.now) }
     requires value { IsValue (shape ty.now) value.now }
     ensures { OnOk result (printer.new ≡ put (words_of (shape ty.now) value.now) printer.old) }

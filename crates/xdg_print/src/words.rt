@@ -8,9 +8,8 @@ ghost use Rattle.xdg_ast.specs.Words.{mark};
 ghost use Rattle.xdg_ast.specs.Canon.{spelling, is_tight_behind, is_tight_before, takes_types, is_tight};
 ghost use Rattle.xdg_print.specs.Printed.{keyword_text};
 
-use std::alloc::AllocError;
 use xdg_ast::Kind;
-use xdg_base::Text;
+use xdg_base::{OutOfMemory, Text};
 
 /// How a keyword is spelled. Of other words it tells nothing.
 fn keyword(kind: Kind) -> &'static str
@@ -119,7 +118,7 @@ pub(crate) fn is_tight(one: Kind, other: Kind) -> bool
 }
 
 /// Adds a character, with a backslash before it if it is a quotation mark or a backslash.
-fn push_character(text: &mut Text, c: char) -> Result<(), AllocError>
+fn push_character(text: &mut Text, c: char) -> Result<(), OutOfMemory>
     ensures { OnOk result (text.new ≡ text.old ++ flat_map escaped (encode_utf8 c)) }
 {
     if c == '"' {
@@ -133,7 +132,7 @@ fn push_character(text: &mut Text, c: char) -> Result<(), AllocError>
 }
 
 /// Adds a text with a backslash before each quotation mark and each backslash.
-pub(crate) fn push_escaped(text: &mut Text, characters: &str) -> Result<(), AllocError>
+pub(crate) fn push_escaped(text: &mut Text, characters: &str) -> Result<(), OutOfMemory>
     ensures { OnOk result (text.new ≡ text.old ++ flat_map escaped characters.now) }
 {
     for c in characters.chars() {

@@ -28,3 +28,4 @@ pub mod Boxes
 pub mod Branches
 pub mod BranchLaws
 pub mod Principles
+pub mod Forms

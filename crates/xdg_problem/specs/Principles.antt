@@ -16,14 +16,23 @@ use Rattle.xdg_problem.specs.declared.conditions.Condition.TheVariants as condit
 use Rattle.xdg_problem.specs.declared.principles.PrincipleFamily.{PrincipleFamily}
 use Rattle.xdg_problem.specs.declared.principles.PrincipleFamily.TheVariants as families
 
+-- those of several dimensions
+abbrev pub multidimensional : List Principle
+multidimensional =
+    principles.Climbing ∷ principles.Barriers
+    ∷ principles.LinkingEnd ∷ principles.LinkingDaughter ∷ principles.LinkingMother
+    ∷ principles.LinkingBelowStart ∷ principles.LinkingAboveStart ∷ principles.LinkingSisters
+    ∷ principles.LinkingNotDaughter ∷ []
+
+-- those that compare values, and those
+abbrev pub comparing : List Principle
+comparing = principles.Agr ∷ principles.Agreement ∷ principles.Government ∷ multidimensional
+
 -- those that grammar texts can use
 abbrev pub all_principles : List Principle
 all_principles =
     principles.Graph ∷ principles.Entries ∷ principles.Tree ∷ principles.Dag ∷ principles.Valency ∷ principles.Order ∷ principles.Projectivity
-    ∷ principles.Agr ∷ principles.Agreement ∷ principles.Government ∷ principles.Climbing ∷ principles.Barriers
-    ∷ principles.LinkingEnd ∷ principles.LinkingDaughter ∷ principles.LinkingMother
-    ∷ principles.LinkingBelowStart ∷ principles.LinkingAboveStart ∷ principles.LinkingSisters
-    ∷ principles.LinkingNotDaughter ∷ []
+    ∷ comparing
 
 -- the name of a principle
 abbrev pub name_of : Principle → List ℕ

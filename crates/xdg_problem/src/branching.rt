@@ -9,7 +9,7 @@ use crate::formula::Formula;
 use crate::parts::{Feat, Group, Parts, Principle};
 use crate::problem::Problem;
 use crate::shared::SharedList;
-use std::alloc::{AllocError, Global};
+use std::alloc::Global;
 use xdg_base::{Boxed, EntryNo, List, OutOfMemory};
 
 impl Problem {
@@ -29,7 +29,7 @@ impl Problem {
 }
 
 /// The parts of a branch.
-fn branch_parts(alloc: Global, parts: &Parts, place: usize) -> Result<Parts, AllocError>
+fn branch_parts(alloc: Global, parts: &Parts, place: usize) -> Result<Parts, OutOfMemory>
     ensures { IfOk result (λ made. made ≡ branch_of parts.now place) }
 {
     Ok(Parts {
@@ -45,7 +45,7 @@ fn with_first<T: Drop>(
     alloc: Global,
     first: T,
     others: &[SharedList<T>],
-) -> Result<List<SharedList<T>>, AllocError>
+) -> Result<List<SharedList<T>>, OutOfMemory>
     ensures { IfOk result (λ made. made ≡ (first ∷ []) ∷ others.now) }
 {
     let mut alone = List::new(alloc);
@@ -73,7 +73,7 @@ fn branch_candidates(
     alloc: Global,
     candidates: &[SharedList<EntryNo>],
     place: usize,
-) -> Result<List<SharedList<EntryNo>>, AllocError>
+) -> Result<List<SharedList<EntryNo>>, OutOfMemory>
     ensures { IfOk result (λ made. made ≡ first_alone no_entry place candidates.now) }
 {
     let Some((first, others)) = candidates.split_first() else {
@@ -83,7 +83,7 @@ fn branch_candidates(
 }
 
 /// A copy of the features of a candidate, whose rows are shared.
-fn share_features(alloc: Global, features: &[Feat]) -> Result<List<Feat>, AllocError>
+fn share_features(alloc: Global, features: &[Feat]) -> Result<List<Feat>, OutOfMemory>
     ensures { IfOk result (λ made. made ≡ features.now) }
 {
     let mut made = List::new(alloc);
@@ -100,7 +100,7 @@ fn features_at(
     alloc: Global,
     features: &SharedList<List<Feat>>,
     place: usize,
-) -> Result<List<Feat>, AllocError>
+) -> Result<List<Feat>, OutOfMemory>
     ensures { IfOk result (λ made. made ≡ slice_index_or features.now place []) }
 {
     match features.get(place) {
@@ -114,7 +114,7 @@ fn branch_features(
     alloc: Global,
     feats: &[SharedList<List<Feat>>],
     place: usize,
-) -> Result<List<SharedList<List<Feat>>>, AllocError>
+) -> Result<List<SharedList<List<Feat>>>, OutOfMemory>
     ensures { IfOk result (λ made. made ≡ first_alone [] place feats.now) }
 {
     let Some((first, others)) = feats.split_first() else {
@@ -139,7 +139,7 @@ fn branch_table(
     alloc: Global,
     table: &[List<bool>],
     place: usize,
-) -> Result<List<List<bool>>, AllocError>
+) -> Result<List<List<bool>>, OutOfMemory>
     ensures { IfOk result (λ made. made ≡ first_alone false place table.now) }
 {
     let Some((first, others)) = table.split_first() else {
@@ -157,7 +157,7 @@ impl Formula {
     /// A copy whose tables say for the first node what they say for its candidate at a place.
     #[cycle(branch)]
     #[tactic(auto, using(crate::proofs::BranchTruths::cut_steps))]
-    fn branch(&self, alloc: Global, place: usize) -> Result<Formula, AllocError>
+    fn branch(&self, alloc: Global, place: usize) -> Result<Formula, OutOfMemory>
         ensures { IfOk result (λ made. made ≡ branch_formula place self.now) }
     {
         match self {
@@ -207,7 +207,7 @@ fn add_branches(
     formulas: &[Formula],
     place: usize,
     made: &mut List<Formula>,
-) -> Result<(), AllocError>
+) -> Result<(), OutOfMemory>
     ensures { OnOk result (made.new ≡ made.old ++ map (branch_formula place) formulas.now) }
 {
     for formula in formulas {
@@ -218,7 +218,7 @@ fn add_branches(
 
 impl Principle {
     /// A copy, in which a rule has such a formula.
-    fn branch(&self, alloc: Global, place: usize) -> Result<Principle, AllocError>
+    fn branch(&self, alloc: Global, place: usize) -> Result<Principle, OutOfMemory>
         ensures { IfOk result (λ made. made ≡ branch_principle place self.now) }
     {
         match self {
@@ -229,7 +229,7 @@ impl Principle {
 }
 
 /// A principle use with the features of the candidate at a place alone.
-fn branch_group(alloc: Global, group: &Group, place: usize) -> Result<Group, AllocError>
+fn branch_group(alloc: Global, group: &Group, place: usize) -> Result<Group, OutOfMemory>
     ensures { IfOk result (λ made. made ≡ spec.branch_group place group.now) }
 {
     Ok(Group {
@@ -243,7 +243,7 @@ fn branch_group(alloc: Global, group: &Group, place: usize) -> Result<Group, All
 }
 
 /// The principle uses, each so.
-fn branch_groups(alloc: Global, groups: &[Group], place: usize) -> Result<List<Group>, AllocError>
+fn branch_groups(alloc: Global, groups: &[Group], place: usize) -> Result<List<Group>, OutOfMemory>
     ensures { IfOk result (λ made. made ≡ map (spec.branch_group place) groups.now) }
 {
     let mut made = List::new(alloc);

@@ -5,13 +5,13 @@ ghost use Rattle.std.specs.Prelude.{◌≡◌, ◌++◌, IfOk, OnOk};
 use crate::formula::Formula;
 use crate::parts::{Group, Parts, Principle, SentenceWord};
 use crate::shared::SharedList;
-use std::alloc::{AllocError, Global};
-use xdg_base::{Boxed, List};
+use std::alloc::Global;
+use xdg_base::{Boxed, List, OutOfMemory};
 
 impl Formula {
     /// A copy.
     #[cycle(copy)]
-    pub fn copy(&self, alloc: Global) -> Result<Formula, AllocError>
+    pub fn copy(&self, alloc: Global) -> Result<Formula, OutOfMemory>
         ensures { IfOk result (λ made. made ≡ self.now) }
     {
         match self {
@@ -60,7 +60,7 @@ fn add_formulas(
     alloc: Global,
     formulas: &[Formula],
     made: &mut List<Formula>,
-) -> Result<(), AllocError>
+) -> Result<(), OutOfMemory>
     ensures { OnOk result (made.new ≡ made.old ++ formulas.now) }
 {
     for formula in formulas {
@@ -70,7 +70,7 @@ fn add_formulas(
 }
 
 /// A copy of a table of truth values.
-fn copy_table(alloc: Global, table: &[List<bool>]) -> Result<List<List<bool>>, AllocError>
+fn copy_table(alloc: Global, table: &[List<bool>]) -> Result<List<List<bool>>, OutOfMemory>
     ensures { IfOk result (λ made. made ≡ table.now) }
 {
     let mut made = List::new(alloc);
@@ -82,7 +82,7 @@ fn copy_table(alloc: Global, table: &[List<bool>]) -> Result<List<List<bool>>, A
 
 impl Principle {
     /// A copy.
-    pub fn copy(&self, alloc: Global) -> Result<Principle, AllocError>
+    pub fn copy(&self, alloc: Global) -> Result<Principle, OutOfMemory>
         ensures { IfOk result (λ made. made ≡ self.now) }
     {
         match self {
@@ -112,7 +112,7 @@ impl Principle {
 }
 
 /// A copy of words.
-pub fn copy_words(alloc: Global, words: &[SentenceWord]) -> Result<List<SentenceWord>, AllocError>
+pub fn copy_words(alloc: Global, words: &[SentenceWord]) -> Result<List<SentenceWord>, OutOfMemory>
     ensures { IfOk result (λ made. made ≡ words.now) }
 {
     let mut made = List::new(alloc);
@@ -129,7 +129,7 @@ pub fn copy_words(alloc: Global, words: &[SentenceWord]) -> Result<List<Sentence
 pub(crate) fn share_lists<T: Drop>(
     alloc: Global,
     lists: &[SharedList<T>],
-) -> Result<List<SharedList<T>>, AllocError>
+) -> Result<List<SharedList<T>>, OutOfMemory>
     ensures { IfOk result (λ made. made ≡ lists.now) }
 {
     let mut made = List::new(alloc);
@@ -140,7 +140,7 @@ pub(crate) fn share_lists<T: Drop>(
 }
 
 /// A copy of a principle use. It shares the features.
-fn copy_group(alloc: Global, group: &Group) -> Result<Group, AllocError>
+fn copy_group(alloc: Global, group: &Group) -> Result<Group, OutOfMemory>
     ensures { IfOk result (λ made. made ≡ group.now) }
 {
     Ok(Group {
@@ -154,7 +154,7 @@ fn copy_group(alloc: Global, group: &Group) -> Result<Group, AllocError>
 }
 
 /// Copies of principle uses.
-fn copy_groups(alloc: Global, groups: &[Group]) -> Result<List<Group>, AllocError>
+fn copy_groups(alloc: Global, groups: &[Group]) -> Result<List<Group>, OutOfMemory>
     ensures { IfOk result (λ made. made ≡ groups.now) }
 {
     let mut made = List::new(alloc);
@@ -165,7 +165,7 @@ fn copy_groups(alloc: Global, groups: &[Group]) -> Result<List<Group>, AllocErro
 }
 
 /// A copy of the parts of a problem. It shares candidates, dimensions and features.
-pub(crate) fn copy_parts(alloc: Global, parts: &Parts) -> Result<Parts, AllocError>
+pub(crate) fn copy_parts(alloc: Global, parts: &Parts) -> Result<Parts, OutOfMemory>
     ensures { IfOk result (λ made. made ≡ parts.now) }
 {
     Ok(Parts {

@@ -3,9 +3,9 @@
 ghost use Rattle.std.specs.Prelude.{◌≡◌, IfOk};
 ghost use Rattle.xdg_problem.specs.Costs.{AreCosts, entry_cost, label_cost};
 
-use std::alloc::{AllocError, Global};
+use std::alloc::Global;
 use std::marker::Model;
-use xdg_base::{DimId, EntryNo, LabelId, List};
+use xdg_base::{DimId, EntryNo, LabelId, List, OutOfMemory};
 
 /// What some entries cost, by their numbers, and the edges of some dimensions, by their labels. All else costs nothing.
 #[derive(Debug, Drop)]
@@ -75,7 +75,7 @@ impl Costs {
     }
 
     /// A copy.
-    pub fn copy(&self, alloc: Global) -> Result<Costs, AllocError>
+    pub fn copy(&self, alloc: Global) -> Result<Costs, OutOfMemory>
         ensures { IfOk result (λ made. made ≡ self.now) }
     {
         Ok(Costs {

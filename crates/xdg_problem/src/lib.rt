@@ -14,6 +14,7 @@ mod costing;
 mod costs;
 mod decisions;
 mod fitting;
+mod forms;
 mod formula;
 mod laws;
 mod numbers;
@@ -33,6 +34,9 @@ pub use conditions::Condition;
 pub use copying::copy_words;
 pub use costing::cost_of;
 pub use costs::Costs;
+pub use forms::{
+    Dims, Element, Form, Key, Parameter, Preset, Sort, Typing, Wanted, Which, form_of,
+};
 pub use formula::Formula;
 pub use laws::{branch_laws, further_laws, live_laws, solution_laws, verdict_laws};
 pub use numbers::Nums;

@@ -8,8 +8,8 @@ ghost use Rattle.xdg_problem.specs.Problems.{IsProblem};
 
 use crate::analysis::Edge;
 use crate::parts::Parts;
-use std::alloc::{AllocError, Global};
-use xdg_base::{DimId, LabelId, List, NodeId};
+use std::alloc::Global;
+use xdg_base::{DimId, LabelId, List, NodeId, OutOfMemory};
 
 /// Adds the places of a label out of a mother.
 #[tactic(auto, using(crate::proofs::PlaceSteps::out_stays, crate::proofs::PlaceSteps::out_grows))]
@@ -19,7 +19,7 @@ fn push_out(
     nodes: u8,
     mother: u8,
     label: u8,
-) -> Result<(), AllocError>
+) -> Result<(), OutOfMemory>
     ensures { OnOk result (out.new ≡ out.old ++ places_out dim nodes mother label) }
 {
     for daughter in 0..nodes {
@@ -42,7 +42,7 @@ fn push_labels(
     nodes: u8,
     labels: u8,
     mother: u8,
-) -> Result<(), AllocError>
+) -> Result<(), OutOfMemory>
     ensures { OnOk result (out.new ≡ out.old ++ flat_map (λ label. places_out dim nodes mother label) (below labels)) }
 {
     for label in 0..labels {
@@ -52,7 +52,7 @@ fn push_labels(
 }
 
 /// Adds the places of a dimension, mother by mother.
-fn push_mothers(out: &mut List<Edge>, dim: u8, nodes: u8, labels: u8) -> Result<(), AllocError>
+fn push_mothers(out: &mut List<Edge>, dim: u8, nodes: u8, labels: u8) -> Result<(), OutOfMemory>
     ensures { OnOk result (out.new ≡ out.old ++ places_of dim nodes labels) }
 {
     for mother in 0..nodes {
@@ -63,7 +63,7 @@ fn push_mothers(out: &mut List<Edge>, dim: u8, nodes: u8, labels: u8) -> Result<
 
 /// The places where an edge may stand, in the order in which they are decided.
 #[tactic(auto, using(crate::proofs::PlaceSteps::place_steps))]
-pub fn list(parts: &Parts, alloc: Global) -> Result<List<Edge>, AllocError>
+pub fn list(parts: &Parts, alloc: Global) -> Result<List<Edge>, OutOfMemory>
     requires { IsProblem parts.now }
     ensures listed { IfOk result (λ list. list ≡ places parts.now) }
     ensures exact { HasPlaces parts.now }

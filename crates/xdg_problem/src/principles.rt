@@ -1,7 +1,7 @@
 //! The table of principles: what each crate reads of one, beside its conditions.
 
 ghost use Rattle.std.specs.Prelude.{◌≡◌};
-ghost use Rattle.xdg_problem.specs.Names.{IsNamed};
+ghost use Rattle.xdg_problem.specs.Names.{named, named_in};
 ghost use Rattle.xdg_problem.specs.Principles as rows;
 
 use crate::parts::{Linking, Principle};
@@ -35,9 +35,10 @@ pub fn principle_name(principle: &Principle) -> &'static str
     }
 }
 
-/// The principle that is called so in grammar texts, if there is one.
+/// The principle that is called so in grammar texts, if there is one. It takes a few comparisons of texts.
+#[tactic(auto, unfolding(crate::specs::Names::named))]
 pub fn principle_named(name: &str) -> Option<Principle>
-    ensures { IsNamed name.now result }
+    ensures { result ≡ named name.now }
 {
     match name {
         "principle.graph" => Some(Principle::Graph),
@@ -47,9 +48,27 @@ pub fn principle_named(name: &str) -> Option<Principle>
         "principle.valency" => Some(Principle::Valency),
         "principle.order" => Some(Principle::Order),
         "principle.projectivity" => Some(Principle::Projectivity),
+        _ => comparing_named(name),
+    }
+}
+
+/// The same of the principles that compare values, and of those of several dimensions.
+fn comparing_named(name: &str) -> Option<Principle>
+    ensures { result ≡ named_in rows.comparing name.now }
+{
+    match name {
         "principle.agr" => Some(Principle::Agr),
         "principle.agreement" => Some(Principle::Agreement),
         "principle.government" => Some(Principle::Government),
+        _ => multidimensional_named(name),
+    }
+}
+
+/// The same of the principles of several dimensions.
+fn multidimensional_named(name: &str) -> Option<Principle>
+    ensures { result ≡ named_in rows.multidimensional name.now }
+{
+    match name {
         "principle.climbing" => Some(Principle::Climbing),
         "principle.barriers" => Some(Principle::Barriers),
         "principle.linkingEnd" => Some(Principle::LinkingEnd),

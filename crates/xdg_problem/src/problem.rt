@@ -12,9 +12,9 @@ ghost use Rattle.xdg_problem.specs.Vectors.{shape, vector};
 use crate::analysis::{Analysis, Edge};
 use crate::parts::Parts;
 use crate::{comparing, decisions, fitting, places, sizes};
-use std::alloc::{AllocError, Global};
+use std::alloc::Global;
 use std::marker::Model;
-use xdg_base::List;
+use xdg_base::{List, OutOfMemory};
 
 /// A compiled sentence whose parts go together.
 #[derive(Debug, Drop)]
@@ -99,7 +99,7 @@ impl Problem {
     }
 
     /// The places where an edge may stand, in the order in which they are decided.
-    pub fn edge_places(&self, alloc: Global) -> Result<List<Edge>, AllocError>
+    pub fn edge_places(&self, alloc: Global) -> Result<List<Edge>, OutOfMemory>
         ensures listed { IfOk result (λ list. list ≡ places self.now) }
         ensures exact { HasPlaces self.now }
     {

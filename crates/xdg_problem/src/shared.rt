@@ -3,10 +3,10 @@
 ghost use Rattle.std.specs.Prelude.{◌≡◌, length, slice_get, IfOk};
 ghost use Rattle.std.specs.Option.{option_copied};
 
-use std::alloc::{AllocError, Global};
+use std::alloc::Global;
 use std::marker::Model;
 use std::sync::Arc;
-use xdg_base::List;
+use xdg_base::{List, OutOfMemory};
 
 /// A list that no one changes any more. All that hold it share it, also among threads, and its memory is given back with the last of
 /// these.
@@ -52,7 +52,7 @@ impl<T> SharedList<T> {
 
 impl<T: Drop> SharedList<T> {
     /// Moves a list to the heap, to be shared. On want of memory the list is dropped.
-    pub fn of(alloc: Global, list: List<T>) -> Result<SharedList<T>, AllocError>
+    pub fn of(alloc: Global, list: List<T>) -> Result<SharedList<T>, OutOfMemory>
         ensures { IfOk result (λ made. made ≡ list) }
     {
         Ok(SharedList {
@@ -61,7 +61,7 @@ impl<T: Drop> SharedList<T> {
     }
 
     /// The same list once more. It copies nothing and takes no memory; an error says that the list has as many owners as can be counted.
-    pub fn share(&self) -> Result<SharedList<T>, AllocError>
+    pub fn share(&self) -> Result<SharedList<T>, OutOfMemory>
         ensures { IfOk result (λ made. made ≡ self.now) }
     {
         Ok(SharedList {

@@ -6,11 +6,11 @@ ghost use Rattle.xdg_problem.specs.Further as further;
 use crate::copying::share_lists;
 use crate::parts::{Feat, Group, Principle};
 use crate::shared::SharedList;
-use std::alloc::{AllocError, Global};
-use xdg_base::{EntryNo, List};
+use std::alloc::Global;
+use xdg_base::{EntryNo, List, OutOfMemory};
 
 /// No features for each candidate of a node.
-fn no_features_at(alloc: Global, entries: &[EntryNo]) -> Result<List<List<Feat>>, AllocError>
+fn no_features_at(alloc: Global, entries: &[EntryNo]) -> Result<List<List<Feat>>, OutOfMemory>
     ensures { IfOk result (λ made. made ≡ map (λ entry. []) entries.now) }
 {
     let mut made = List::new(alloc);
@@ -24,7 +24,7 @@ fn no_features_at(alloc: Global, entries: &[EntryNo]) -> Result<List<List<Feat>>
 pub(crate) fn no_features(
     alloc: Global,
     candidates: &[SharedList<EntryNo>],
-) -> Result<List<SharedList<List<Feat>>>, AllocError>
+) -> Result<List<SharedList<List<Feat>>>, OutOfMemory>
     ensures { IfOk result (λ made. made ≡ further.no_features candidates.now) }
 {
     let mut made = List::new(alloc);
@@ -40,7 +40,7 @@ pub(crate) fn use_of(
     alloc: Global,
     feats: &[SharedList<List<Feat>>],
     principle: Principle,
-) -> Result<Group, AllocError>
+) -> Result<Group, OutOfMemory>
     ensures { IfOk result (λ made. made ≡ further.bare_use feats.now principle) }
 {
     Ok(Group {

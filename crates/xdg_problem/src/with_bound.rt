@@ -8,7 +8,7 @@ use crate::costs::Costs;
 use crate::parts::{Parts, Principle};
 use crate::problem::Problem;
 use crate::uses::{no_features, use_of};
-use std::alloc::{AllocError, Global};
+use std::alloc::Global;
 use xdg_base::OutOfMemory;
 
 impl Problem {
@@ -34,7 +34,7 @@ impl Problem {
 
 /// Adds a bound.
 #[tactic(auto, using(crate::proofs::Turning::bound_placed))]
-fn add_bound(alloc: Global, parts: &mut Parts, costs: &Costs, bound: u64) -> Result<(), AllocError>
+fn add_bound(alloc: Global, parts: &mut Parts, costs: &Costs, bound: u64) -> Result<(), OutOfMemory>
     ensures { OnOk result (parts.new ≡ further.with_uses parts.old (further.bound_of parts.old costs.now bound)) }
 {
     let feats = no_features(alloc, parts.candidates.as_slice())?;

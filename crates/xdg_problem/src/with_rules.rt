@@ -10,7 +10,7 @@ use crate::parts::{Feat, Group, Parts, Principle};
 use crate::problem::Problem;
 use crate::shared::SharedList;
 use crate::uses::{no_features, use_of};
-use std::alloc::{AllocError, Global};
+use std::alloc::Global;
 use xdg_base::{List, OutOfMemory};
 
 impl Problem {
@@ -32,7 +32,7 @@ impl Problem {
 
 /// Adds a rule for each formula.
 #[tactic(auto, using(crate::proofs::Turning::rules_placed))]
-fn add_rules(alloc: Global, parts: &mut Parts, formulas: List<Formula>) -> Result<(), AllocError>
+fn add_rules(alloc: Global, parts: &mut Parts, formulas: List<Formula>) -> Result<(), OutOfMemory>
     ensures { OnOk result (parts.new ≡ further.with_uses parts.old (further.rules_of parts.old formulas)) }
 {
     let feats = no_features(alloc, parts.candidates.as_slice())?;
@@ -46,7 +46,7 @@ fn rules_turned(
     alloc: Global,
     feats: &[SharedList<List<Feat>>],
     formulas: List<Formula>,
-) -> Result<List<Group>, AllocError>
+) -> Result<List<Group>, OutOfMemory>
     ensures { IfOk result (λ made. made ≡ reverse (map (λ formula. further.bare_use feats.now (principles.Rule formula)) formulas)) }
 {
     let mut formulas = formulas;
@@ -59,7 +59,7 @@ fn rules_turned(
 
 /// Moves principle uses behind others, the last first.
 #[tactic(auto, using(crate::proofs::Turning::move_more, crate::proofs::Turning::move_end))]
-fn move_turned(uses: &mut List<Group>, groups: &mut List<Group>) -> Result<(), AllocError>
+fn move_turned(uses: &mut List<Group>, groups: &mut List<Group>) -> Result<(), OutOfMemory>
     ensures { OnOk result (groups.new ≡ groups.old ++ reverse uses.old) }
 {
     while let Some(one) = uses.pop() {

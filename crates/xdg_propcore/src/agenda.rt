@@ -14,7 +14,7 @@ use crate::propagator::Propagator;
 use crate::rests::Rests;
 use crate::running::{run, wake};
 use crate::wake::Wake;
-use std::alloc::{AllocError, Global};
+use std::alloc::Global;
 use std::marker::Model;
 use xdg_base::OutOfMemory;
 use xdg_problem::Problem;
@@ -39,7 +39,7 @@ impl Model for Agenda {
 }
 
 /// The wake sets of propagators.
-fn wakes_of<P: Propagator>(alloc: Global, props: &[P]) -> Result<Vec<Wake>, AllocError>
+fn wakes_of<P: Propagator>(alloc: Global, props: &[P]) -> Result<Vec<Wake>, OutOfMemory>
     ensures { IfOk result (λ wakes. map (λ w. w.0) wakes.items ≡ map P.kinds props.now) }
 {
     let mut wakes = Vec::new(alloc);

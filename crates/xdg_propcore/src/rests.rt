@@ -2,8 +2,9 @@
 
 ghost use Rattle.std.specs.Prelude.{◌≡◌, ℕ, ◌<◌, Some, None, IfOk, length, slice_index_or, slice_set};
 
-use std::alloc::{AllocError, Global};
+use std::alloc::Global;
 use std::marker::Model;
+use xdg_base::OutOfMemory;
 use xdg_store::Mark;
 
 /// For each of some propagators the mark at which it was still last, as far as that is known.
@@ -42,7 +43,7 @@ fn fill(marks: &mut Vec<Option<Mark>>, mark: Mark)
 
 impl Rests {
     /// Of so many propagators nothing is known.
-    pub(crate) fn start(alloc: Global, count: usize) -> Result<Rests, AllocError>
+    pub(crate) fn start(alloc: Global, count: usize) -> Result<Rests, OutOfMemory>
         ensures { IfOk result (λ rests. length rests ≡ count) }
     {
         let marks = vec![in alloc; None; count]?;

@@ -2,6 +2,7 @@
 use Rattle.std.proofs.Common.{◌≡◌, ℕ, List, [], ◌∷◌, length, map, refl, sym, ap, ◌∙◌, subst, Some, None, Option, Ok, Err, All}
 use Rattle.std.proofs.lemmas.List.{length-map}
 use Rattle.std.specs.Prelude.{Result}
+use Rattle.xdg_base.specs.Faults.{fault_at}
 use Rattle.xdg_base.specs.declared.faults.Fault.{Fault}
 use Rattle.xdg_base.specs.declared.faults.Cause.TheVariants as causes
 use Rattle.xdg_base.specs.declared.faults.Stop.{Stop}
@@ -15,7 +16,6 @@ use Rattle.xdg_problem.specs.Places.{nodes}
 use Rattle.xdg_problem.specs.Problems.{IsProblem}
 use Rattle.xdg_reading.specs.declared.texts.AnalysisText.{AnalysisText}
 use Rattle.xdg_reading.specs.declared.texts.EdgeLine.{EdgeLine}
-use Rattle.xdg_reading.specs.Texts.{refusal}
 use Rattle.xdg_reading.specs.Fitted.{words_fault, said_values, said_edges, unless, then, fitted}
 use Rattle.xdg_reading.specs.Fits.{SayValues, SayEdges, Shows, behind_attrs, Offends, word, attr, edge, IsAnswer, Tells}
 use Rattle.xdg_base.specs.Told.{Gives}
@@ -78,7 +78,7 @@ fitted_told parts t problem each entries = by_words parts t (words_fault parts.c
 -- an answer as a call gives it
 abbrev pub as_answer : Result Analysis ℕ → Result Analysis Fault
 as_answer (Ok a) = Ok a
-as_answer (Err at) = Err (refusal causes.NotAnalysis at)
+as_answer (Err at) = Err (fault_at causes.NotAnalysis at)
 
 shown_fitted : (parts : Parts) (t : AnalysisText) (a : Analysis) → IsProblem parts → Shows parts t a → fitted parts t ≡ Ok a
 unfolding fitted
@@ -121,8 +121,8 @@ call_tells parts lent t r problem words entries same is = subst (λ z. IsAnswer 
 pub call_only : (parts lent : Parts) (t : AnalysisText) (r : Result Analysis ℕ) → IsProblem parts → lent ≡ parts → fitted lent t ≡ r → (answer : Result Analysis Fault) → IsAnswer parts t answer → answer ≡ as_answer r
 call_only parts lent t r problem same is answer right = only_answer parts t answer problem right ∙ ap as_answer (ap (λ z. fitted z t) (sym same) ∙ is)
 
-pub told_at : (parts : Parts) (t : AnalysisText) (at : ℕ) (stop : Stop) → stop ≡ stops.Fault (refusal causes.NotAnalysis at) → IsAnswer parts t (as_answer (Err at)) → Tells parts t (Err stop)
+pub told_at : (parts : Parts) (t : AnalysisText) (at : ℕ) (stop : Stop) → stop ≡ stops.Fault (fault_at causes.NotAnalysis at) → IsAnswer parts t (as_answer (Err at)) → Tells parts t (Err stop)
 told_at parts t at stop is told = subst (λ z. Tells parts t (Err z)) (sym is) told
 
-pub given_at : (at : ℕ) (stop : Stop) (answer : Result Analysis Fault) → stop ≡ stops.Fault (refusal causes.NotAnalysis at) → answer ≡ as_answer (Err at) → Gives answer (Err stop)
+pub given_at : (at : ℕ) (stop : Stop) (answer : Result Analysis Fault) → stop ≡ stops.Fault (fault_at causes.NotAnalysis at) → answer ≡ as_answer (Err at) → Gives answer (Err stop)
 given_at at stop answer is same = subst (λ z. Gives answer (Err z)) (sym is) same

@@ -3,6 +3,7 @@ use Rattle.std.proofs.Common.{◌≡◌, ◌<◌, ◌++◌, ◌+◌, ◌-◌, �
 use Rattle.std.specs.Prelude.{Result, IsUtf8}
 use Rattle.std.specs.Str.{IsValidUpTo}
 use Rattle.std.proofs.lemmas.Bool.{eq-eqb, ne_eqb, and_from, lt-ltb}
+use Rattle.xdg_base.specs.Faults.{fault_at}
 use Rattle.xdg_base.specs.declared.faults.Fault.{Fault}
 use Rattle.xdg_base.specs.declared.faults.Cause.TheVariants as causes
 use Rattle.xdg_base.specs.declared.faults.Stop.{Stop}
@@ -19,7 +20,7 @@ use Rattle.xdg_reading.specs.declared.texts.EdgeLine.{EdgeLine}
 use Rattle.xdg_reading.specs.Gathered.{Whole}
 use Rattle.xdg_reading.specs.Lines.{line_text, text_of, IsLine, line_at}
 use Rattle.xdg_reading.specs.Stages.{next, Goes, OffendsAt}
-use Rattle.xdg_reading.specs.Texts.{word_lines, lines_of, lines2_of, Placed, HasLines, IsText, IsRefused, no_text, no_analysis, IsAnswer, Tells, refusal}
+use Rattle.xdg_reading.specs.Texts.{word_lines, lines_of, lines2_of, Placed, HasLines, IsText, IsRefused, no_text, no_analysis, IsAnswer, Tells}
 use Rattle.xdg_base.specs.Told.{Gives}
 use Rattle.xdg_reading.proofs.LineLaws.{line_read}
 use Rattle.xdg_reading.proofs.Shapes.{whole_text, words_in, entries_in, attrs_in, edges_in, edge_lines, attr_lines}
@@ -195,10 +196,10 @@ offends_once bytes at other a o =
     a.place ∙ ap (λ z. length (text_of z)) same.lines_are ∙ sym o.place
 
 refused_once : (bytes : List ℕ) (one other : Fault) → IsRefused bytes one → IsRefused bytes other → one ≡ other
-refused_once bytes one other (no_text n none valid) (no_text m nor valid2) = ap (refusal causes.BadUtf8) (one_place bytes n m valid valid2)
+refused_once bytes one other (no_text n none valid) (no_text m nor valid2) = ap (fault_at causes.BadUtf8) (one_place bytes n m valid valid2)
 refused_once bytes one other (no_text n none valid) (no_analysis m u o) = absurd (none u)
 refused_once bytes one other (no_analysis n u o) (no_text m none valid) = absurd (none u)
-refused_once bytes one other (no_analysis n u a) (no_analysis m v o) = ap (refusal causes.NotAnalysis) (offends_once bytes n m a o)
+refused_once bytes one other (no_analysis n u a) (no_analysis m v o) = ap (fault_at causes.NotAnalysis) (offends_once bytes n m a o)
 
 text_or_refused : (bytes : List ℕ) (t : AnalysisText) (fault : Fault) → IsUtf8 bytes → Whole bytes t → IsRefused bytes fault → ⊥
 text_or_refused bytes t fault u whole (no_text n none valid) = none u
@@ -220,8 +221,8 @@ only_answer bytes answer (Err stops.OutOfMemory) is tells = tt
 pub lines_told : (bytes : List ℕ) (t : AnalysisText) → IsUtf8 bytes → Whole bytes t → Tells bytes (Ok t)
 lines_told bytes t u whole = (u, whole_text bytes t whole)
 
-pub line_told : (bytes : List ℕ) (at : ℕ) → IsUtf8 bytes → OffendsAt bytes at → Tells bytes (Err (stops.Fault (refusal causes.NotAnalysis at)))
+pub line_told : (bytes : List ℕ) (at : ℕ) → IsUtf8 bytes → OffendsAt bytes at → Tells bytes (Err (stops.Fault (fault_at causes.NotAnalysis at)))
 line_told bytes at u offends = no_analysis at u offends
 
-pub bytes_told : (bytes : List ℕ) (at : ℕ) → (IsUtf8 bytes → ⊥) → IsValidUpTo bytes at → Tells bytes (Err (stops.Fault (refusal causes.BadUtf8 at)))
+pub bytes_told : (bytes : List ℕ) (at : ℕ) → (IsUtf8 bytes → ⊥) → IsValidUpTo bytes at → Tells bytes (Err (stops.Fault (fault_at causes.BadUtf8 at)))
 bytes_told bytes at none valid = no_text at none valid

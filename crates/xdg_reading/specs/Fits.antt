@@ -1,5 +1,6 @@
 -- Which analysis of a problem the lines of a text show, and which line offends first.
 use Rattle.std.specs.Prelude.{◌≡◌, ◌<◌, ℕ, Option, Some, None, Result, Ok, Err, List, [], ◌∷◌, length, Contains, slice_index_or}
+use Rattle.xdg_base.specs.Faults.{fault_at}
 use Rattle.xdg_base.specs.declared.faults.Fault.{Fault}
 use Rattle.xdg_base.specs.declared.faults.Cause.TheVariants as causes
 use Rattle.xdg_base.specs.declared.faults.Stop.{Stop}
@@ -15,7 +16,6 @@ use Rattle.xdg_problem.specs.Places.{nodes}
 use Rattle.xdg_reading.specs.declared.texts.AnalysisText.{AnalysisText}
 use Rattle.xdg_reading.specs.declared.texts.AttrLine.{AttrLine}
 use Rattle.xdg_reading.specs.declared.texts.EdgeLine.{EdgeLine}
-use Rattle.xdg_reading.specs.Texts.{refusal}
 use Rattle.xdg_text.specs.Blocks.{no_plan, no_value}
 use Rattle.xdg_reading.specs.Slots.{Asked, slots}
 
@@ -105,7 +105,7 @@ pub data Offends (parts : Parts) (t : AnalysisText) (at : ℕ) : Type 0 where
 -- the text shows this analysis, or a line offends
 abbrev pub IsAnswer : Parts → AnalysisText → Result Analysis Fault → Type 0
 IsAnswer parts t (Ok a) = IsAnalysis parts a × Shows parts t a
-IsAnswer parts t (Err fault) = (at : ℕ) × (fault ≡ refusal causes.NotAnalysis at) × Offends parts t at
+IsAnswer parts t (Err fault) = (at : ℕ) × (fault ≡ fault_at causes.NotAnalysis at) × Offends parts t at
 
 -- a call answers so, unless memory ran out
 abbrev pub Tells : Parts → AnalysisText → Result Analysis Stop → Type 0

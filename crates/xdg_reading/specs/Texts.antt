@@ -1,6 +1,7 @@
 -- Which bytes are an analysis text, and which lines it has.
 use Rattle.std.specs.Prelude.{◌≡◌, ◌⊎◌, ℕ, suc, ◌+◌, ◌<◌, Result, Ok, Err, List, [], ◌∷◌, ◌++◌, length, map, IsUtf8}
 use Rattle.std.specs.Str.{IsValidUpTo}
+use Rattle.xdg_base.specs.Faults.{fault_at}
 use Rattle.xdg_base.specs.declared.faults.Fault.{Fault}
 use Rattle.xdg_base.specs.declared.faults.Cause.TheVariants as causes
 use Rattle.xdg_base.specs.declared.faults.Cause.{Cause}
@@ -49,13 +50,10 @@ pub record HasLines (bytes : List ℕ) (t : AnalysisText) (all : List Line) : Ty
 abbrev pub IsText : List ℕ → AnalysisText → Type 0
 IsText bytes t = (number : ℕ) × (HasLines bytes t (lines_of number t) ⊎ HasLines bytes t (lines2_of number t))
 
-abbrev pub refusal : Cause → ℕ → Fault
-refusal cause at = record { cause = cause; at = at; reached = 0 }
-
 -- The bytes are not UTF-8, from the first byte on that belongs to no whole character; or else a line offends first.
 pub data IsRefused (bytes : List ℕ) : Fault → Type 0 where
-  no_text : (at : ℕ) → (IsUtf8 bytes → ⊥) → IsValidUpTo bytes at → IsRefused bytes (refusal causes.BadUtf8 at)
-  no_analysis : (at : ℕ) → IsUtf8 bytes → OffendsAt bytes at → IsRefused bytes (refusal causes.NotAnalysis at)
+  no_text : (at : ℕ) → (IsUtf8 bytes → ⊥) → IsValidUpTo bytes at → IsRefused bytes (fault_at causes.BadUtf8 at)
+  no_analysis : (at : ℕ) → IsUtf8 bytes → OffendsAt bytes at → IsRefused bytes (fault_at causes.NotAnalysis at)
 
 -- the bytes say so, or are refused so
 abbrev pub IsAnswer : List ℕ → Result AnalysisText Fault → Type 0

@@ -4,9 +4,9 @@ ghost use Rattle.std.specs.Prelude.{◌≡◌, ◌<◌, ◌≤◌, ◌++◌, [],
 ghost use Rattle.std.specs.List.{prefix_len};
 ghost use Rattle.xdg_reading.specs.Pieces.{Skips, Reads, Takes, GoesPlain, begins_quoted, is_plain, until, inside};
 
-use std::alloc::{AllocError, Global};
+use std::alloc::Global;
 use std::marker::Model;
-use xdg_base::Text;
+use xdg_base::{OutOfMemory, Text};
 
 /// Why reading a line stops.
 #[derive(Clone, Copy, Debug)]
@@ -17,12 +17,12 @@ pub(crate) enum Why {
     Offends,
 }
 
-impl From<AllocError> for Why {
+impl From<OutOfMemory> for Why {
     ghost use Rattle.xdg_reading.specs.declared.cursor.Why.TheVariants.{Memory};
 
     ghost from_gives = { λ _ why. why ≡ Memory };
 
-    fn from(_: AllocError) -> Why {
+    fn from(_: OutOfMemory) -> Why {
         Why::Memory
     }
 }

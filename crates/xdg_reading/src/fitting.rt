@@ -7,7 +7,6 @@ ghost use Rattle.xdg_base.specs.declared.faults.Stop.TheVariants as stops;
 ghost use Rattle.xdg_base.specs.declared.faults.Cause.TheVariants as causes;
 ghost use Rattle.xdg_problem.specs.declared.analysis.Analysis as analyses;
 ghost use Rattle.xdg_problem.specs.Problems.{IsProblem};
-ghost use Rattle.xdg_reading.specs.Texts.{refusal};
 ghost use Rattle.xdg_reading.specs.Fits.{Tells, IsAnswer, behind_attrs};
 ghost use Rattle.xdg_reading.specs.Fits as answers;
 ghost use Rattle.xdg_reading.specs.Fitted.{fitted, Gives};
@@ -64,17 +63,6 @@ fn fitted(alloc: Global, parts: &Parts, text: &AnalysisText) -> Result<Analysis,
     })
 }
 
-/// A line offends at this place.
-fn refusal(at: u32) -> Stop
-    ensures { result ≡ stops.Fault (refusal causes.NotAnalysis at) }
-{
-    Stop::Fault(Fault {
-        cause: Cause::NotAnalysis,
-        at,
-        reached: 0,
-    })
-}
-
 /// The analysis of the problem's sentence whose lines are those of the text.
 ///
 /// Every other text is refused by [`Cause::NotAnalysis`] at the start of the first line that offends: each entry is one of its
@@ -91,6 +79,6 @@ pub fn fit(alloc: Global, problem: &Problem, text: &AnalysisText) -> Result<Anal
     match fitted(alloc, problem.parts(), text) {
         Ok(analysis) => Ok(analysis),
         Err(Refused::Memory) => Err(Stop::OutOfMemory),
-        Err(Refused::At(at)) => Err(refusal(at)),
+        Err(Refused::At(at)) => Err(Stop::Fault(Fault::at(Cause::NotAnalysis, at))),
     }
 }

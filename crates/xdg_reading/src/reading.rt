@@ -4,7 +4,7 @@ ghost use Rattle.std.specs.Prelude.{◌≡◌, [], ◌<◌, ◌+◌, ◌^◌, le
 ghost use Rattle.xdg_base.specs.declared.faults.Fault as faults;
 ghost use Rattle.xdg_reading.specs.declared.texts.AnalysisText as trees;
 ghost use Rattle.xdg_reading.specs.Gathered.{Adds, Answers};
-ghost use Rattle.xdg_reading.specs.Texts.{Tells, IsAnswer, refusal};
+ghost use Rattle.xdg_reading.specs.Texts.{Tells, IsAnswer};
 ghost use Rattle.xdg_base.specs.Told.{Gives};
 ghost use Rattle.xdg_base.specs.declared.faults.Stop.TheVariants as stops;
 
@@ -13,9 +13,9 @@ use crate::line::{Line, read_line};
 use crate::refused::Refused;
 use crate::stage::{Stage, has_ended, next};
 use crate::texts::AnalysisText;
-use std::alloc::{AllocError, Global};
+use std::alloc::Global;
 use std::str;
-use xdg_base::{Cause, Fault, List, Stop};
+use xdg_base::{Cause, Fault, List, OutOfMemory, Stop};
 
 /// A text without lines.
 fn empty(alloc: Global) -> AnalysisText
@@ -31,7 +31,7 @@ fn empty(alloc: Global) -> AnalysisText
 }
 
 /// Adds what a line says.
-fn add(text: &mut AnalysisText, line: Line) -> Result<(), AllocError>
+fn add(text: &mut AnalysisText, line: Line) -> Result<(), OutOfMemory>
     ensures { OnOk result (Adds text.old text.new line) }
 {
     match line {
@@ -78,17 +78,6 @@ fn read_lines(alloc: Global, text: &str) -> Result<AnalysisText, Refused>
     }
 }
 
-/// A refusal at a place.
-fn refusal(cause: Cause, at: u32) -> Stop
-    ensures { result ≡ stops.Fault (refusal cause at) }
-{
-    Stop::Fault(Fault {
-        cause,
-        at,
-        reached: 0,
-    })
-}
-
 /// What a text says, or its refusal.
 #[tactic(auto, using(crate::proofs::Only::lines_told, crate::proofs::Only::line_told, crate::proofs::Only::bytes_told))]
 fn read_bytes(alloc: Global, bytes: &[u8]) -> Result<AnalysisText, Stop>
@@ -98,10 +87,10 @@ fn read_bytes(alloc: Global, bytes: &[u8]) -> Result<AnalysisText, Stop>
     match str::from_utf8(bytes) {
         Ok(text) => match read_lines(alloc, text) {
             Ok(read) => Ok(read),
-            Err(Refused::At(at)) => Err(refusal(Cause::NotAnalysis, at)),
+            Err(Refused::At(at)) => Err(Stop::Fault(Fault::at(Cause::NotAnalysis, at))),
             Err(Refused::Memory) => Err(Stop::OutOfMemory),
         },
-        Err(error) => Err(refusal(Cause::BadUtf8, error.valid_up_to() as u32)),
+        Err(error) => Err(Stop::Fault(Fault::at(Cause::BadUtf8, error.valid_up_to() as u32))),
     }
 }
 

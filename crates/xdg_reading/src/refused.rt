@@ -2,7 +2,7 @@
 
 ghost use Rattle.std.specs.Prelude.{◌≡◌};
 
-use std::alloc::AllocError;
+use xdg_base::OutOfMemory;
 
 /// Why a text is no analysis, or shows none.
 #[derive(Clone, Copy, Debug)]
@@ -13,12 +13,12 @@ pub(crate) enum Refused {
     At(u32),
 }
 
-impl From<AllocError> for Refused {
+impl From<OutOfMemory> for Refused {
     ghost use Rattle.xdg_reading.specs.declared.refused.Refused.TheVariants.{Memory};
 
     ghost from_gives = { λ _ refused. refused ≡ Memory };
 
-    fn from(_: AllocError) -> Refused {
+    fn from(_: OutOfMemory) -> Refused {
         Refused::Memory
     }
 }

@@ -1,10 +1,8 @@
 //! The command `explain`.
 
 ghost use Rattle.std.specs.Prelude.{◌≡◌, ◌≢◌, ◌≤◌, ◌⊎◌, ℕ, List, Option, Some, length};
-ghost use Rattle.xdg_packed.specs.Entries.{IsRightLexicon};
-ghost use Rattle.xdg_inputs.specs.Answers.{meaning_of};
-ghost use Rattle.xdg_inputs.specs.Packed.{IsPackedOf};
-ghost use Rattle.xdg_build.specs.Grammars.{grammar_of};
+ghost use Rattle.xdg_inputs.specs.Answers.{grammar_in, meaning_of};
+ghost use Rattle.xdg_inputs.specs.RightLexicons.{HasRightLexicon};
 ghost use Rattle.xdg_inputs.specs.Judging.{analysed_of};
 ghost use Rattle.xdg_inputs.specs.Made.{IsMade};
 ghost use Rattle.xdg_io.specs.Rose.{Rose};
@@ -23,12 +21,11 @@ use xdg_base::OutOfMemory;
 use xdg_command::ExplainOptions;
 use xdg_formula::Rules;
 use xdg_inputs::{
-    Expanded, Judgeable, Loaded, Status, expand_tree, load_analysis, load_rules, load_tree,
-    pack_entries, refuse, rule_analysis, stopped_in,
+    Expanded, Judgeable, Loaded, Status, expand_tree, load_analysis, load_rules, load_tree, refuse,
+    rule_analysis, stopped_in,
 };
 use xdg_io::{Failed, Shelf, Sink};
 use xdg_judge::explain;
-use xdg_packed::Packed;
 
 /// Prints the verdicts on an analysis of a problem with rules.
 fn judge<K: Sink>(alloc: Global, rules: &Rules, ruled: &Judgeable, out: &mut K) -> Status
@@ -54,15 +51,13 @@ fn judge<K: Sink>(alloc: Global, rules: &Rules, ruled: &Judgeable, out: &mut K) 
 fn explain_found<K: Sink>(
     alloc: Global,
     expanded: &Expanded,
-    packed: &Packed,
     rules: &Rules,
     found: Judgeable,
     out: &mut K,
 ) -> Status
-    requires lexicon { IsRightLexicon expanded.now.checked.types expanded.now.entries }
-    requires packed { IsPackedOf expanded.now packed.now }
+    requires lexicon { HasRightLexicon expanded.now }
     requires right { AreRight expanded.now.checked.types rules.now }
-    requires made { IsMade (grammar_of expanded.now.checked packed.now) found.problem }
+    requires made { IsMade (grammar_in expanded.now) found.problem }
     requires fits { IsAnalysis found.problem found.analysis }
     ensures leaves { Leaves (Explained rules.now (meaning_of expanded.now) (analysed_of found)) result (K.held out.old) (K.held out.new) }
     ensures write_fault { result ≡ Status.WriteFault → Rose (K.faults out.old) (K.faults out.new) }
@@ -70,7 +65,7 @@ fn explain_found<K: Sink>(
     ensures out_quiet { result ≢ Status.WriteFault → K.faults out.new ≡ K.faults out.old }
     ensures ends { (result ≡ Status.Done) ⊎ ((result ≡ Status.WriteFault) ⊎ (result ≡ Status.OutOfMemory)) }
 {
-    match rule_analysis(alloc, expanded, packed, rules, found) {
+    match rule_analysis(alloc, expanded, rules, found) {
         Ok(ruled) => judge(alloc, rules, &ruled, out),
         Err(OutOfMemory) => Status::OutOfMemory,
     }
@@ -85,7 +80,7 @@ fn explain_ruled<H: Shelf, K: Sink>(
     shelf: &mut H,
     out: &mut K,
 ) -> Status
-    requires lexicon { IsRightLexicon expanded.now.checked.types expanded.now.entries }
+    requires lexicon { HasRightLexicon expanded.now }
     requires right { AreRight expanded.now.checked.types rules.now }
     ensures leaves { (files : List ℕ → Option (List ℕ)) → H.files shelf.old ≡ Some files
         → Leaves (ExplainThen options.now files rules.now (meaning_of expanded.now)) result (K.held out.old) (K.held out.new) }
@@ -98,12 +93,8 @@ fn explain_ruled<H: Shelf, K: Sink>(
     ensures wrote { Wrote ExplainEnds result (K.faults out.old) (K.faults out.new) (K.held out.old) (K.held out.new) }
     ensures command { result ≡ Status.Usage → ⊥ }
 {
-    let packed = match pack_entries(alloc, expanded) {
-        Ok(packed) => packed,
-        Err(OutOfMemory) => return Status::OutOfMemory,
-    };
-    match load_analysis(alloc, expanded, &packed, shelf, options.analysis.as_str()) {
-        Ok(found) => explain_found(alloc, expanded, &packed, rules, found, out),
+    match load_analysis(alloc, expanded, shelf, options.analysis.as_str()) {
+        Ok(found) => explain_found(alloc, expanded, rules, found, out),
         Err(refusal) => refuse(refusal, Status::BadAnalysis, out),
     }
 }
@@ -116,7 +107,7 @@ fn explain_expanded<H: Shelf, K: Sink>(
     shelf: &mut H,
     out: &mut K,
 ) -> Status
-    requires { IsRightLexicon expanded.now.checked.types expanded.now.entries }
+    requires { HasRightLexicon expanded.now }
     ensures leaves { (files : List ℕ → Option (List ℕ)) → H.files shelf.old ≡ Some files
         → Leaves (RulesThen files options.now.rules (ExplainThen options.now files) (meaning_of expanded.now)) result (K.held out.old) (K.held out.new) }
     ensures read_fault { result ≡ Status.ReadFault

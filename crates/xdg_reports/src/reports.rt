@@ -73,7 +73,7 @@ fn check_loaded<K: Sink>(alloc: Global, loaded: Loaded, out: &mut K) -> Status
     };
     let dims = expanded.checked.types().used().len();
     let classes = expanded.checked.classes().len();
-    match counts_line(alloc, dims, classes, expanded.entries.len()) {
+    match counts_line(alloc, dims, classes, expanded.lexicon.len()) {
         Ok(line) => write_text(line.as_slice(), out),
         Err(Failed) => Status::OutOfMemory,
     }
@@ -93,7 +93,7 @@ fn list_loaded<K: Sink>(alloc: Global, loaded: Loaded, out: &mut K) -> Status
         Ok(expanded) => expanded,
         Err(stop) => return refuse(stopped_in(&text, stop), Status::BadGrammar, out),
     };
-    match lexicon_text(alloc, expanded.checked.types(), expanded.entries.as_slice()) {
+    match lexicon_text(alloc, expanded.checked.types(), &expanded.lexicon) {
         Ok(text) => write_text(text.as_str().as_bytes(), out),
         Err(OutOfMemory) => Status::OutOfMemory,
     }

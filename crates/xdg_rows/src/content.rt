@@ -1,7 +1,7 @@
 //! The lines of a table that say bytes: of a named text, of a file, of an input, and of what is wanted.
 
 use crate::row::Named;
-use std::alloc::AllocError;
+use xdg_base::OutOfMemory;
 
 /// Adds what a line says that stands behind one of the marks `|`, `.`, `\` and `=`. Whether it could be read.
 pub fn add_content(
@@ -9,7 +9,7 @@ pub fn add_content(
     mark: &str,
     said: &str,
     texts: &[Named],
-) -> Result<bool, AllocError> {
+) -> Result<bool, OutOfMemory> {
     match mark {
         "|" => {
             bytes.extend_from_slice(said.as_bytes())?;
@@ -55,7 +55,7 @@ fn escaped(text: &[u8]) -> Option<(u8, &[u8])> {
 }
 
 /// Adds a text in which a backslash begins what stands for a byte. Whether it could be read.
-fn add_escaped(bytes: &mut Vec<u8>, said: &str) -> Result<bool, AllocError> {
+fn add_escaped(bytes: &mut Vec<u8>, said: &str) -> Result<bool, OutOfMemory> {
     for (number, part) in said.split('\\').enumerate() {
         if number == 0 {
             bytes.extend_from_slice(part.as_bytes())?;
@@ -82,7 +82,7 @@ pub fn find<'a>(texts: &'a [Named], name: &str) -> Option<&'a [u8]> {
 
 /// Adds a named text, or some of its lines where a first and a last one are said, as `plain 1..10`. Whether there is such a
 /// text with such lines.
-fn add_named(bytes: &mut Vec<u8>, said: &str, texts: &[Named]) -> Result<bool, AllocError> {
+fn add_named(bytes: &mut Vec<u8>, said: &str, texts: &[Named]) -> Result<bool, OutOfMemory> {
     let Some((name, range)) = said.split_once(' ') else {
         return match find(texts, said) {
             Some(text) => {
@@ -110,7 +110,7 @@ fn add_lines(
     text: &[u8],
     first: usize,
     last: usize,
-) -> Result<bool, AllocError> {
+) -> Result<bool, OutOfMemory> {
     let mut line: usize = 1;
     for byte in text {
         if first <= line && line <= last {

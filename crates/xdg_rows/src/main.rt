@@ -14,12 +14,13 @@ mod telling;
 mod trial;
 
 use crate::table::Table;
-use std::alloc::{AllocError, Global};
+use std::alloc::Global;
 use std::io;
 use std::thread::Threads;
+use xdg_base::OutOfMemory;
 
 /// What is told of the rows of a table.
-fn told<R: Threads + Sync>(rt: &R, alloc: Global, text: &str) -> Result<String, AllocError> {
+fn told<R: Threads + Sync>(rt: &R, alloc: Global, text: &str) -> Result<String, OutOfMemory> {
     let mut table = Table::new(alloc);
     for line in text.split('\n') {
         table.read(rt, alloc, line)?;

@@ -6,7 +6,8 @@
 
 use crate::content::add_content;
 use crate::row::Named;
-use std::alloc::{AllocError, Global};
+use std::alloc::Global;
+use xdg_base::OutOfMemory;
 
 /// How often a line can be repeated.
 const MOST: u64 = 1_000_000;
@@ -46,7 +47,7 @@ fn running_of(word: &str) -> Option<Running<'_>> {
 }
 
 /// How a line is repeated, where it can be read.
-fn repeated_of(alloc: Global, line: &str) -> Result<Option<Repeated<'_>>, AllocError> {
+fn repeated_of(alloc: Global, line: &str) -> Result<Option<Repeated<'_>>, OutOfMemory> {
     let mut running = Vec::new(alloc);
     let mut apart = None;
     let mut left = line;
@@ -100,7 +101,7 @@ fn number_at(running: &[Running<'_>], text: &str, turn: u64) -> Option<u64> {
 }
 
 /// The line of a turn: in each pair of brackets stands the number in place of its name. Nothing where there is none.
-fn line_at(alloc: Global, one: &Repeated<'_>, turn: u64) -> Result<Option<String>, AllocError> {
+fn line_at(alloc: Global, one: &Repeated<'_>, turn: u64) -> Result<Option<String>, OutOfMemory> {
     let mut line = String::new(alloc);
     for (number, part) in one.said.split('<').enumerate() {
         if number == 0 {
@@ -140,7 +141,7 @@ pub fn add_repeated(
     bytes: &mut Vec<u8>,
     said: &str,
     texts: &[Named],
-) -> Result<bool, AllocError> {
+) -> Result<bool, OutOfMemory> {
     let Some(one) = repeated_of(alloc, said)? else {
         return Ok(false);
     };

@@ -2,8 +2,9 @@
 
 use crate::content::add_content;
 use crate::trial::Device;
-use std::alloc::{AllocError, Global};
+use std::alloc::Global;
 use std::str;
+use xdg_base::OutOfMemory;
 
 /// A text that is named once and used by many rows, or a file of a row.
 pub type Named = (String, Vec<u8>);
@@ -77,7 +78,7 @@ impl Devices {
     }
 
     /// Reads which call of a device fails, as `input 2`, or that each does in turn, `each`. Whether that could be read.
-    fn fail(&mut self, said: &str) -> Result<bool, AllocError> {
+    fn fail(&mut self, said: &str) -> Result<bool, OutOfMemory> {
         if said == "each" {
             self.is_each_failed = true;
             return Ok(true);
@@ -111,7 +112,7 @@ impl Devices {
     }
 
     /// Reads a line on the devices. Whether it could be read.
-    pub fn read(&mut self, key: &str, said: &str) -> Result<bool, AllocError> {
+    pub fn read(&mut self, key: &str, said: &str) -> Result<bool, OutOfMemory> {
         match key {
             "fails" => self.fail(said),
             "rooms" => Ok(self.set_rooms(said)),
@@ -135,7 +136,7 @@ impl Devices {
 
 impl Row {
     /// A row that says nothing but its name yet.
-    pub fn new(alloc: Global, name: &str, line: u64) -> Result<Row, AllocError> {
+    pub fn new(alloc: Global, name: &str, line: u64) -> Result<Row, OutOfMemory> {
         Ok(Row {
             name: String::from_str(alloc, name)?,
             line,
@@ -150,7 +151,7 @@ impl Row {
     }
 
     /// Adds the words of a command, of which `""` is the empty one. Whether they could be read.
-    pub fn add_words(&mut self, alloc: Global, said: &str) -> Result<bool, AllocError> {
+    pub fn add_words(&mut self, alloc: Global, said: &str) -> Result<bool, OutOfMemory> {
         if said.is_empty() {
             return Ok(true);
         }
@@ -168,7 +169,7 @@ impl Row {
     }
 
     /// Adds a file without bytes.
-    pub fn add_file(&mut self, alloc: Global, name: &str) -> Result<(), AllocError> {
+    pub fn add_file(&mut self, alloc: Global, name: &str) -> Result<(), OutOfMemory> {
         let name = String::from_str(alloc, name)?;
         self.files.push((name, Vec::new(alloc)))?;
         Ok(())

@@ -6,8 +6,9 @@ ghost use Rattle.std.specs.String.{string_bytes};
 use crate::counted::Counted;
 use crate::row::{Named, Row};
 use crate::trial::{Device, Trial};
-use std::alloc::{AllocError, Global};
+use std::alloc::Global;
 use std::thread::Threads;
+use xdg_base::OutOfMemory;
 use xdg_io::{MemShelf, MemSink, MemSource};
 use xdg_top::run;
 
@@ -22,7 +23,7 @@ pub struct Outcome {
 
 impl Outcome {
     /// An outcome with a copy of these bytes.
-    fn copied(alloc: Global, status: u8, bytes: &[u8]) -> Result<Outcome, AllocError> {
+    fn copied(alloc: Global, status: u8, bytes: &[u8]) -> Result<Outcome, OutOfMemory> {
         let bytes = Vec::from_slice(alloc, bytes)?;
         Ok(Outcome { status, bytes })
     }
@@ -81,20 +82,20 @@ fn given_in<R: Threads + Sync>(
     alloc: Global,
     row: &Row,
     trial: &Trial,
-) -> Result<Option<Given>, AllocError> {
+) -> Result<Option<Given>, OutOfMemory> {
     let devices = &row.devices;
     if devices.cut == 0 || !are_apart(row.files.as_slice()) {
         return Ok(None);
     }
     let fails = trial.fails(Device::Shelf, devices);
     let shelf = MemShelf::new(alloc, row.files.as_slice(), fails);
-    let mut shelf = Counted::new(shelf.map_err(|_| AllocError)?);
+    let mut shelf = Counted::new(shelf.map_err(|_| OutOfMemory)?);
     let fails = trial.fails(Device::Input, devices);
     let input = MemSource::new(alloc, row.input.as_slice(), devices.cut, fails);
-    let mut input = Counted::new(input.map_err(|_| AllocError)?);
+    let mut input = Counted::new(input.map_err(|_| OutOfMemory)?);
     let fails = trial.fails(Device::Output, devices);
     let out = MemSink::new(alloc, trial.room, devices.cut, fails);
-    let mut out = Counted::new(out.map_err(|_| AllocError)?);
+    let mut out = Counted::new(out.map_err(|_| OutOfMemory)?);
     let status = run(
         rt,
         alloc,
@@ -143,7 +144,7 @@ fn tried<R: Threads + Sync>(
     row: &Row,
     status: u8,
     trial: Trial,
-) -> Result<Found, AllocError> {
+) -> Result<Found, OutOfMemory> {
     let Some(given) = given_in(rt, alloc, row, &trial)? else {
         return Ok(Found::Apart(Difference {
             trial,
@@ -174,7 +175,7 @@ fn first_failing_apart<R: Threads + Sync>(
     row: &Row,
     status: u8,
     device: Device,
-) -> Result<Option<Difference>, AllocError> {
+) -> Result<Option<Difference>, OutOfMemory> {
     for call in 1..=u64::MAX {
         let trial = Trial::with_failing(row.devices.room, device, call);
         match tried(rt, alloc, row, status, trial)? {
@@ -192,7 +193,7 @@ pub fn first_apart<R: Threads + Sync>(
     alloc: Global,
     row: &Row,
     status: u8,
-) -> Result<Option<Difference>, AllocError> {
+) -> Result<Option<Difference>, OutOfMemory> {
     let first = row.devices.room;
     for room in first..=row.devices.last_room.unwrap_or(first) {
         if let Found::Apart(apart) = tried(rt, alloc, row, status, Trial::in_room(room))? {

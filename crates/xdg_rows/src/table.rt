@@ -5,8 +5,9 @@ use crate::repeated::add_repeated;
 use crate::row::{Named, Row};
 use crate::running::first_apart;
 use crate::telling::{tell_difference, tell_row};
-use std::alloc::{AllocError, Global};
+use std::alloc::Global;
 use std::thread::Threads;
+use xdg_base::OutOfMemory;
 
 /// What the lines of content that come next belong to.
 #[derive(Clone, Copy, PartialEq, Eq)]
@@ -60,7 +61,7 @@ impl Table {
         rt: &R,
         alloc: Global,
         line: &str,
-    ) -> Result<(), AllocError> {
+    ) -> Result<(), OutOfMemory> {
         self.line = self.line.saturating_add(1);
         if line.is_empty() || line.starts_with('#') {
             return Ok(());
@@ -90,7 +91,7 @@ impl Table {
         rt: &R,
         alloc: Global,
         name: &str,
-    ) -> Result<bool, AllocError> {
+    ) -> Result<bool, OutOfMemory> {
         self.end_group(rt, alloc)?;
         self.group = String::from_str(alloc, name)?;
         self.line = 0;
@@ -103,7 +104,7 @@ impl Table {
         rt: &R,
         alloc: Global,
         name: &str,
-    ) -> Result<bool, AllocError> {
+    ) -> Result<bool, OutOfMemory> {
         self.end_row(rt, alloc)?;
         if name.is_empty() || find(self.texts.as_slice(), name).is_some() {
             return Ok(false);
@@ -120,7 +121,7 @@ impl Table {
         rt: &R,
         alloc: Global,
         name: &str,
-    ) -> Result<bool, AllocError> {
+    ) -> Result<bool, OutOfMemory> {
         self.end_row(rt, alloc)?;
         self.rows = self.rows.saturating_add(1);
         self.row = Some(Row::new(alloc, name, self.line)?);
@@ -128,7 +129,7 @@ impl Table {
     }
 
     /// Reads a line that says something of the row.
-    fn read_of_row(&mut self, alloc: Global, key: &str, said: &str) -> Result<bool, AllocError> {
+    fn read_of_row(&mut self, alloc: Global, key: &str, said: &str) -> Result<bool, OutOfMemory> {
         let Some(row) = &mut self.row else {
             return Ok(false);
         };
@@ -159,7 +160,7 @@ impl Table {
     }
 
     /// Reads content that stands on the line that begins it, if there is any.
-    fn add_more(&mut self, alloc: Global, said: &str) -> Result<bool, AllocError> {
+    fn add_more(&mut self, alloc: Global, said: &str) -> Result<bool, OutOfMemory> {
         match said.split_once(' ') {
             Some((mark, more)) => self.add_content(alloc, mark, more),
             None if said.is_empty() => Ok(true),
@@ -168,7 +169,7 @@ impl Table {
     }
 
     /// Reads a line of content.
-    fn add_content(&mut self, alloc: Global, mark: &str, said: &str) -> Result<bool, AllocError> {
+    fn add_content(&mut self, alloc: Global, mark: &str, said: &str) -> Result<bool, OutOfMemory> {
         let mut bytes = Vec::new(alloc);
         let texts = self.texts.as_slice();
         let is_read = match mark {
@@ -192,7 +193,7 @@ impl Table {
     }
 
     /// Runs the row, if there is one, and tells of it where it doesn't give what it wants.
-    fn end_row<R: Threads + Sync>(&mut self, rt: &R, alloc: Global) -> Result<(), AllocError> {
+    fn end_row<R: Threads + Sync>(&mut self, rt: &R, alloc: Global) -> Result<(), OutOfMemory> {
         self.place = Place::Nowhere;
         let Some(row) = self.row.take() else {
             return Ok(());
@@ -210,7 +211,7 @@ impl Table {
     }
 
     /// Ends the row, and tells how many of the group's rows give what they want.
-    fn end_group<R: Threads + Sync>(&mut self, rt: &R, alloc: Global) -> Result<(), AllocError> {
+    fn end_group<R: Threads + Sync>(&mut self, rt: &R, alloc: Global) -> Result<(), OutOfMemory> {
         self.end_row(rt, alloc)?;
         let group = self.group.as_str();
         let passed = self.passed;
@@ -228,7 +229,7 @@ impl Table {
         mut self,
         rt: &R,
         alloc: Global,
-    ) -> Result<String, AllocError> {
+    ) -> Result<String, OutOfMemory> {
         self.end_group(rt, alloc)?;
         Ok(self.told)
     }

@@ -2,14 +2,14 @@
 
 use crate::row::Row;
 use crate::running::{Difference, Outcome};
-use std::alloc::AllocError;
 use std::str;
+use xdg_base::OutOfMemory;
 
 /// How many lines of a text are shown before and behind the first one that differs.
 const AROUND: usize = 12;
 
 /// Adds a line of bytes, with marks in place of those that are no characters to be shown.
-fn tell_line(told: &mut String, line: &[u8]) -> Result<(), AllocError> {
+fn tell_line(told: &mut String, line: &[u8]) -> Result<(), OutOfMemory> {
     told.push_str("  | ")?;
     match str::from_utf8(line) {
         Ok(text) => told.push_str(text)?,
@@ -41,7 +41,7 @@ fn first_line_apart(one: &[u8], other: &[u8]) -> usize {
 }
 
 /// Adds the status and the text of an outcome, of which no more than the lines around a given one.
-fn tell_outcome(told: &mut String, outcome: &Outcome, around: usize) -> Result<(), AllocError> {
+fn tell_outcome(told: &mut String, outcome: &Outcome, around: usize) -> Result<(), OutOfMemory> {
     let status = outcome.status;
     let size = outcome.bytes.len();
     writeln!(told, " status {status}, {size} bytes")?;
@@ -59,7 +59,7 @@ fn tell_outcome(told: &mut String, outcome: &Outcome, around: usize) -> Result<(
 }
 
 /// Adds which row it is: its group, the line at which it begins, its name and the words of its command.
-pub fn tell_row(told: &mut String, group: &str, row: &Row) -> Result<(), AllocError> {
+pub fn tell_row(told: &mut String, group: &str, row: &Row) -> Result<(), OutOfMemory> {
     let line = row.line;
     let name = row.name.as_str();
     write!(told, "{group} line {line} {name}: xdg")?;
@@ -71,7 +71,7 @@ pub fn tell_row(told: &mut String, group: &str, row: &Row) -> Result<(), AllocEr
 }
 
 /// Adds what was wanted of a row and what it gave.
-pub fn tell_difference(told: &mut String, apart: &Difference) -> Result<(), AllocError> {
+pub fn tell_difference(told: &mut String, apart: &Difference) -> Result<(), OutOfMemory> {
     let Some(given) = &apart.given else {
         return told.push_str(" two of its files have one name\n");
     };

@@ -15,8 +15,8 @@ use std::thread::Threads;
 use xdg_facts::Ending;
 use xdg_io::{Failed, Sink};
 use xdg_problem::{Analysis, Problem};
-use xdg_split::Printed;
-use xdg_text::{Form, write_analysis, write_complete, write_first, write_spent};
+use xdg_split::{Printed, write_last};
+use xdg_text::{Form, write_analysis};
 
 /// Searches a sentence by the branches of its first word's entries, each with the whole budget, and then prints each solution that was
 /// found, in their order, and the last line. Where a number of analyses is asked for, at least one, it prints so many. Four branches are
@@ -80,15 +80,4 @@ fn write_blocks<K: Sink>(
         write_analysis(form, problem, place as u64 + 1, analysis, sink)?;
     }
     Ok(())
-}
-
-/// Writes the last line behind so many analyses.
-fn write_last<K: Sink>(ending: Ending, count: u64, sink: &mut K) -> Result<(), Failed>
-    ensures { WritesText result (K.held sink.old) (K.held sink.new) (K.faults sink.old) (K.faults sink.new) (last_line ending count) }
-{
-    match ending {
-        Ending::Complete => write_complete(count, sink),
-        Ending::First => write_first(count, sink),
-        Ending::Spent => write_spent(count, sink),
-    }
 }

@@ -1,8 +1,8 @@
 //! The command `drill`.
 
 ghost use Rattle.std.specs.Prelude.{◌≡◌, ◌≢◌, ◌≤◌, ◌⊎◌, length};
-ghost use Rattle.xdg_packed.specs.Entries.{IsRightLexicon};
 ghost use Rattle.xdg_inputs.specs.Answers.{meaning_of};
+ghost use Rattle.xdg_inputs.specs.RightLexicons.{HasRightLexicon};
 ghost use Rattle.xdg_io.specs.Rose.{Rose};
 ghost use Rattle.xdg_io.specs.Texts.{WritesText};
 ghost use Rattle.xdg_inputs.specs.Outcomes.{MeaningThen};
@@ -18,9 +18,7 @@ use xdg_ast::Grammar;
 use xdg_base::OutOfMemory;
 use xdg_engine::props;
 use xdg_facts::Ending;
-use xdg_inputs::{
-    Expanded, Status, expand_tree, pack_entries, problem_in, read_tree, refuse, stopped_in,
-};
+use xdg_inputs::{Expanded, Status, expand_tree, problem_in, read_tree, refuse, stopped_in};
 use xdg_io::{Failed, Sink};
 use xdg_problem::Problem;
 use xdg_text::{Word, write_line};
@@ -78,7 +76,7 @@ fn drill_problem<K: Sink>(
         return Status::OutOfMemory;
     };
     let words = problem.parts().words.len();
-    let written = write_counts(number, words, expanded.entries.len(), counts, out);
+    let written = write_counts(number, words, expanded.lexicon.len(), counts, out);
     if written.is_err() {
         return Status::WriteFault;
     }
@@ -87,26 +85,16 @@ fn drill_problem<K: Sink>(
 
 /// Makes the problem of the generated sentence and prints how many analyses it has, or the fault line of what is refused.
 fn drill_expanded<K: Sink>(alloc: Global, number: u64, expanded: &Expanded, out: &mut K) -> Status
-    requires { IsRightLexicon expanded.now.checked.types expanded.now.entries }
+    requires { HasRightLexicon expanded.now }
     ensures leaves { Leaves (DrillSentence number (meaning_of expanded.now)) result (K.held out.old) (K.held out.new) }
     ensures write_fault { result ≡ Status.WriteFault → Rose (K.faults out.old) (K.faults out.new) }
     ensures out_lasting { K.faults out.old ≤ K.faults out.new }
     ensures wrote { Wrote DrillEnds result (K.faults out.old) (K.faults out.new) (K.held out.old) (K.held out.new) }
 {
-    let packed = match pack_entries(alloc, expanded) {
-        Ok(packed) => packed,
-        Err(OutOfMemory) => return Status::OutOfMemory,
-    };
     let Ok(sentence) = sentence_text(alloc, number) else {
         return Status::OutOfMemory;
     };
-    match problem_in(
-        alloc,
-        expanded,
-        &packed,
-        false,
-        sentence.as_str().as_bytes(),
-    ) {
+    match problem_in(alloc, expanded, false, sentence.as_str().as_bytes()) {
         Ok(problem) => drill_problem(alloc, number, expanded, &problem, out),
         Err(refusal) => refuse(refusal, Status::BadSentence, out),
     }

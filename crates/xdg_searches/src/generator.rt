@@ -4,7 +4,7 @@ ghost use Rattle.std.specs.Prelude.{◌≡◌, ◌≤◌, ◌++◌, decimal, len
 ghost use Rattle.xdg_searches.specs.Generated as spec;
 
 use itoa::Buffer;
-use std::alloc::{AllocError, Global};
+use std::alloc::Global;
 use xdg_base::{OutOfMemory, Text};
 
 /// The lines before the entries: the dimensions, and two classes of words, of one sense and of two.
@@ -48,7 +48,7 @@ fn noun(number: u64) -> u64
 }
 
 /// Adds a number between two texts.
-fn push_number(text: &mut Text, before: &str, number: u64, after: &str) -> Result<(), AllocError>
+fn push_number(text: &mut Text, before: &str, number: u64, after: &str) -> Result<(), OutOfMemory>
     ensures { OnOk result (text.new ≡ text.old ++ (before.now ++ (decimal number ++ after.now))) }
 {
     let mut buffer = Buffer::new();
@@ -59,7 +59,7 @@ fn push_number(text: &mut Text, before: &str, number: u64, after: &str) -> Resul
 
 /// Adds each number from 1 up to a count, between two texts.
 #[tactic(auto, using(crate::proofs::Numbering::numbered_more, crate::proofs::Numbering::numbered_none))]
-fn push_numbered(text: &mut Text, before: &str, after: &str, count: u64) -> Result<(), AllocError>
+fn push_numbered(text: &mut Text, before: &str, after: &str, count: u64) -> Result<(), OutOfMemory>
     ensures { OnOk result (text.new ≡ text.old ++ spec.numbered before.now after.now count) }
 {
     for number in 0..count {

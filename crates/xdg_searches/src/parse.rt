@@ -2,10 +2,8 @@
 
 ghost use Rattle.std.specs.Prelude.{◌≡◌, ◌≢◌, ◌≤◌, ◌⊎◌, ℕ, List, [], Option, Some, length};
 ghost use Rattle.xdg_searches.specs.Branched.{CanBranch};
-ghost use Rattle.xdg_packed.specs.Entries.{IsRightLexicon};
-ghost use Rattle.xdg_inputs.specs.Answers.{meaning_of};
-ghost use Rattle.xdg_inputs.specs.Packed.{IsPackedOf};
-ghost use Rattle.xdg_build.specs.Grammars.{grammar_of};
+ghost use Rattle.xdg_inputs.specs.Answers.{grammar_in, meaning_of};
+ghost use Rattle.xdg_inputs.specs.RightLexicons.{HasRightLexicon};
 ghost use Rattle.xdg_inputs.specs.Made.{IsMade};
 ghost use Rattle.xdg_io.specs.Rose.{Rose};
 ghost use Rattle.xdg_inputs.specs.Loaded.{read_of};
@@ -23,11 +21,10 @@ use xdg_base::OutOfMemory;
 use xdg_command::ParseOptions;
 use xdg_formula::Rules;
 use xdg_inputs::{
-    Expanded, Loaded, Status, add_rules, expand_tree, load_rules, load_tree, pack_entries,
-    read_problem, refuse, stopped_in,
+    Expanded, Loaded, Status, add_rules, expand_tree, load_rules, load_tree, read_problem, refuse,
+    stopped_in,
 };
 use xdg_io::{Shelf, Sink, Source};
-use xdg_packed::Packed;
 use xdg_problem::Problem;
 
 /// Prints the analyses of a sentence in which rules are true.
@@ -36,15 +33,13 @@ fn parse_problem<R: Threads + Sync, K: Sink>(
     alloc: Global,
     options: &ParseOptions,
     expanded: &Expanded,
-    packed: &Packed,
     rules: &Rules,
     problem: Problem,
     out: &mut K,
 ) -> Status
-    requires lexicon { IsRightLexicon expanded.now.checked.types expanded.now.entries }
-    requires packed { IsPackedOf expanded.now packed.now }
+    requires lexicon { HasRightLexicon expanded.now }
     requires right { AreRight expanded.now.checked.types rules.now }
-    requires made { IsMade (grammar_of expanded.now.checked packed.now) problem }
+    requires made { IsMade (grammar_in expanded.now) problem }
     requires range { CanBranch options.now.budget options.now.first }
     ensures leaves { Leaves (WithRules (meaning_of expanded.now) rules.now.rules problem (Parsed options.now)) result (K.held out.old) (K.held out.new) }
     ensures write_fault { result ≡ Status.WriteFault → Rose (K.faults out.old) (K.faults out.new) }
@@ -52,7 +47,7 @@ fn parse_problem<R: Threads + Sync, K: Sink>(
     ensures out_quiet { result ≢ Status.WriteFault → K.faults out.new ≡ K.faults out.old }
     ensures ends { (result ≡ Status.Done) ⊎ ((result ≡ Status.Spent) ⊎ ((result ≡ Status.WriteFault) ⊎ (result ≡ Status.OutOfMemory))) }
 {
-    match add_rules(alloc, expanded, packed, rules, problem) {
+    match add_rules(alloc, expanded, rules, problem) {
         Ok(ruled) => search_asked(rt, alloc, options, &ruled, out),
         Err(OutOfMemory) => Status::OutOfMemory,
     }
@@ -68,7 +63,7 @@ fn parse_ruled<R: Threads + Sync, S: Source, K: Sink>(
     input: &mut S,
     out: &mut K,
 ) -> Status
-    requires lexicon { IsRightLexicon expanded.now.checked.types expanded.now.entries }
+    requires lexicon { HasRightLexicon expanded.now }
     requires right { AreRight expanded.now.checked.types rules.now }
     requires range { CanBranch options.now.budget options.now.first }
     ensures leaves { (content : List ℕ) → S.left input.old ≡ Some content
@@ -82,12 +77,8 @@ fn parse_ruled<R: Threads + Sync, S: Source, K: Sink>(
     ensures all_read { (content : List ℕ) → (result ≡ Status.Done) ⊎ (result ≡ Status.Spent) → S.left input.old ≡ Some content → S.left input.new ≡ Some [] }
     ensures command { (result ≡ Status.Usage → ⊥) × ((result ≡ Status.BadText → ⊥) × ((result ≡ Status.BadGrammar → ⊥) × (result ≡ Status.BadRules → ⊥))) }
 {
-    let packed = match pack_entries(alloc, expanded) {
-        Ok(packed) => packed,
-        Err(OutOfMemory) => return Status::OutOfMemory,
-    };
-    match read_problem(alloc, expanded, &packed, options.segment, input) {
-        Ok(problem) => parse_problem(rt, alloc, options, expanded, &packed, rules, problem, out),
+    match read_problem(alloc, expanded, options.segment, input) {
+        Ok(problem) => parse_problem(rt, alloc, options, expanded, rules, problem, out),
         Err(refusal) => refuse(refusal, Status::BadSentence, out),
     }
 }
@@ -102,7 +93,7 @@ fn parse_expanded<R: Threads + Sync, H: Shelf, S: Source, K: Sink>(
     input: &mut S,
     out: &mut K,
 ) -> Status
-    requires lexicon { IsRightLexicon expanded.now.checked.types expanded.now.entries }
+    requires lexicon { HasRightLexicon expanded.now }
     requires range { CanBranch options.now.budget options.now.first }
     ensures leaves { (files : List ℕ → Option (List ℕ)) (content : List ℕ) → H.files shelf.old ≡ Some files → S.left input.old ≡ Some content
         → Leaves (RulesThen files options.now.rules (SentenceThen options.now content) (meaning_of expanded.now)) result (K.held out.old) (K.held out.new) }

@@ -2,10 +2,8 @@
 
 ghost use Rattle.std.specs.Prelude.{◌≡◌, ◌≢◌, ◌≤◌, ◌⊎◌, ℕ, List, Option, Some, length};
 ghost use Rattle.xdg_split.specs.Written.{IsSome};
-ghost use Rattle.xdg_packed.specs.Entries.{IsRightLexicon};
-ghost use Rattle.xdg_inputs.specs.Answers.{meaning_of};
-ghost use Rattle.xdg_inputs.specs.Packed.{IsPackedOf};
-ghost use Rattle.xdg_build.specs.Grammars.{grammar_of};
+ghost use Rattle.xdg_inputs.specs.Answers.{grammar_in, meaning_of};
+ghost use Rattle.xdg_inputs.specs.RightLexicons.{HasRightLexicon};
 ghost use Rattle.xdg_inputs.specs.Judging.{analysed_of};
 ghost use Rattle.xdg_inputs.specs.Made.{IsMade};
 ghost use Rattle.xdg_io.specs.Rose.{Rose};
@@ -24,26 +22,23 @@ use xdg_base::OutOfMemory;
 use xdg_command::ResumeOptions;
 use xdg_formula::Rules;
 use xdg_inputs::{
-    Expanded, Judgeable, Loaded, Status, expand_tree, load_analysis, load_rules, load_tree,
-    pack_entries, refuse, rule_analysis, stopped_in,
+    Expanded, Judgeable, Loaded, Status, expand_tree, load_analysis, load_rules, load_tree, refuse,
+    rule_analysis, stopped_in,
 };
 use xdg_io::{Shelf, Sink};
-use xdg_packed::Packed;
 
 /// Prints the analyses behind one of a problem, those in which rules are true.
 fn resume_found<K: Sink>(
     alloc: Global,
     options: &ResumeOptions,
     expanded: &Expanded,
-    packed: &Packed,
     rules: &Rules,
     found: Judgeable,
     out: &mut K,
 ) -> Status
-    requires lexicon { IsRightLexicon expanded.now.checked.types expanded.now.entries }
-    requires packed { IsPackedOf expanded.now packed.now }
+    requires lexicon { HasRightLexicon expanded.now }
     requires right { AreRight expanded.now.checked.types rules.now }
-    requires made { IsMade (grammar_of expanded.now.checked packed.now) found.problem }
+    requires made { IsMade (grammar_in expanded.now) found.problem }
     requires fits { IsAnalysis found.problem found.analysis }
     requires some { IsSome options.now.first }
     ensures leaves { Leaves (Resumed options.now rules.now (meaning_of expanded.now) (analysed_of found)) result (K.held out.old) (K.held out.new) }
@@ -52,7 +47,7 @@ fn resume_found<K: Sink>(
     ensures out_quiet { result ≢ Status.WriteFault → K.faults out.new ≡ K.faults out.old }
     ensures ends { (result ≡ Status.Done) ⊎ ((result ≡ Status.Spent) ⊎ ((result ≡ Status.WriteFault) ⊎ (result ≡ Status.OutOfMemory))) }
 {
-    match rule_analysis(alloc, expanded, packed, rules, found) {
+    match rule_analysis(alloc, expanded, rules, found) {
         Ok(ruled) => search(
             alloc,
             &ruled.problem,
@@ -75,7 +70,7 @@ fn resume_ruled<H: Shelf, K: Sink>(
     shelf: &mut H,
     out: &mut K,
 ) -> Status
-    requires lexicon { IsRightLexicon expanded.now.checked.types expanded.now.entries }
+    requires lexicon { HasRightLexicon expanded.now }
     requires right { AreRight expanded.now.checked.types rules.now }
     requires some { IsSome options.now.first }
     ensures leaves { (files : List ℕ → Option (List ℕ)) → H.files shelf.old ≡ Some files
@@ -89,12 +84,8 @@ fn resume_ruled<H: Shelf, K: Sink>(
     ensures wrote { Wrote ResumeEnds result (K.faults out.old) (K.faults out.new) (K.held out.old) (K.held out.new) }
     ensures command { result ≡ Status.Usage → ⊥ }
 {
-    let packed = match pack_entries(alloc, expanded) {
-        Ok(packed) => packed,
-        Err(OutOfMemory) => return Status::OutOfMemory,
-    };
-    match load_analysis(alloc, expanded, &packed, shelf, options.analysis.as_str()) {
-        Ok(found) => resume_found(alloc, options, expanded, &packed, rules, found, out),
+    match load_analysis(alloc, expanded, shelf, options.analysis.as_str()) {
+        Ok(found) => resume_found(alloc, options, expanded, rules, found, out),
         Err(refusal) => refuse(refusal, Status::BadAnalysis, out),
     }
 }
@@ -107,7 +98,7 @@ fn resume_expanded<H: Shelf, K: Sink>(
     shelf: &mut H,
     out: &mut K,
 ) -> Status
-    requires lexicon { IsRightLexicon expanded.now.checked.types expanded.now.entries }
+    requires lexicon { HasRightLexicon expanded.now }
     requires some { IsSome options.now.first }
     ensures leaves { (files : List ℕ → Option (List ℕ)) → H.files shelf.old ≡ Some files
         → Leaves (RulesThen files options.now.rules (ResumeThen options.now files) (meaning_of expanded.now)) result (K.held out.old) (K.held out.new) }

@@ -8,7 +8,7 @@ ghost use Rattle.xdg_split.specs.Slots.{IsPlaced};
 use crate::answer::Answer;
 use crate::job::Job;
 use crate::slots::{Placed, answers_of, in_slots};
-use std::alloc::{AllocError, Global};
+use std::alloc::Global;
 use std::sync::atomic::{AtomicUsize, Ordering};
 use std::thread::{Threads, available_parallelism, map_indices};
 use xdg_base::{List, OutOfMemory};
@@ -50,7 +50,10 @@ fn thread_count<R: Threads>(rt: &R, jobs: usize) -> usize {
 }
 
 /// The places of jobs, those of more decisions first, so that no long search begins last.
-fn by_size<P: Propagator>(alloc: Global, jobs: &[Job<P>]) -> Result<Vec<(u64, usize)>, AllocError> {
+fn by_size<P: Propagator>(
+    alloc: Global,
+    jobs: &[Job<P>],
+) -> Result<Vec<(u64, usize)>, OutOfMemory> {
     let mut order = Vec::with_capacity(alloc, jobs.len())?;
     for (place, job) in jobs.iter().enumerate() {
         order.push((u64::MAX - job.decisions(), place))?;

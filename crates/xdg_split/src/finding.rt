@@ -7,7 +7,7 @@ ghost use Rattle.xdg_split.specs.Finds.{AreFound};
 ghost use Rattle.xdg_stream.specs.Streamed.{IsCharged};
 
 use crate::found::Found;
-use std::alloc::{AllocError, Global};
+use std::alloc::Global;
 use xdg_base::{List, OutOfMemory};
 use xdg_facts::Ending;
 use xdg_problem::Analysis;
@@ -19,7 +19,7 @@ use xdg_stream::{Step, Stream};
 pub fn last_analysis<P: Propagator>(
     alloc: Global,
     stream: &Stream<'_, P>,
-) -> Result<Analysis, AllocError>
+) -> Result<Analysis, OutOfMemory>
     ensures { IfOk result (λ made. made ≡ analysis_of stream.now.parts stream.now.last) }
 {
     let entries = List::from_slice(alloc, stream.entries())?;
@@ -37,7 +37,7 @@ fn keep_last<P: Propagator>(
     alloc: Global,
     stream: &Stream<'_, P>,
     found: &mut Vec<Analysis>,
-) -> Result<(), AllocError>
+) -> Result<(), OutOfMemory>
     ensures { OnOk result (found.new.items ≡ found.old.items ++ analysis_of stream.now.parts stream.now.last ∷ []) }
 {
     let analysis = last_analysis(alloc, stream)?;

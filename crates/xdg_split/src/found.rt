@@ -3,7 +3,8 @@
 ghost use Rattle.std.specs.Prelude.{◌≡◌, ◌≢◌, ◌++◌, [], IfOk, IsTrue};
 ghost use Rattle.xdg_split.specs.Finds.{IsCut, Joins};
 
-use std::alloc::{AllocError, Global};
+use std::alloc::Global;
+use xdg_base::OutOfMemory;
 use xdg_facts::Ending;
 use xdg_problem::Analysis;
 
@@ -41,7 +42,7 @@ impl Found {
 
     /// These, and behind them what was found by later searches, in which as many were wanted. Where these didn't end complete, they
     /// are all that there is.
-    pub(crate) fn followed_by(self, later: Found, first: Option<u64>) -> Result<Found, AllocError>
+    pub(crate) fn followed_by(self, later: Found, first: Option<u64>) -> Result<Found, OutOfMemory>
         ensures { IfOk result (λ joined. Joins first self.ending self.found.items later.ending later.found.items joined.ending joined.found.items) }
     {
         match self.ending {
@@ -73,7 +74,7 @@ impl Found {
 }
 
 /// Analyses and those that were found later, with the ending of these.
-fn append(front: Found, later: Found) -> Result<Found, AllocError>
+fn append(front: Found, later: Found) -> Result<Found, OutOfMemory>
     ensures found { IfOk result (λ joined. joined.found.items ≡ front.found.items ++ later.found.items) }
     ensures ending { IfOk result (λ joined. joined.ending ≡ later.ending) }
 {

@@ -16,5 +16,5 @@ pub use answering::answers;
 pub use finding::last_analysis;
 pub use found::Found;
 pub use job::Job;
-pub use printing::{Printed, print_analyses};
+pub use printing::{Printed, print_analyses, write_last};
 pub use splitting::{SplitAnswer, split, split_laws};

@@ -117,8 +117,12 @@ fn print_last<K: Sink>(ending: Ending, count: u64, sink: &mut K) -> Printed
     }
 }
 
-/// Writes the last line behind so many analyses.
-fn write_last<K: Sink>(ending: Ending, count: u64, sink: &mut K) -> Result<(), Failed>
+/// Writes the last line of a search behind so many analyses: `complete`, `first` or `spent`, and the number.
+///
+/// # Errors
+///
+/// The sink failed, and a front of the line was written.
+pub fn write_last<K: Sink>(ending: Ending, count: u64, sink: &mut K) -> Result<(), Failed>
     ensures { WritesText result (K.held sink.old) (K.held sink.new) (K.faults sink.old) (K.faults sink.new) (last_line ending count) }
 {
     match ending {

@@ -8,7 +8,7 @@ ghost use Rattle.xdg_split.specs.Slots.{Fits, IsPlaced};
 
 use crate::answer::Answer;
 use crate::job::Job;
-use std::alloc::{AllocError, Global};
+use std::alloc::Global;
 use std::mem;
 use xdg_base::{List, OutOfMemory};
 use xdg_propcore::Propagator;
@@ -21,7 +21,7 @@ pub(crate) struct Placed {
 }
 
 /// Slots for so many answers, none of which is known.
-fn empty_slots(alloc: Global, count: usize) -> Result<Vec<Option<Answer>>, AllocError>
+fn empty_slots(alloc: Global, count: usize) -> Result<Vec<Option<Answer>>, OutOfMemory>
     ensures { IfOk result (λ slots. slots.items ≡ replicate count None) }
 {
     let mut slots = Vec::with_capacity(alloc, count)?;

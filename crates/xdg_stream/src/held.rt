@@ -7,9 +7,9 @@ ghost use Rattle.xdg_problem.specs.Places.{places};
 ghost use Rattle.xdg_problem.specs.Problems.{IsProblem};
 ghost use Rattle.xdg_problem.specs.Vectors.{analysis_of, chosen, entries_at, shape};
 
-use std::alloc::{AllocError, Global};
+use std::alloc::Global;
 use std::marker::Model;
-use xdg_base::{EntryNo, List};
+use xdg_base::{EntryNo, List, OutOfMemory};
 use xdg_problem::{Edge, Problem, SharedList};
 
 /// A vector of decisions, whole or not, with the entries and edges that it stands for. All memory is taken at the start.
@@ -125,7 +125,7 @@ impl<'a> Held<'a> {
         alloc: Global,
         problem: &'a Problem,
         edge_places: &[Edge],
-    ) -> Result<Held<'a>, AllocError>
+    ) -> Result<Held<'a>, OutOfMemory>
         requires { edge_places.now ≡ places problem.now }
         ensures empty { IfOk result (λ held. (held.parts ≡ problem.entry.now) × (held.numbers ≡ [])) }
         ensures problem { IsProblem problem.entry.now }

@@ -8,7 +8,8 @@ ghost use Rattle.xdg_stream.specs.Outcomes.{IsOutcome};
 ghost use Rattle.xdg_stream.specs.Vectors.{vectors};
 
 use crate::{Front, Search, Step};
-use std::alloc::{AllocError, Global};
+use std::alloc::Global;
+use xdg_base::OutOfMemory;
 use xdg_facts::Ending;
 
 /// What a run answered.
@@ -25,14 +26,14 @@ pub struct Outcome {
 /// # Errors
 ///
 /// Fails where memory runs out.
-pub fn numbers_of<F: Front>(alloc: Global, front: &F) -> Result<Vec<u16>, AllocError>
+pub fn numbers_of<F: Front>(alloc: Global, front: &F) -> Result<Vec<u16>, OutOfMemory>
     ensures { IfOk result (λ numbers. numbers.items ≡ F.numbers front.now) }
 {
     Vec::from_slice(alloc, front.prefix())
 }
 
 /// Numbers in a vector that has room for more.
-fn with_room(alloc: Global, room: usize, numbers: &[u16]) -> Result<Vec<u16>, AllocError>
+fn with_room(alloc: Global, room: usize, numbers: &[u16]) -> Result<Vec<u16>, OutOfMemory>
     requires { length numbers.now ≤ room }
     ensures items { IfOk result (λ made. made.items ≡ numbers.now) }
     ensures room { IfOk result (λ made. room ≤ vec_capacity made) }
@@ -55,7 +56,7 @@ pub fn collect<F: Front + Drop>(
     budget: u64,
     after: &[u16],
     wanted: Option<usize>,
-) -> Result<Outcome, AllocError>
+) -> Result<Outcome, OutOfMemory>
     requires empty { F.numbers front ≡ [] }
     requires fits { Fits (F.shape front) after.now }
     ensures { IfOk result (λ outcome. Answered outcome.ending (F.shape front) (F.counted front) after.now budget wanted (vectors outcome.answers.items)) }
@@ -101,7 +102,7 @@ pub fn solve<F: Front + Drop>(
     budget: u64,
     after: &[u16],
     wanted: Option<usize>,
-) -> Result<Outcome, AllocError>
+) -> Result<Outcome, OutOfMemory>
     requires empty { F.numbers front ≡ [] }
     requires fits { Fits (F.shape front) after.now }
     ensures { IfOk result (λ outcome. IsOutcome (F.shape front) (F.counted front) after.now budget wanted outcome.ending (vectors outcome.answers.items)) }

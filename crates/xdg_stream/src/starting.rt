@@ -10,8 +10,8 @@ ghost use Rattle.xdg_problem.specs.Vectors.{entry_places, place_among, vector};
 ghost use Rattle.xdg_stream.specs.Streamed.{IsStart, start_vector};
 ghost use Rattle.xdg_stream.specs.Vectored.{marks, stands_first};
 
-use std::alloc::{AllocError, Global};
-use xdg_base::{EntryNo, List};
+use std::alloc::Global;
+use xdg_base::{EntryNo, List, OutOfMemory};
 use xdg_problem::{Analysis, Edge, Problem, SharedList};
 
 /// The place of an entry among the candidates of its node.
@@ -90,7 +90,7 @@ fn vector_of(
     problem: &Problem,
     edge_places: &[Edge],
     analysis: &Analysis,
-) -> Result<Vec<u16>, AllocError>
+) -> Result<Vec<u16>, OutOfMemory>
     requires listed { edge_places.now ≡ places problem.now }
     requires fits { IsAnalysis problem.now analysis.now }
     ensures { IfOk result (λ numbers. numbers.items ≡ vector problem.now analysis.now) }
@@ -113,7 +113,7 @@ pub(crate) fn start_of(
     problem: &Problem,
     edge_places: &[Edge],
     after: Option<&Analysis>,
-) -> Result<Vec<u16>, AllocError>
+) -> Result<Vec<u16>, OutOfMemory>
     requires listed { edge_places.now ≡ places problem.now }
     requires fits { IsStart problem.now (option_copied after) }
     ensures { IfOk result (λ numbers. numbers.items ≡ start_vector problem.now (option_copied after.entry)) }

@@ -6,6 +6,7 @@ use Rattle.std.proofs.lemmas.Bool.{ltb-true, lt-ltb, or_cases, or_left, or_right
 use Rattle.std.proofs.lemmas.List.{append-nil}
 use Rattle.std.proofs.lemmas.List.Folds.{flat_map-map}
 use Rattle.std.proofs.lemmas.Grind.{flat_map-append}
+use Rattle.xdg_base.specs.Faults.{fault_at}
 use Rattle.xdg_base.specs.declared.faults.Cause.{Cause}
 use Rattle.xdg_base.specs.declared.faults.Cause.TheVariants as causes
 use Rattle.xdg_base.specs.declared.faults.Fault.{Fault}
@@ -23,7 +24,7 @@ use Rattle.xdg_domain.specs.Shapes.{Shape, domain, tuple, truth, integer, text, 
 use Rattle.xdg_names.specs.First.{Tells, first}
 use Rattle.xdg_names.proofs.First.{tells_as, first-tells}
 use Rattle.xdg_terms.specs.Forms.{Term, Card, Look, all_of, bracketed_elem, braces_in, generator_in, constant_of, number_of, card_of, generator_of, bracket_of, constants_of, brackets_of, counts_of, pairs_of}
-use Rattle.xdg_terms.specs.Offences.{fault_at, has_form, has_set_form, asked_in_set, is_some, one_told, all_told, Asked, asked_in, asked_in_turn, asked, keys, field_keys, known_fields, cards, keys_of, gen_names, IsWrongKind, IsNotMember, IsTwice, IsUnknownField, IsOutOfRange, CardOffends, OffendsHere, OfSeen, OffendsIn, OffendsUnder, OffendsBy}
+use Rattle.xdg_terms.specs.Offences.{has_form, has_set_form, asked_in_set, is_some, one_told, all_told, Asked, asked_in, asked_in_turn, asked, keys, field_keys, known_fields, cards, keys_of, gen_names, IsWrongKind, IsNotMember, IsTwice, IsUnknownField, IsOutOfRange, CardOffends, OffendsHere, OfSeen, OffendsIn, OffendsUnder, OffendsBy}
 use Rattle.xdg_terms.specs.Faults as spec
 use Rattle.xdg_terms.proofs.Right.{HoldsNone}
 use Rattle.xdg_names.specs.Texts.{has_text}

@@ -3,6 +3,7 @@ use Rattle.std.proofs.Common.{◌≡◌, inl, inr, ℕ, ◌<◌, ◌+◌, List, 
 use Rattle.std.specs.Prelude.{Bool, true, false, nat_lt, nat_le, ◌&&◌, ◌==◌, if◌then◌else◌, bytes_eq}
 use Rattle.std.specs.List.{list_any}
 use Rattle.std.proofs.lemmas.Bool.{true≢false, false≢true, or_left, eq-eqb, cases_lt, lt-ltb, le-ltb, le-leb}
+use Rattle.xdg_base.specs.Faults.{fault_at}
 use Rattle.xdg_base.specs.declared.faults.Cause.TheVariants as causes
 use Rattle.xdg_base.specs.declared.faults.Fault.{Fault}
 use Rattle.xdg_ast.specs.declared.names.Name.{Name}
@@ -11,7 +12,7 @@ use Rattle.xdg_ast.specs.declared.terms.CardKind.TheVariants as c
 use Rattle.xdg_domain.specs.Cards.{cards, IsCards}
 use Rattle.xdg_domain.specs.Shapes.{Shape, mapping, fields}
 use Rattle.xdg_terms.specs.Forms.{Term, Card}
-use Rattle.xdg_terms.specs.Offences.{fault_at, has_form, is_some, asked, CardOffends, OffendsHere}
+use Rattle.xdg_terms.specs.Offences.{has_form, is_some, asked, CardOffends, OffendsHere}
 use Rattle.xdg_terms.specs.Offences as o
 use Rattle.xdg_terms.specs.Means.{allows, AllowedBy}
 use Rattle.xdg_terms.specs.Built.{place_from, card_numbers, some_or_all}

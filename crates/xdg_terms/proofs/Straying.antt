@@ -6,6 +6,7 @@ use Rattle.std.proofs.lemmas.Bool.{true≢false, or_cases, or_left, or_right, fa
 use Rattle.std.proofs.lemmas.List.{at_drop_all}
 use Rattle.std.proofs.lemmas.Grind.{flat_map-append}
 use Rattle.std.proofs.lemmas.List.Folds.{flat_map-map}
+use Rattle.xdg_base.specs.Faults.{fault_at}
 use Rattle.xdg_base.specs.declared.faults.Cause.TheVariants as causes
 use Rattle.xdg_base.specs.declared.faults.Fault.{Fault}
 use Rattle.xdg_ast.specs.Grammar.{is_among}
@@ -20,7 +21,6 @@ use Rattle.xdg_ast.specs.declared.terms.ElemKind.TheFolds.{fold-roll-ElemKind, f
 use Rattle.xdg_names.specs.First.{Tells, first, earlier}
 use Rattle.xdg_names.proofs.First.{tells_as, first-tells, first_turn, earlier-none}
 use Rattle.xdg_terms.specs.Forms.{Term}
-use Rattle.xdg_terms.specs.Offences.{fault_at}
 use Rattle.xdg_terms.specs.Stray.{term_step, elem_step, tokens, elem_tokens, IsStrayParam, stray, all_stray}
 use Rattle.xdg_facts.proofs.Texts.{same_text, is_same}
 use Rattle.xdg_facts.specs.Membership.{In}

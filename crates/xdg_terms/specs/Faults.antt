@@ -1,6 +1,7 @@
 -- The offences of a term as a list, in the order in which they are looked for.
 use Rattle.std.specs.Prelude.{ℕ, ◌||◌, nat_lt, List, [], ◌∷◌, ◌++◌, length, map, Option, Some, None, if◌then◌else◌, bytes_eq, codes}
 use Rattle.std.specs.List.{flat_map}
+use Rattle.xdg_base.specs.Faults.{fault_at}
 use Rattle.xdg_base.specs.declared.faults.Cause.{Cause}
 use Rattle.xdg_base.specs.declared.faults.Cause.TheVariants as causes
 use Rattle.xdg_base.specs.declared.faults.Fault.{Fault}
@@ -18,7 +19,7 @@ use Rattle.xdg_domain.specs.Shapes as d
 use Rattle.xdg_domain.specs.Shapes.{Shape, domain, tuple, truth, integer, text, set, iset, card, valency, mapping, fields, Shapes, Fields, no_field, field_then}
 use Rattle.xdg_domain.specs.Shapes.{sizes, in_a_row, names_of, fields_of, shape}
 use Rattle.xdg_terms.specs.Forms.{Term, Card, Look, constant_of, number_of, card_of, generator_of, bracket_of, constants_of, brackets_of, counts_of, pairs_of}
-use Rattle.xdg_terms.specs.Offences.{fault_at, gen_names}
+use Rattle.xdg_terms.specs.Offences.{gen_names}
 use Rattle.xdg_names.specs.Texts.{has_text}
 
 -- ---- single rules

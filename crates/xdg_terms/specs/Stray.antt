@@ -1,5 +1,6 @@
 -- Parameters where no class has them.
 use Rattle.std.specs.Prelude.{◌≡◌, ℕ, List, [], ◌∷◌, flat_map, if◌then◌else◌}
+use Rattle.xdg_base.specs.Faults.{fault_at}
 use Rattle.xdg_base.specs.declared.faults.Cause.TheVariants as causes
 use Rattle.xdg_base.specs.declared.faults.Fault.{Fault}
 use Rattle.xdg_ast.specs.Grammar.{is_among}
@@ -9,7 +10,6 @@ use Rattle.xdg_ast.specs.declared.terms.ElemKind.{ElemKind}
 use Rattle.xdg_ast.specs.declared.terms.ElemKind.TheOpen.{TermKind-F, ElemKind-F}
 use Rattle.xdg_ast.specs.declared.terms.ElemKind.TheFolds.{fold-TermKind, fold-ElemKind}
 use Rattle.xdg_terms.specs.Forms.{Term}
-use Rattle.xdg_terms.specs.Offences.{fault_at}
 use Rattle.xdg_facts.specs.Membership.{In}
 
 -- ---- all parameters in a term

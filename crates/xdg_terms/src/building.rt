@@ -10,13 +10,12 @@ ghost use Rattle.xdg_terms.specs.Means.{Means};
 ghost use Rattle.xdg_terms.specs.Built as spec;
 
 use crate::forms::{Bindings, bound};
-use crate::members::constants;
 use crate::parts::{elems, term_for};
 use crate::plain::{card, member, number, text, truth, tuple, valency};
 use crate::set_values::set;
-use std::alloc::{AllocError, Global};
+use std::alloc::Global;
 use xdg_ast::{Elem, Term};
-use xdg_base::{List, Text};
+use xdg_base::{List, OutOfMemory, Text};
 use xdg_domain::{Fields, Ty, Value, ValueMap};
 
 /// The value of a term that has no offence.
@@ -25,7 +24,7 @@ pub(crate) fn build(
     ty: &Ty,
     term: &Term,
     bindings: &Bindings,
-) -> Result<Value, AllocError>
+) -> Result<Value, OutOfMemory>
     requires is_type { IsType (shape ty.now) }
     requires right { IsRight bindings.now (shape ty.now) term.now }
     ensures means { IfOk result (λ value. Means bindings.now (shape ty.now) term.now value) }
@@ -36,7 +35,7 @@ pub(crate) fn build(
 
 /// The value of a term, and some value where it has an offence.
 #[cycle(build)]
-fn value_of(alloc: Global, ty: &Ty, term: &Term, bindings: &Bindings) -> Result<Value, AllocError>
+fn value_of(alloc: Global, ty: &Ty, term: &Term, bindings: &Bindings) -> Result<Value, OutOfMemory>
     requires { IsType (shape ty.now) }
     ensures value { IfOk result (λ value. value ≡ spec.built bindings.now (shape ty.now) term.now) }
     ensures fits { IfOk result (λ value. Fits (shape ty.now) value) }
@@ -51,10 +50,10 @@ fn value_of(alloc: Global, ty: &Ty, term: &Term, bindings: &Bindings) -> Result<
         Ty::Set(of) => Ok(Value::Set(set(alloc, of.get(), term)?)),
         Ty::ISet(of) => Ok(Value::Set(set(alloc, of.get(), term)?)),
         Ty::Card => Ok(Value::Card(card(term))),
-        Ty::Valency(key) => Ok(Value::Valency(valency(alloc, constants(key.get()), elems(term))?)),
+        Ty::Valency(key) => Ok(Value::Valency(valency(alloc, key.get().constants(), elems(term))?)),
         Ty::Map(key, of) => Ok(Value::Map(by_key(
             alloc,
-            constants(key.get()),
+            key.get().constants(),
             of.get(),
             elems(term),
             bindings,
@@ -76,7 +75,7 @@ fn by_key(
     of: &Ty,
     elems: &[Elem],
     bindings: &Bindings,
-) -> Result<ValueMap, AllocError>
+) -> Result<ValueMap, OutOfMemory>
     requires few { length constants.now ≤ 64 }
     requires is_type { IsType (shape of.now) }
     ensures { IfOk result
@@ -99,7 +98,7 @@ fn by_field(
     fields: &[(Text, Ty)],
     elems: &[Elem],
     bindings: &Bindings,
-) -> Result<Fields, AllocError>
+) -> Result<Fields, OutOfMemory>
     requires { AreTypes (spec.fields_in fields.now) }
     ensures value { IfOk result (λ made. made ≡ spec.fields_from bindings.now (spec.fields_in fields.now) elems.now 0) }
     ensures fits { IfOk result (λ made. EachSaid (FitsField (spec.fields_in fields.now)) made) }
@@ -110,7 +109,7 @@ fn by_field(
             None => continue,
             Some(term) => {
                 let Ok(key) = u32::try_from(place) else {
-                    return Err(AllocError);
+                    return Err(OutOfMemory);
                 };
                 made.push((key, value_of(alloc, &field.1, term, bindings)?))?;
             }

@@ -5,7 +5,6 @@ ghost use Rattle.std.specs.List.{flat_map};
 ghost use Rattle.xdg_names.specs.First.{first};
 ghost use Rattle.xdg_terms.specs.Faults as spec;
 
-use crate::faults::fault_at;
 use xdg_ast::{CardKind, CardTerm, Num};
 use xdg_base::{Cause, Fault};
 use xdg_names::earlier;
@@ -19,7 +18,7 @@ fn check_number(number: &Num) -> Option<Fault>
     ensures { result ≡ first (spec.too_big number.now) }
 {
     if number.value > GREATEST {
-        Some(fault_at(Cause::CardRange, number.span.start))
+        Some(Fault::at(Cause::CardRange, number.span.start))
     } else {
         None
     }
@@ -31,7 +30,7 @@ fn check_end(low: &Num, high: &Num) -> Option<Fault>
     ensures { result ≡ first (spec.wrong_end low.now high.now) }
 {
     if high.value > GREATEST || high.value < low.value {
-        Some(fault_at(Cause::CardRange, high.span.start))
+        Some(Fault::at(Cause::CardRange, high.span.start))
     } else {
         None
     }
@@ -56,7 +55,7 @@ pub(crate) fn check_card(card: &CardTerm) -> Option<Fault>
     match &card.kind {
         CardKind::Numbers(numbers) => {
             if numbers.is_empty() {
-                return Some(fault_at(Cause::CardRange, card.span.start));
+                return Some(Fault::at(Cause::CardRange, card.span.start));
             }
             check_numbers(numbers.as_slice())
         }

@@ -12,8 +12,7 @@ ghost use Rattle.xdg_terms.specs.Readings.{look_of};
 use crate::forms::{Bindings, Reading, each_keyed, seen};
 use crate::keys::{check_fields, check_keys, check_valency};
 use crate::members::{
-    check_cardinality, check_domain, check_number, check_text, check_truth, check_tuple, constants,
-    wrong_kind,
+    check_cardinality, check_domain, check_number, check_text, check_truth, check_tuple, wrong_kind,
 };
 use crate::sets::check_set;
 use xdg_ast::{Elem, ElemKind, Name, Params, Term, TermKind};
@@ -71,8 +70,8 @@ fn check_seen<'a>(ty: &Ty, term: &'a Term, reading: &Reading<'a>) -> Option<Faul
         Ty::Set(of) => check_set(of.get(), term),
         Ty::ISet(of) => check_set(of.get(), term),
         Ty::Card => check_cardinality(term),
-        Ty::Valency(key) => check_valency(constants(key.get()), term),
-        Ty::Map(key, value) => check_map(value.get(), constants(key.get()), term, reading),
+        Ty::Valency(key) => check_valency(key.get().constants(), term),
+        Ty::Map(key, value) => check_map(value.get(), key.get().constants(), term, reading),
         Ty::Rec(fields) => check_record(fields.as_slice(), term, reading),
     }
 }

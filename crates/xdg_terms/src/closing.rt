@@ -8,9 +8,9 @@ ghost use Rattle.xdg_terms.specs.Closed as spec;
 
 use crate::copying::{copy_elem, copy_name, copy_term};
 use crate::forms::{Bindings, bound};
-use std::alloc::{AllocError, Global};
+use std::alloc::Global;
 use xdg_ast::{Elem, ElemKind, Pair, Term, TermKind};
-use xdg_base::{Boxed, List};
+use xdg_base::{Boxed, List, OutOfMemory};
 
 /// The term with each bound parameter replaced by a copy of what it is bound to, wherever it stands: for the whole term,
 /// or behind a key in braces. A parameter that is not bound stays, and all places stay; a fault in what stands for a
@@ -20,7 +20,7 @@ use xdg_base::{Boxed, List};
 /// them is bound to a term without parameters that is right at each place where it stands
 /// ([`params_in`](crate::params_in)), nothing is wrong with the term under the bindings ([`value`](crate::value)), nor
 /// with the one that this gives, in which no parameter is open.
-pub fn close(alloc: Global, term: &Term, bindings: &Bindings) -> Result<Term, AllocError>
+pub fn close(alloc: Global, term: &Term, bindings: &Bindings) -> Result<Term, OutOfMemory>
     ensures closed { IfOk result (λ made. made ≡ spec.closed bindings.now term.now) }
     ensures right { (free : List (List ℕ)) (s : Shape) → IsOpenRight free s term.now → AreBoundRight free bindings.now s term.now
         → IsRight bindings.now s term.now × IsOpenRight [] s (spec.closed bindings.now term.now) }
@@ -30,7 +30,7 @@ pub fn close(alloc: Global, term: &Term, bindings: &Bindings) -> Result<Term, Al
 
 #[cycle(close)]
 #[tactic(auto, using(crate::proofs::Replacing::closing_is))]
-fn close_term(alloc: Global, term: &Term, bindings: &[Pair<Term>]) -> Result<Term, AllocError>
+fn close_term(alloc: Global, term: &Term, bindings: &[Pair<Term>]) -> Result<Term, OutOfMemory>
     ensures { IfOk result (λ made. made ≡ spec.closed bindings.now term.now) }
 {
     close_layer(alloc, term, bindings)
@@ -38,7 +38,7 @@ fn close_term(alloc: Global, term: &Term, bindings: &[Pair<Term>]) -> Result<Ter
 
 #[cycle(close)]
 #[tactic(auto, unfolding(crate::specs::Closed::closing, crate::specs::Forms::bound))]
-fn close_layer(alloc: Global, term: &Term, bindings: &[Pair<Term>]) -> Result<Term, AllocError>
+fn close_layer(alloc: Global, term: &Term, bindings: &[Pair<Term>]) -> Result<Term, OutOfMemory>
     ensures { IfOk result (λ made. made ≡ spec.closing bindings.now term.now) }
 {
     match &term.kind {
@@ -62,7 +62,7 @@ fn close_elems(
     elems: &[Elem],
     bindings: &[Pair<Term>],
     made: &mut List<Elem>,
-) -> Result<(), AllocError>
+) -> Result<(), OutOfMemory>
     ensures { OnOk result (made.new ≡ made.old ++ map (spec.closing_elem bindings.now) elems.now) }
 {
     for elem in elems {
@@ -80,7 +80,7 @@ fn close_elem(
     alloc: Global,
     kind: &ElemKind,
     bindings: &[Pair<Term>],
-) -> Result<ElemKind, AllocError>
+) -> Result<ElemKind, OutOfMemory>
     ensures { IfOk result (λ made. made ≡ spec.closing_kind bindings.now kind.now) }
 {
     match kind {

@@ -2,12 +2,12 @@
 
 ghost use Rattle.std.specs.Prelude.{◌≡◌, ◌++◌, IfOk, OnOk};
 
-use std::alloc::{AllocError, Global};
+use std::alloc::Global;
 use xdg_ast::{CardKind, CardTerm, Elem, ElemKind, Gen, GenKind, Name, Term, TermKind};
-use xdg_base::{Boxed, List};
+use xdg_base::{Boxed, List, OutOfMemory};
 
 /// A copy of a name, with its place.
-pub fn copy_name(alloc: Global, name: &Name) -> Result<Name, AllocError>
+pub fn copy_name(alloc: Global, name: &Name) -> Result<Name, OutOfMemory>
     ensures { IfOk result (λ made. made ≡ name.now) }
 {
     Ok(Name {
@@ -17,7 +17,7 @@ pub fn copy_name(alloc: Global, name: &Name) -> Result<Name, AllocError>
 }
 
 /// Adds copies of names.
-fn add_names(alloc: Global, names: &[Name], made: &mut List<Name>) -> Result<(), AllocError>
+fn add_names(alloc: Global, names: &[Name], made: &mut List<Name>) -> Result<(), OutOfMemory>
     ensures { OnOk result (made.new ≡ made.old ++ names.now) }
 {
     for name in names {
@@ -27,7 +27,7 @@ fn add_names(alloc: Global, names: &[Name], made: &mut List<Name>) -> Result<(),
 }
 
 /// A copy of names.
-fn copy_names(alloc: Global, names: &[Name]) -> Result<List<Name>, AllocError>
+fn copy_names(alloc: Global, names: &[Name]) -> Result<List<Name>, OutOfMemory>
     ensures { IfOk result (λ made. made ≡ names.now) }
 {
     let mut made = List::new(alloc);
@@ -36,7 +36,7 @@ fn copy_names(alloc: Global, names: &[Name]) -> Result<List<Name>, AllocError>
 }
 
 /// A copy of a cardinality.
-fn copy_card(alloc: Global, card: &CardTerm) -> Result<CardTerm, AllocError>
+fn copy_card(alloc: Global, card: &CardTerm) -> Result<CardTerm, OutOfMemory>
     ensures { IfOk result (λ made. made ≡ card.now) }
 {
     let kind = match &card.kind {
@@ -57,7 +57,7 @@ fn copy_card(alloc: Global, card: &CardTerm) -> Result<CardTerm, AllocError>
 
 /// A copy of a generator.
 #[cycle(copy_generator)]
-fn copy_generator(alloc: Global, kind: &GenKind) -> Result<GenKind, AllocError>
+fn copy_generator(alloc: Global, kind: &GenKind) -> Result<GenKind, OutOfMemory>
     ensures { IfOk result (λ made. made ≡ kind.now) }
 {
     match kind {
@@ -77,7 +77,7 @@ fn copy_generator(alloc: Global, kind: &GenKind) -> Result<GenKind, AllocError>
 
 /// Adds copies of generators.
 #[cycle(copy_generator)]
-fn add_generators(alloc: Global, members: &[Gen], made: &mut List<Gen>) -> Result<(), AllocError>
+fn add_generators(alloc: Global, members: &[Gen], made: &mut List<Gen>) -> Result<(), OutOfMemory>
     ensures { OnOk result (made.new ≡ made.old ++ members.now) }
 {
     for member in members {
@@ -91,7 +91,7 @@ fn add_generators(alloc: Global, members: &[Gen], made: &mut List<Gen>) -> Resul
 
 /// A copy of a term.
 #[cycle(copy_term)]
-pub fn copy_term(alloc: Global, term: &Term) -> Result<Term, AllocError>
+pub fn copy_term(alloc: Global, term: &Term) -> Result<Term, OutOfMemory>
     ensures { IfOk result (λ made. made ≡ term.now) }
 {
     Ok(Term {
@@ -101,7 +101,7 @@ pub fn copy_term(alloc: Global, term: &Term) -> Result<Term, AllocError>
 }
 
 #[cycle(copy_term)]
-fn copy_kind(alloc: Global, kind: &TermKind) -> Result<TermKind, AllocError>
+fn copy_kind(alloc: Global, kind: &TermKind) -> Result<TermKind, OutOfMemory>
     ensures { IfOk result (λ made. made ≡ kind.now) }
 {
     match kind {
@@ -124,7 +124,7 @@ fn copy_kind(alloc: Global, kind: &TermKind) -> Result<TermKind, AllocError>
 
 /// Adds copies of elements.
 #[cycle(copy_term)]
-fn add_elems(alloc: Global, elems: &[Elem], made: &mut List<Elem>) -> Result<(), AllocError>
+fn add_elems(alloc: Global, elems: &[Elem], made: &mut List<Elem>) -> Result<(), OutOfMemory>
     ensures { OnOk result (made.new ≡ made.old ++ elems.now) }
 {
     for elem in elems {
@@ -138,7 +138,7 @@ fn add_elems(alloc: Global, elems: &[Elem], made: &mut List<Elem>) -> Result<(),
 
 /// A copy of an element.
 #[cycle(copy_term)]
-pub(crate) fn copy_elem(alloc: Global, kind: &ElemKind) -> Result<ElemKind, AllocError>
+pub(crate) fn copy_elem(alloc: Global, kind: &ElemKind) -> Result<ElemKind, OutOfMemory>
     ensures { IfOk result (λ made. made ≡ kind.now) }
 {
     match kind {

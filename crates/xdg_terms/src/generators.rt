@@ -8,14 +8,14 @@ ghost use Rattle.xdg_domain.specs.Tuples.{InRange};
 ghost use Rattle.xdg_terms.specs.Built as spec;
 ghost use Rattle.xdg_terms.specs.Means.{chosen, fulfils};
 
-use crate::members::constants;
 use crate::parts::fields;
-use std::alloc::{AllocError, Global};
+use std::alloc::Global;
 use xdg_ast::{Gen, GenKind};
+use xdg_base::OutOfMemory;
 use xdg_domain::{SetOf, Tuple, Ty, count, tuple_of};
 
 /// The tuples of the type that have what the generator asks for.
-pub(crate) fn generated(alloc: Global, ty: &Ty, generator: &Gen) -> Result<SetOf, AllocError>
+pub(crate) fn generated(alloc: Global, ty: &Ty, generator: &Gen) -> Result<SetOf, OutOfMemory>
     requires { IsTupleType (shape ty.now) }
     ensures { IfOk result (λ made. made ≡ spec.generated (shape ty.now) generator.now) }
 {
@@ -77,7 +77,7 @@ fn has_constant(fields: &[Ty], tuple: &Tuple<'_>, name: &str) -> bool
     ensures { result ≡ list_any (λ constant. bytes_eq constant name.now) (chosen (spec.constants_each fields.now) tuple.now) }
 {
     for (i, field) in fields.iter().enumerate() {
-        let constants = constants(field);
+        let constants = field.constants();
         if constants[tuple.at(i) as usize].as_str() == name {
             return true;
         }

@@ -9,7 +9,6 @@ ghost use Rattle.xdg_terms.specs.Faults as spec;
 ghost use Rattle.xdg_names.specs.Texts.{has_text};
 
 use crate::cards::check_card;
-use crate::faults::fault_at;
 use crate::forms::each_counted;
 use crate::members::{check_constant, wrong_kind};
 use xdg_ast::{Elem, ElemKind, Name, Term, TermKind};
@@ -47,7 +46,7 @@ fn check_again(before: &[Elem], name: &Name) -> Option<Fault>
     ensures { result ≡ first (spec.twice (spec.keys before.now) name.now) }
 {
     if is_key(before, name.text.as_str()) {
-        Some(fault_at(Cause::Twice, name.span.start))
+        Some(Fault::at(Cause::Twice, name.span.start))
     } else {
         None
     }
@@ -127,7 +126,7 @@ fn check_field(fields: &[(Text, Ty)], name: &Name) -> Option<Fault>
     if has_field(fields, name.text.as_str()) {
         None
     } else {
-        Some(fault_at(Cause::UnknownName, name.span.start))
+        Some(Fault::at(Cause::UnknownName, name.span.start))
     }
 }
 

@@ -9,39 +9,16 @@ ghost use Rattle.xdg_terms.specs.Faults as spec;
 ghost use Rattle.xdg_names.specs.Texts.{has_text};
 
 use crate::cards::check_card;
-use crate::faults::fault_at;
 use xdg_ast::{Name, Term, TermKind};
 use xdg_base::{Cause, Fault, Text};
 use xdg_domain::Ty;
-use xdg_names::earlier;
-
-/// The constants of a domain.
-pub(crate) fn constants(ty: &Ty) -> &[Text]
-    ensures { result.now ≡ shapes.constants (shape ty.now) }
-{
-    match ty {
-        Ty::Domain(constants) => constants.as_slice(),
-        _ => &[],
-    }
-}
-
-/// Whether a text stands in the list.
-pub(crate) fn has(texts: &[Text], text: &str) -> bool
-    ensures { result ≡ has_text texts.now text.now }
-{
-    for other in texts {
-        if other.as_str() == text {
-            return true;
-        }
-    }
-    false
-}
+use xdg_names::{earlier, has_text};
 
 /// The fault of a term that has not the wanted form.
 pub(crate) fn wrong_kind(term: &Term) -> Option<Fault>
     ensures { result ≡ first (spec.wrong_kind term.now) }
 {
-    Some(fault_at(Cause::WrongKind, term.span.start))
+    Some(Fault::at(Cause::WrongKind, term.span.start))
 }
 
 /// A constant that is not one of the domain's.
@@ -49,10 +26,10 @@ pub(crate) fn wrong_kind(term: &Term) -> Option<Fault>
 pub(crate) fn check_constant(texts: &[Text], name: &Name) -> Option<Fault>
     ensures { result ≡ first (spec.missing causes.NotMember texts.now name.now) }
 {
-    if has(texts, name.text.as_str()) {
+    if has_text(texts, name.text.as_str()) {
         None
     } else {
-        Some(fault_at(Cause::NotMember, name.span.start))
+        Some(Fault::at(Cause::NotMember, name.span.start))
     }
 }
 
@@ -75,7 +52,7 @@ fn check_bool(name: &Name) -> Option<Fault>
     if name.text.as_str() == "true" || name.text.as_str() == "false" {
         None
     } else {
-        Some(fault_at(Cause::NotMember, name.span.start))
+        Some(Fault::at(Cause::NotMember, name.span.start))
     }
 }
 
@@ -133,7 +110,7 @@ pub(crate) fn check_in_turn(types: &[Ty], names: &[Name]) -> Option<Fault>
         match left.split_first() {
             None => return found,
             Some((ty, rest)) => {
-                found = earlier(found, check_constant(constants(ty), name));
+                found = earlier(found, check_constant(ty.constants(), name));
                 left = rest;
             }
         }

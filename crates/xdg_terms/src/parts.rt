@@ -35,9 +35,9 @@ pub(crate) fn place_of(constants: &[Text], name: &str) -> Option<u8>
     None
 }
 
-/// The constant that the term is.
+/// The constant that a term is, if it is one.
 #[tactic(auto, unfolding(crate::specs::Forms::constant_of))]
-pub(crate) fn constant(term: &Term) -> Option<&Name>
+pub fn constant(term: &Term) -> Option<&Name>
     ensures { option_copied result ≡ constant_of term.now }
 {
     match &term.kind {
@@ -46,9 +46,9 @@ pub(crate) fn constant(term: &Term) -> Option<&Name>
     }
 }
 
-/// The constants in square brackets.
+/// The constants of a term in square brackets; none of another term.
 #[tactic(auto, unfolding(crate::specs::Built::names_of))]
-pub(crate) fn names(term: &Term) -> &[Name]
+pub fn names(term: &Term) -> &[Name]
     ensures { result.now ≡ spec.names_of term.now }
 {
     match &term.kind {

@@ -8,9 +8,9 @@ ghost use Rattle.xdg_terms.specs.Built as spec;
 use crate::cardinalities::cards;
 use crate::parts::{card_for, constant, names, place_of};
 use crate::tuples::tuple_number;
-use std::alloc::{AllocError, Global};
+use std::alloc::Global;
 use xdg_ast::{Elem, Term, TermKind};
-use xdg_base::Text;
+use xdg_base::{OutOfMemory, Text};
 use xdg_domain::{CardMap, CardSet, Ty};
 
 /// The number of the constant, or 0.
@@ -28,7 +28,7 @@ pub(crate) fn member(constants: &[Text], term: &Term) -> u8
 }
 
 /// The number of the tuple, or 0.
-pub(crate) fn tuple(alloc: Global, ty: &Ty, term: &Term) -> Result<u16, AllocError>
+pub(crate) fn tuple(alloc: Global, ty: &Ty, term: &Term) -> Result<u16, OutOfMemory>
     requires { IsTupleType (shape ty.now) }
     ensures { IfOk result (λ number. number ≡ spec.or_zero (spec.tuple_number (shape ty.now) (spec.names_of term.now))) }
 {
@@ -60,7 +60,7 @@ pub(crate) fn number(term: &Term) -> u32
 }
 
 /// The text of the constant.
-pub(crate) fn text(alloc: Global, term: &Term) -> Result<Text, AllocError>
+pub(crate) fn text(alloc: Global, term: &Term) -> Result<Text, OutOfMemory>
     ensures { IfOk result (λ made. made ≡ spec.text_named (constant_of term.now)) }
 {
     match constant(term) {
@@ -85,7 +85,7 @@ pub(crate) fn valency(
     alloc: Global,
     constants: &[Text],
     elems: &[Elem],
-) -> Result<CardMap, AllocError>
+) -> Result<CardMap, OutOfMemory>
     requires { length constants.now ≤ 64 }
     ensures { IfOk result (λ made. made ≡ spec.said_from (λ written. spec.card_numbers written.kind) (spec.first_for counted_elem elems.now) 0 constants.now) }
 {

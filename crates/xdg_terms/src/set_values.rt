@@ -7,13 +7,14 @@ ghost use Rattle.xdg_terms.specs.Built as spec;
 use crate::generators::generated;
 use crate::parts::place_of;
 use crate::tuples::tuple_number;
-use std::alloc::{AllocError, Global};
+use std::alloc::Global;
 use xdg_ast::{Elem, ElemKind, Term, TermKind};
+use xdg_base::OutOfMemory;
 use xdg_domain::{SetOf, Ty};
 
 /// The set of the constants or of the tuples that the term names.
 #[tactic(auto, unfolding(crate::specs::Built::set_of))]
-pub(crate) fn set(alloc: Global, ty: &Ty, term: &Term) -> Result<SetOf, AllocError>
+pub(crate) fn set(alloc: Global, ty: &Ty, term: &Term) -> Result<SetOf, OutOfMemory>
     requires { IsSmall (shape ty.now) }
     ensures { IfOk result (λ made. made ≡ spec.set_of (shape ty.now) term.now) }
 {
@@ -28,7 +29,7 @@ pub(crate) fn set(alloc: Global, ty: &Ty, term: &Term) -> Result<SetOf, AllocErr
 }
 
 /// The set of what the elements name.
-fn listed(alloc: Global, ty: &Ty, elems: &[Elem]) -> Result<SetOf, AllocError>
+fn listed(alloc: Global, ty: &Ty, elems: &[Elem]) -> Result<SetOf, OutOfMemory>
     requires { IsSmall (shape ty.now) }
     ensures { IfOk result (λ made. made ≡ spec.as_set (spec.listed (shape ty.now) elems.now)) }
 {
@@ -44,7 +45,7 @@ fn listed(alloc: Global, ty: &Ty, elems: &[Elem]) -> Result<SetOf, AllocError>
 
 /// The number of the constant or of the tuple that the element names.
 #[tactic(auto, unfolding(crate::specs::Built::number_of_elem))]
-fn number_of(alloc: Global, ty: &Ty, elem: &Elem) -> Result<Option<u16>, AllocError>
+fn number_of(alloc: Global, ty: &Ty, elem: &Elem) -> Result<Option<u16>, OutOfMemory>
     requires { IsSmall (shape ty.now) }
     ensures { IfOk result (λ told. told ≡ spec.number_of_elem (shape ty.now) elem.now) }
 {

@@ -10,13 +10,12 @@ ghost use Rattle.xdg_terms.specs.Faults as spec;
 ghost use Rattle.xdg_names.specs.Texts.{has_text};
 ghost use Rattle.xdg_terms.specs.Offences.{gen_names};
 
-use crate::faults::fault_at;
 use crate::forms::{each_bracketed, each_plain};
-use crate::members::{check_constant, check_in_turn, constants, has, wrong_kind};
+use crate::members::{check_constant, check_in_turn, wrong_kind};
 use xdg_ast::{Elem, ElemKind, Gen, GenKind, Name, Term, TermKind};
 use xdg_base::{Cause, Fault, Text};
 use xdg_domain::Ty;
-use xdg_names::earlier;
+use xdg_names::{earlier, has_text};
 
 /// An element of a set of constants.
 #[tactic(auto, unfolding(crate::specs::Faults::plain_missing))]
@@ -82,7 +81,7 @@ fn is_in_a_row(types: &[Ty], text: &str) -> bool
     ensures { result ≡ has_text (shapes.in_a_row (shapes.constants_of (shapes_of (map shape types.now)))) text.now }
 {
     for ty in types {
-        if has(constants(ty), text) {
+        if has_text(ty.constants(), text) {
             return true;
         }
     }
@@ -97,7 +96,7 @@ fn check_in_a_row(types: &[Ty], name: &Name) -> Option<Fault>
     if is_in_a_row(types, name.text.as_str()) {
         None
     } else {
-        Some(fault_at(Cause::NotMember, name.span.start))
+        Some(Fault::at(Cause::NotMember, name.span.start))
     }
 }
 
@@ -153,6 +152,6 @@ pub(crate) fn check_set(of: &Ty, term: &Term) -> Option<Fault>
 {
     match of {
         Ty::Tuple(types) => check_tuples(types.as_slice(), term),
-        _ => check_constants(constants(of), term),
+        _ => check_constants(of.constants(), term),
     }
 }

@@ -5,7 +5,6 @@ ghost use Rattle.std.specs.List.{flat_map};
 ghost use Rattle.xdg_names.specs.First.{Tells, first};
 ghost use Rattle.xdg_terms.specs.Stray as spec;
 
-use crate::faults::fault_at;
 use xdg_ast::{ElemKind, Name, Params, Term, TermKind};
 use xdg_base::{Cause, Fault};
 use xdg_names::earlier;
@@ -26,7 +25,7 @@ fn stray(name: &Name, params: &Params) -> Option<Fault>
     if params.contains(name.text.as_str()) {
         None
     } else {
-        Some(fault_at(Cause::WrongKind, name.span.start))
+        Some(Fault::at(Cause::WrongKind, name.span.start))
     }
 }
 

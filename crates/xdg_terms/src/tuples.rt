@@ -6,11 +6,10 @@ ghost use Rattle.xdg_domain.specs.Sized.{sizes_of};
 ghost use Rattle.xdg_domain.specs.Values.{AllBelow};
 ghost use Rattle.xdg_terms.specs.Built as spec;
 
-use crate::members::constants;
 use crate::parts::{fields, place_of};
-use std::alloc::{AllocError, Global};
+use std::alloc::Global;
 use xdg_ast::Name;
-use xdg_base::List;
+use xdg_base::{List, OutOfMemory};
 use xdg_domain::{Ty, tuple_index};
 
 /// The number of the tuple with these constants, where each is in the domain of its place.
@@ -18,7 +17,7 @@ pub(crate) fn tuple_number(
     alloc: Global,
     ty: &Ty,
     names: &[Name],
-) -> Result<Option<u16>, AllocError>
+) -> Result<Option<u16>, OutOfMemory>
     requires { IsTupleType (shape ty.now) }
     ensures { IfOk result (λ told. told ≡ spec.tuple_number (shape ty.now) names.now) }
 {
@@ -29,7 +28,7 @@ pub(crate) fn tuple_number(
 }
 
 /// The places of the constants, each in the domain of its place.
-fn places(alloc: Global, fields: &[Ty], names: &[Name]) -> Result<Option<List<u8>>, AllocError>
+fn places(alloc: Global, fields: &[Ty], names: &[Name]) -> Result<Option<List<u8>>, OutOfMemory>
     requires { AllBelow 65 (sizes_of fields.now) }
     ensures { IfOk result (λ told. told ≡ spec.places_behind [] (spec.constants_each fields.now) names.now) }
 {
@@ -38,7 +37,7 @@ fn places(alloc: Global, fields: &[Ty], names: &[Name]) -> Result<Option<List<u8
     }
     let mut found = List::new(alloc);
     for (i, field) in fields.iter().enumerate() {
-        match place_of(constants(field), names[i].text.as_str()) {
+        match place_of(field.constants(), names[i].text.as_str()) {
             None => return Ok(None),
             Some(place) => found.push(place)?,
         }

@@ -10,9 +10,9 @@ ghost use Rattle.xdg_terms.specs.Faults.{fields_in};
 ghost use Rattle.xdg_terms.specs.Wanted as spec;
 
 use crate::forms::each_keyed;
-use std::alloc::{AllocError, Global};
+use std::alloc::Global;
 use xdg_ast::{Elem, ElemKind, Name, Params, Term, TermKind};
-use xdg_base::Text;
+use xdg_base::{OutOfMemory, Text};
 use xdg_domain::Ty;
 
 /// A parameter that stands where a type is wanted.
@@ -32,7 +32,7 @@ pub fn params_in<'a>(
     ty: &'a Ty,
     term: &'a Term,
     params: &Params,
-) -> Result<Vec<Wanted<'a>>, AllocError>
+) -> Result<Vec<Wanted<'a>>, OutOfMemory>
     ensures { IfOk result (λ found. spec.wants_of found.items ≡ spec.params_in params.now (shape ty.now) term.now) }
 {
     let mut found = Vec::new(alloc);
@@ -76,7 +76,7 @@ fn add_params<'a>(
     term: &'a Term,
     params: &Params,
     found: &mut Vec<Wanted<'a>>,
-) -> Result<(), AllocError>
+) -> Result<(), OutOfMemory>
     ensures { IfOk result (λ _. spec.wants_of found.new.items ≡ spec.wants_of found.old.items ++ spec.params_in params.now (shape ty.now) term.now) }
 {
     match free(term, params) {
@@ -95,7 +95,7 @@ fn add_inside<'a>(
     term: &'a Term,
     params: &Params,
     found: &mut Vec<Wanted<'a>>,
-) -> Result<(), AllocError>
+) -> Result<(), OutOfMemory>
     ensures { IfOk result (λ _. spec.wants_of found.new.items ≡ spec.wants_of found.old.items ++ spec.params_inside params.now (shape ty.now) term.now) }
 {
     match ty {
@@ -113,7 +113,7 @@ fn add_values<'a>(
     elems: &'a [Elem],
     params: &Params,
     found: &mut Vec<Wanted<'a>>,
-) -> Result<(), AllocError>
+) -> Result<(), OutOfMemory>
     ensures { IfOk result
         (λ _. spec.wants_of found.new.items ≡ spec.wants_of found.old.items ++ flat_map (spec.value_params params.now (shape value.now)) elems.now) }
 {
@@ -133,7 +133,7 @@ fn add_parts<'a>(
     elems: &'a [Elem],
     params: &Params,
     found: &mut Vec<Wanted<'a>>,
-) -> Result<(), AllocError>
+) -> Result<(), OutOfMemory>
     ensures { IfOk result
         (λ _. spec.wants_of found.new.items ≡ spec.wants_of found.old.items ++ flat_map (spec.part_params params.now (fields_in fields.now)) elems.now) }
 {
@@ -153,7 +153,7 @@ fn add_under<'a>(
     term: &'a Term,
     params: &Params,
     found: &mut Vec<Wanted<'a>>,
-) -> Result<(), AllocError>
+) -> Result<(), OutOfMemory>
     ensures { IfOk result
         (λ _. spec.wants_of found.new.items ≡ spec.wants_of found.old.items ++ spec.params_under params.now (fields_in fields.now) (key.now, term.now)) }
 {

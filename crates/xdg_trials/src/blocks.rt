@@ -3,16 +3,16 @@
 ghost use Rattle.std.specs.Prelude.{◌≡◌, [], ◌∷◌, IfOk};
 ghost use Rattle.xdg_text.specs.Examples.{agr, on, id, lp, german, reading};
 
-use std::alloc::{AllocError, Global};
+use std::alloc::Global;
 use std::test::Fail;
-use xdg_base::{Bytes, DimId, EntryNo, LabelId, List, NodeId, Text};
+use xdg_base::{Bytes, DimId, EntryNo, LabelId, List, NodeId, OutOfMemory, Text};
 use xdg_io::MemSink;
 use xdg_problem::{
     Analysis, AttrPlan, DimPlan, Edge, Parts, Problem, SentenceWord, SharedList, Shown,
 };
 use xdg_text::{push, write, write2};
 
-fn one<T: Drop>(alloc: Global, item: T) -> Result<List<T>, AllocError>
+fn one<T: Drop>(alloc: Global, item: T) -> Result<List<T>, OutOfMemory>
     ensures { IfOk result (λ list. list ≡ item ∷ []) }
 {
     let mut list = List::new(alloc);
@@ -20,7 +20,7 @@ fn one<T: Drop>(alloc: Global, item: T) -> Result<List<T>, AllocError>
     Ok(list)
 }
 
-fn two<T: Drop>(alloc: Global, first: T, second: T) -> Result<List<T>, AllocError>
+fn two<T: Drop>(alloc: Global, first: T, second: T) -> Result<List<T>, OutOfMemory>
     ensures { IfOk result (λ list. list ≡ first ∷ second ∷ []) }
 {
     let mut list = List::new(alloc);
@@ -29,7 +29,7 @@ fn two<T: Drop>(alloc: Global, first: T, second: T) -> Result<List<T>, AllocErro
     Ok(list)
 }
 
-fn tuple(alloc: Global, first: &str, second: &str) -> Result<Shown, AllocError>
+fn tuple(alloc: Global, first: &str, second: &str) -> Result<Shown, OutOfMemory>
     ensures { IfOk result (λ value. value ≡ Shown.Many (first.now ∷ second.now ∷ [])) }
 {
     let first = Text::from_str(alloc, first)?;
@@ -37,7 +37,7 @@ fn tuple(alloc: Global, first: &str, second: &str) -> Result<Shown, AllocError>
     Ok(Shown::Many(two(alloc, first, second)?))
 }
 
-fn agr_plan(alloc: Global) -> Result<AttrPlan, AllocError>
+fn agr_plan(alloc: Global) -> Result<AttrPlan, OutOfMemory>
     ensures { IfOk result (λ plan. plan ≡ agr) }
 {
     let name = Text::from_str(alloc, "agr")?;
@@ -47,7 +47,7 @@ fn agr_plan(alloc: Global) -> Result<AttrPlan, AllocError>
     Ok(AttrPlan { name, values })
 }
 
-fn on_plan(alloc: Global) -> Result<AttrPlan, AllocError>
+fn on_plan(alloc: Global) -> Result<AttrPlan, OutOfMemory>
     ensures { IfOk result (λ plan. plan ≡ on) }
 {
     let name = Text::from_str(alloc, "on")?;
@@ -57,14 +57,14 @@ fn on_plan(alloc: Global) -> Result<AttrPlan, AllocError>
     Ok(AttrPlan { name, values })
 }
 
-fn word(alloc: Global, text: &str, at: u32) -> Result<SentenceWord, AllocError>
+fn word(alloc: Global, text: &str, at: u32) -> Result<SentenceWord, OutOfMemory>
     ensures { IfOk result (λ made. made ≡ record { text = text.now; at = at }) }
 {
     let text = Text::from_str(alloc, text)?;
     Ok(SentenceWord { text, at })
 }
 
-fn id_plan(alloc: Global) -> Result<DimPlan, AllocError>
+fn id_plan(alloc: Global) -> Result<DimPlan, OutOfMemory>
     ensures { IfOk result (λ plan. plan ≡ id) }
 {
     let name = Text::from_str(alloc, "id")?;
@@ -78,7 +78,7 @@ fn id_plan(alloc: Global) -> Result<DimPlan, AllocError>
     })
 }
 
-fn lp_plan(alloc: Global) -> Result<DimPlan, AllocError>
+fn lp_plan(alloc: Global) -> Result<DimPlan, OutOfMemory>
     ensures { IfOk result (λ plan. plan ≡ lp) }
 {
     let name = Text::from_str(alloc, "lp")?;
@@ -96,7 +96,7 @@ fn lp_plan(alloc: Global) -> Result<DimPlan, AllocError>
 }
 
 #[tactic(auto, using(xdg_text::proofs::Small::small_problem))]
-fn problem(alloc: Global) -> Result<Problem, AllocError>
+fn problem(alloc: Global) -> Result<Problem, OutOfMemory>
     ensures { IfOk result (λ problem. problem ≡ german) }
 {
     let first = word(alloc, "der", 0)?;
@@ -116,7 +116,7 @@ fn problem(alloc: Global) -> Result<Problem, AllocError>
     }))
 }
 
-fn analysis(alloc: Global) -> Result<Analysis, AllocError>
+fn analysis(alloc: Global) -> Result<Analysis, OutOfMemory>
     ensures { IfOk result (λ analysis. analysis ≡ reading) }
 {
     let entries = List::from_slice(alloc, &[EntryNo(9), EntryNo(3)])?;

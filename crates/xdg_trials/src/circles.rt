@@ -5,9 +5,9 @@ ghost use Rattle.xdg_facts.specs.Membership.{In};
 ghost use Rattle.xdg_names.specs.declared.graph.Use.{Use};
 ghost use Rattle.xdg_names.specs.Leads.{IsGraph};
 
-use std::alloc::{AllocError, Global};
+use std::alloc::Global;
 use std::test::Fail;
-use xdg_base::List;
+use xdg_base::{List, OutOfMemory};
 use xdg_names::{Use, closing, components};
 
 /// Graphs, each with the numbers of its components, the order, and the place of the first use that closes a cycle. `~`
@@ -59,7 +59,7 @@ fn value(digit: u8) -> u32 {
 }
 
 /// The graph that a row tells.
-fn graph_of(alloc: Global, text: &str) -> Result<Vec<List<Use>>, AllocError> {
+fn graph_of(alloc: Global, text: &str) -> Result<Vec<List<Use>>, OutOfMemory> {
     let mut graph = Vec::new(alloc);
     if text.is_empty() {
         return Ok(graph);
@@ -79,7 +79,7 @@ fn graph_of(alloc: Global, text: &str) -> Result<Vec<List<Use>>, AllocError> {
 }
 
 /// What a graph's components are, as a row tells them.
-fn told(alloc: Global, graph: &[List<Use>]) -> Result<Vec<u8>, AllocError> {
+fn told(alloc: Global, graph: &[List<Use>]) -> Result<Vec<u8>, OutOfMemory> {
     let mut out = Vec::new(alloc);
     if !is_graph(graph) || graph.len() > 9 {
         return Ok(out);

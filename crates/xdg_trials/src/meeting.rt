@@ -10,7 +10,7 @@ ghost use Rattle.xdg_propcore.specs.Uses.{IsClosedBy, StandsFor};
 ghost use Rattle.xdg_trials.specs.declared.meeting.Meets.{Meets};
 ghost use Rattle.xdg_trials.specs.Alone.{IsGraph, alone, graph_use, job, pair, plan};
 
-use std::alloc::{AllocError, Global};
+use std::alloc::Global;
 use std::sync::atomic::{AtomicBool, Ordering};
 use std::test::Fail;
 use xdg_base::{DimId, EntryNo, List, OutOfMemory, Text};
@@ -69,7 +69,7 @@ impl Propagator for Meets<'_> {
     {}
 }
 
-fn one<T: Drop>(alloc: Global, item: T) -> Result<List<T>, AllocError>
+fn one<T: Drop>(alloc: Global, item: T) -> Result<List<T>, OutOfMemory>
     ensures { IfOk result (λ list. list ≡ item ∷ []) }
 {
     let mut list = List::new(alloc);
@@ -77,7 +77,7 @@ fn one<T: Drop>(alloc: Global, item: T) -> Result<List<T>, AllocError>
     Ok(list)
 }
 
-fn plan(alloc: Global) -> Result<DimPlan, AllocError>
+fn plan(alloc: Global) -> Result<DimPlan, OutOfMemory>
     ensures { IfOk result (λ made. made ≡ plan) }
 {
     Ok(DimPlan {
@@ -88,7 +88,7 @@ fn plan(alloc: Global) -> Result<DimPlan, AllocError>
     })
 }
 
-fn graph_use(alloc: Global) -> Result<Group, AllocError>
+fn graph_use(alloc: Global) -> Result<Group, OutOfMemory>
     ensures { IfOk result (λ group. group ≡ graph_use) }
 {
     let dims = one(alloc, DimId(0))?;
@@ -105,7 +105,7 @@ fn graph_use(alloc: Global) -> Result<Group, AllocError>
 }
 
 #[tactic(auto, using(crate::proofs::AloneProblem::alone_problem))]
-fn problem(alloc: Global) -> Result<Problem, AllocError>
+fn problem(alloc: Global) -> Result<Problem, OutOfMemory>
     ensures { IfOk result (λ problem. problem ≡ alone) }
 {
     let text = Text::from_str(alloc, "a")?;
@@ -129,7 +129,7 @@ fn job<'a>(
     own: &'a AtomicBool,
     other: &'a AtomicBool,
     missed: &'a AtomicBool,
-) -> Result<Job<Meets<'a>>, AllocError>
+) -> Result<Job<Meets<'a>>, OutOfMemory>
     ensures { IfOk result (λ made. made ≡ job) }
 {
     let problem = problem(alloc)?;
@@ -143,7 +143,7 @@ fn pair<'a>(
     first: &'a AtomicBool,
     second: &'a AtomicBool,
     missed: &'a AtomicBool,
-) -> Result<List<Job<Meets<'a>>>, AllocError>
+) -> Result<List<Job<Meets<'a>>>, OutOfMemory>
     ensures { IfOk result (λ jobs. jobs ≡ pair) }
 {
     let mut jobs = one(alloc, job(alloc, first, second, missed)?)?;

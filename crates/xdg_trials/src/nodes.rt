@@ -2,13 +2,13 @@
 
 ghost use Rattle.std.specs.Prelude.{◌≡◌, IfOk};
 
-use std::alloc::{AllocError, Global};
+use std::alloc::Global;
 use std::test::Fail;
-use xdg_base::NodeId;
+use xdg_base::{NodeId, OutOfMemory};
 use xdg_nodeset::NodeSet;
 
 // A loop over the nodes, as a caller writes it.
-fn listed(alloc: Global, set: &NodeSet) -> Result<Vec<u8>, AllocError>
+fn listed(alloc: Global, set: &NodeSet) -> Result<Vec<u8>, OutOfMemory>
     ensures { IfOk result (λ list. list.items ≡ set.now) }
 {
     let mut list = Vec::new(alloc);

@@ -2,7 +2,13 @@
 
 use std::alloc::Global;
 use std::test::Fail;
-use xdg_inputs::{expand_tree, pack_entries, read_tree};
+use xdg_base::Stop;
+use xdg_inputs::{Expanded, expand_tree, read_tree};
+use xdg_lexicon::expand;
+use xdg_packed::{Packed, pack};
+
+/// How many bytes a text may have.
+const LONGEST: usize = 1_000_000;
 
 /// Two dimensions, trees and valency.
 const PLAIN: &str = "usedim id usedim lex
@@ -20,20 +26,29 @@ defentry {dim id {in: {subj?} out: {det!}} dim lex {word: \"dog\"}}
 defentry {dim id {out: {subj!}} dim lex {word: \"barks\"}}
 ";
 
-/// How many records are kept of a text's entries, how many entries there are, and how many of them are a word's.
-fn packed_told(alloc: Global, text: &str, word: &str) -> Result<String, Fail> {
-    if text.len() > 1_000_000 {
-        return Ok(String::from_str(alloc, "too long")?);
+/// What a grammar text means.
+fn expanded(alloc: Global, text: &str) -> Result<Expanded, Stop> {
+    if text.len() > LONGEST {
+        return Err(Stop::OutOfMemory);
     }
     let tree = read_tree(alloc, text.as_bytes())?;
-    let expanded = expand_tree(alloc, tree)?;
-    let packed = pack_entries(alloc, &expanded)?;
-    Ok(format!(in alloc;
-        "{} {} {}",
-        packed.rows(),
-        packed.len(),
-        packed.of_word(word).len()
-    )?)
+    expand_tree(alloc, tree)
+}
+
+/// The lexicon of a grammar, packed when all of its entries are there.
+fn packed_together(alloc: Global, expanded: &Expanded) -> Result<Packed, Stop> {
+    let (dim, field) = expanded.checked.word_place();
+    let entries = expand(alloc, &expanded.checked)?;
+    Ok(pack(alloc, dim, field, entries.as_slice())?)
+}
+
+/// How many records a lexicon keeps, how many entries it has, and which of them are a word's.
+fn told(alloc: Global, lexicon: &Packed, word: &str) -> Result<String, Fail> {
+    let mut told = format!(in alloc; "{} {}:", lexicon.rows(), lexicon.len())?;
+    for number in lexicon.of_word(word) {
+        told.push_str(format!(in alloc; " {}", number.0)?.as_str())?;
+    }
+    Ok(told)
 }
 
 /// A grammar whose entries differ in their words mostly, up to most of its entries.
@@ -73,11 +88,22 @@ fn with_nouns(alloc: Global) -> Result<String, Fail> {
 #[test]
 fn equal_records_are_kept_once(rt: HostRuntime) -> Result<(), Fail> {
     let alloc = rt.alloc();
-    assert_eq!(rt; packed_told(alloc, PLAIN, "purrs")?.as_str(), "6 3 0");
-    let text = with_nouns(alloc)?;
+    let plain = expanded(alloc, PLAIN)?;
+    assert_eq!(rt; told(alloc, &plain.lexicon, "purrs")?.as_str(), "6 3:");
+    let nouns = expanded(alloc, with_nouns(alloc)?.as_str())?;
     assert_eq!(rt;
-        packed_told(alloc, text.as_str(), "adj1")?.as_str(),
-        "1011 1010 2"
+        told(alloc, &nouns.lexicon, "adj1")?.as_str(),
+        "1011 1010: 1 2"
     );
+    Ok(())
+}
+
+#[test]
+fn entries_are_packed_as_they_come(rt: HostRuntime) -> Result<(), Fail> {
+    let alloc = rt.alloc();
+    let nouns = expanded(alloc, NOUNS)?;
+    let together = packed_together(alloc, &nouns)?;
+    assert_eq!(rt; told(alloc, &nouns.lexicon, "adj4")?.as_str(), "10 10: 7 8");
+    assert_eq!(rt; told(alloc, &together, "adj4")?.as_str(), "10 10: 7 8");
     Ok(())
 }

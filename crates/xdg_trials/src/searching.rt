@@ -6,9 +6,10 @@ ghost use Rattle.std.specs.Prelude.{◌≡◌, ◌≤◌, ◌∷◌, [], ℕ, Li
 ghost use Rattle.xdg_facts.specs.Fits.{Fits};
 ghost use Rattle.xdg_stream.specs.Apart.{IsApart, apart_closed};
 
-use std::alloc::{AllocError, Global};
+use std::alloc::Global;
 use std::marker::Model;
 use std::test::Fail;
+use xdg_base::OutOfMemory;
 use xdg_facts::Ending;
 use xdg_stream::{Front, Outcome, Search, Step, solve};
 
@@ -95,7 +96,7 @@ fn run(
     budget: u64,
     after: &[u16],
     wanted: Option<usize>,
-) -> Result<Outcome, AllocError>
+) -> Result<Outcome, OutOfMemory>
     requires { Fits (2 ∷ 2 ∷ 2 ∷ []) after.now }
 {
     solve(alloc, start(), budget, after, wanted)

@@ -3,9 +3,9 @@
 ghost use Rattle.std.specs.Prelude.{◌≡◌, ◌<◌, [], ◌∷◌, IfOk, map};
 ghost use Rattle.xdg_propcore.specs.Sample.{IsUse, LacksSecond, agr_use, colour, first_alone, plan, sample};
 
-use std::alloc::{AllocError, Global};
+use std::alloc::Global;
 use std::test::Fail;
-use xdg_base::{AttrId, DimId, EntryNo, List, NodeId, Text};
+use xdg_base::{AttrId, DimId, EntryNo, List, NodeId, OutOfMemory, Text};
 use xdg_problem::{
     AttrPlan, DimPlan, Feat, Group, Nums, Parts, Principle, Problem, SentenceWord, SharedList,
     Shown,
@@ -44,7 +44,7 @@ impl Propagator for TakesSecond {
     fn laws() {}
 }
 
-fn one<T: Drop>(alloc: Global, item: T) -> Result<List<T>, AllocError>
+fn one<T: Drop>(alloc: Global, item: T) -> Result<List<T>, OutOfMemory>
     ensures { IfOk result (λ list. list ≡ item ∷ []) }
 {
     let mut list = List::new(alloc);
@@ -52,7 +52,7 @@ fn one<T: Drop>(alloc: Global, item: T) -> Result<List<T>, AllocError>
     Ok(list)
 }
 
-fn colour(alloc: Global) -> Result<AttrPlan, AllocError>
+fn colour(alloc: Global) -> Result<AttrPlan, OutOfMemory>
     ensures { IfOk result (λ attr. attr ≡ colour) }
 {
     let name = Text::from_str(alloc, "c")?;
@@ -63,7 +63,7 @@ fn colour(alloc: Global) -> Result<AttrPlan, AllocError>
     Ok(AttrPlan { name, values })
 }
 
-fn plan(alloc: Global) -> Result<DimPlan, AllocError>
+fn plan(alloc: Global) -> Result<DimPlan, OutOfMemory>
     ensures { IfOk result (λ made. made ≡ plan) }
 {
     let name = Text::from_str(alloc, "id")?;
@@ -78,7 +78,7 @@ fn plan(alloc: Global) -> Result<DimPlan, AllocError>
 }
 
 // The set of the first value, for the only candidate of the only node.
-fn feats(alloc: Global) -> Result<List<SharedList<List<Feat>>>, AllocError>
+fn feats(alloc: Global) -> Result<List<SharedList<List<Feat>>>, OutOfMemory>
     ensures { IfOk result (λ feats. feats ≡ ((first_alone ∷ []) ∷ []) ∷ []) }
 {
     let mut numbers = Vec::new(alloc);
@@ -90,7 +90,7 @@ fn feats(alloc: Global) -> Result<List<SharedList<List<Feat>>>, AllocError>
     one(alloc, of_node)
 }
 
-fn agr_use(alloc: Global) -> Result<Group, AllocError>
+fn agr_use(alloc: Global) -> Result<Group, OutOfMemory>
     ensures { IfOk result (λ group. group ≡ agr_use) }
 {
     let dims = one(alloc, DimId(0))?;
@@ -107,7 +107,7 @@ fn agr_use(alloc: Global) -> Result<Group, AllocError>
 }
 
 #[tactic(auto, using(xdg_propcore::proofs::SampleProblem::sample_problem))]
-fn problem(alloc: Global) -> Result<Problem, AllocError>
+fn problem(alloc: Global) -> Result<Problem, OutOfMemory>
     ensures { IfOk result (λ problem. problem ≡ sample) }
 {
     let text = Text::from_str(alloc, "a")?;

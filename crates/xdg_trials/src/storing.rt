@@ -3,13 +3,13 @@
 ghost use Rattle.std.specs.Prelude.{◌≡◌, ◌<◌, ◌≤◌, ◌-◌, [], ◌∷◌, IfOk, length};
 ghost use Rattle.xdg_store.specs.Example.{colour, plan, small};
 
-use std::alloc::{AllocError, Global};
+use std::alloc::Global;
 use std::test::Fail;
-use xdg_base::{AttrId, DimId, EntryNo, LabelId, List, NodeId, Text};
+use xdg_base::{AttrId, DimId, EntryNo, LabelId, List, NodeId, OutOfMemory, Text};
 use xdg_problem::{AttrPlan, DimPlan, Edge, Parts, Problem, SentenceWord, SharedList, Shown};
 use xdg_store::{Change, Store};
 
-fn one<T: Drop>(alloc: Global, item: T) -> Result<List<T>, AllocError>
+fn one<T: Drop>(alloc: Global, item: T) -> Result<List<T>, OutOfMemory>
     ensures { IfOk result (λ list. list ≡ item ∷ []) }
 {
     let mut list = List::new(alloc);
@@ -17,7 +17,7 @@ fn one<T: Drop>(alloc: Global, item: T) -> Result<List<T>, AllocError>
     Ok(list)
 }
 
-fn two<T: Drop>(alloc: Global, first: T, second: T) -> Result<List<T>, AllocError>
+fn two<T: Drop>(alloc: Global, first: T, second: T) -> Result<List<T>, OutOfMemory>
     ensures { IfOk result (λ list. list ≡ first ∷ second ∷ []) }
 {
     let mut list = List::new(alloc);
@@ -26,14 +26,14 @@ fn two<T: Drop>(alloc: Global, first: T, second: T) -> Result<List<T>, AllocErro
     Ok(list)
 }
 
-fn word(alloc: Global, text: &str, at: u32) -> Result<SentenceWord, AllocError>
+fn word(alloc: Global, text: &str, at: u32) -> Result<SentenceWord, OutOfMemory>
     ensures { IfOk result (λ made. made ≡ record { text = text.now; at = at }) }
 {
     let text = Text::from_str(alloc, text)?;
     Ok(SentenceWord { text, at })
 }
 
-fn colour(alloc: Global) -> Result<AttrPlan, AllocError>
+fn colour(alloc: Global) -> Result<AttrPlan, OutOfMemory>
     ensures { IfOk result (λ attr. attr ≡ colour) }
 {
     let name = Text::from_str(alloc, "c")?;
@@ -43,7 +43,7 @@ fn colour(alloc: Global) -> Result<AttrPlan, AllocError>
     Ok(AttrPlan { name, values })
 }
 
-fn plan(alloc: Global) -> Result<DimPlan, AllocError>
+fn plan(alloc: Global) -> Result<DimPlan, OutOfMemory>
     ensures { IfOk result (λ made. made ≡ plan) }
 {
     let name = Text::from_str(alloc, "id")?;
@@ -60,7 +60,7 @@ fn plan(alloc: Global) -> Result<DimPlan, AllocError>
 }
 
 #[tactic(auto, using(xdg_store::proofs::Small::small_problem))]
-fn problem(alloc: Global) -> Result<Problem, AllocError>
+fn problem(alloc: Global) -> Result<Problem, OutOfMemory>
     ensures { IfOk result (λ problem. problem ≡ small) }
 {
     let first = word(alloc, "a", 0)?;

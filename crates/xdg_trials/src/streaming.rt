@@ -2,15 +2,15 @@
 
 ghost use Rattle.std.specs.Prelude.{IfOk};
 ghost use Rattle.xdg_engine.specs.Standing.{stands_for};
-ghost use Rattle.xdg_packed.specs.Entries.{IsRightLexicon};
 ghost use Rattle.xdg_propcore.specs.Uses.{AllStandIn};
+ghost use Rattle.xdg_inputs.specs.RightLexicons.{HasRightLexicon};
 
 use std::alloc::Global;
 use std::test::Fail;
 use xdg_base::Stop;
 use xdg_build::build;
 use xdg_engine::{AnyProp, props};
-use xdg_inputs::{Expanded, expand_tree, pack_entries, read_tree};
+use xdg_inputs::{Expanded, expand_tree, read_tree};
 use xdg_linear::words_of;
 use xdg_problem::Problem;
 use xdg_stream::{Step, Stream};
@@ -100,7 +100,7 @@ fn is_searched(alloc: Global, problem: &Problem, budget: u64, look: Look) -> Res
 }
 
 fn expanded(alloc: Global, grammar: &str) -> Result<Expanded, Stop>
-    ensures { IfOk result (λ made. IsRightLexicon made.checked.types made.entries) }
+    ensures { IfOk result HasRightLexicon }
 {
     if grammar.len() > LONGEST {
         return Err(Stop::OutOfMemory);
@@ -110,14 +110,13 @@ fn expanded(alloc: Global, grammar: &str) -> Result<Expanded, Stop>
 }
 
 fn compiled(alloc: Global, expanded: &Expanded, sentence: &str) -> Result<Problem, Stop>
-    requires { IsRightLexicon expanded.now.checked.types expanded.now.entries }
+    requires { HasRightLexicon expanded.now }
 {
     if sentence.len() > LONGEST {
         return Err(Stop::OutOfMemory);
     }
     let words = words_of(alloc, sentence, false)?;
-    let packed = pack_entries(alloc, expanded)?;
-    build(alloc, &expanded.checked, &packed, words)
+    build(alloc, &expanded.checked, &expanded.lexicon, words)
 }
 
 fn is_parsed(
@@ -127,7 +126,7 @@ fn is_parsed(
     budget: u64,
     look: Look,
 ) -> Result<bool, Stop>
-    requires { IsRightLexicon expanded.now.checked.types expanded.now.entries }
+    requires { HasRightLexicon expanded.now }
 {
     let problem = compiled(alloc, expanded, sentence)?;
     is_searched(alloc, &problem, budget, look)

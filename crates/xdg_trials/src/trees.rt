@@ -1,33 +1,34 @@
 //! Trees of grammar texts.
 
-use std::alloc::{AllocError, Global};
+use std::alloc::Global;
 use std::test::Fail;
 use xdg_ast::{Grammar, same};
+use xdg_base::OutOfMemory;
 use xdg_lex::tokens;
 use xdg_parse::parse;
 
 /// The tree of a text that is one.
-fn tree_of(alloc: Global, text: &str) -> Result<Grammar, AllocError> {
+fn tree_of(alloc: Global, text: &str) -> Result<Grammar, OutOfMemory> {
     if text.len() > 100_000 {
-        return Err(AllocError);
+        return Err(OutOfMemory);
     }
     let Ok(tokens) = tokens(alloc, text.as_bytes()) else {
-        return Err(AllocError);
+        return Err(OutOfMemory);
     };
     match parse(alloc, &tokens, text.len() as u32) {
         Ok(grammar) => Ok(grammar),
-        Err(_) => Err(AllocError),
+        Err(_) => Err(OutOfMemory),
     }
 }
 
 /// The tree of a text with its places.
-fn shown(alloc: Global, text: &str) -> Result<String, AllocError> {
+fn shown(alloc: Global, text: &str) -> Result<String, OutOfMemory> {
     let tree = tree_of(alloc, text)?;
     format!(in alloc; "{tree:?}")
 }
 
 /// Whether the trees of two texts are the same up to places.
-fn are_same(alloc: Global, one: &str, other: &str) -> Result<bool, AllocError> {
+fn are_same(alloc: Global, one: &str, other: &str) -> Result<bool, OutOfMemory> {
     let one = tree_of(alloc, one)?;
     let other = tree_of(alloc, other)?;
     Ok(same(&one, &other))

@@ -1,11 +1,12 @@
 -- Which names of a list are told to stand again.
 use Rattle.std.proofs.Common.{◌≡◌, ◌⊎◌, inl, inr, ℕ, List, [], ◌∷◌, ◌++◌, refl, sym, ap, subst, append_assoc}
+use Rattle.xdg_base.specs.Faults.{fault_at}
 use Rattle.xdg_base.specs.declared.faults.Cause.TheVariants as causes
 use Rattle.xdg_base.specs.declared.faults.Fault.{Fault}
 use Rattle.xdg_ast.specs.declared.names.Name.{Name}
 use Rattle.xdg_names.specs.Texts.{has_text}
 use Rattle.xdg_types.specs.Parts.{Statement}
-use Rattle.xdg_types.specs.Names.{fault_at, NameOffends, once}
+use Rattle.xdg_types.specs.Names.{NameOffends, once}
 use Rattle.xdg_types.specs.NameFaults.{repeated, repeats, with_text}
 use Rattle.xdg_types.proofs.Distinct.{with_splits, with_old, with_new, texts_left, texts_right}
 use Rattle.xdg_names.proofs.Texts.{has_among, among_has}

@@ -1,5 +1,6 @@
 -- What is wrong with the kinds and the sizes of types.
 use Rattle.std.specs.Prelude.{◌≡◌, ◌⊎◌, ℕ, ◌<◌, ◌+◌, ◌-◌, ◌^◌, min, Bool, true, false, ◌||◌, ◌&&◌, not, List, [], ◌∷◌, ◌++◌, length, flat_map}
+use Rattle.xdg_base.specs.Faults.{fault_at}
 use Rattle.xdg_base.specs.declared.faults.Cause.{Cause}
 use Rattle.xdg_base.specs.declared.faults.Cause.TheVariants as causes
 use Rattle.xdg_base.specs.declared.faults.Fault.{Fault}
@@ -12,7 +13,6 @@ use Rattle.xdg_types.specs.Written.{Tree, listed, recorded, tupled, set_of, iset
 use Rattle.xdg_types.specs.Written.{member_then, member_names, tree}
 use Rattle.xdg_types.specs.Parts.{Statement, dimensions, used_places}
 use Rattle.xdg_types.specs.Meaning.{meaning, domains_meaning, as_domain}
-use Rattle.xdg_types.specs.Names.{fault_at}
 use Rattle.xdg_facts.specs.Membership.{In}
 
 -- ---- sites

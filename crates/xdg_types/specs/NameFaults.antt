@@ -1,12 +1,12 @@
 -- The offences of names as a list, in the order in which the code comes to them.
 use Rattle.std.specs.Prelude.{ℕ, if◌then◌else◌, List, [], ◌∷◌, ◌++◌, map}
+use Rattle.xdg_base.specs.Faults.{fault_at}
 use Rattle.xdg_base.specs.declared.faults.Cause.TheVariants as causes
 use Rattle.xdg_base.specs.declared.faults.Fault.{Fault}
 use Rattle.xdg_ast.specs.declared.names.Name.{Name}
 use Rattle.xdg_ast.specs.declared.grammar.StatementKind.{StatementKind}
 use Rattle.xdg_names.specs.Texts.{has_text}
 use Rattle.xdg_types.specs.Parts.{dimension}
-use Rattle.xdg_types.specs.Names.{fault_at}
 
 -- ---- names
 

@@ -1,5 +1,5 @@
 -- The table of a grammar's dimensions and types, and which table a grammar has.
-use Rattle.std.specs.Prelude.{◌≡◌, ℕ, ◌<◌, ◌≤◌, List, [], ◌∷◌, length, map, get_or, Option, None, Some, if◌then◌else◌, bytes_eq}
+use Rattle.std.specs.Prelude.{◌≡◌, ℕ, ◌<◌, ◌≤◌, List, [], ◌∷◌, length, map, slice_get, Option, None, Some, if◌then◌else◌, bytes_eq}
 use Rattle.xdg_ast.specs.declared.names.Name.{Name}
 use Rattle.xdg_domain.specs.Shapes.{Shape, fields, Fields, no_field, field_then, constants, count, shape, IsType, IsSmall}
 use Rattle.xdg_domain.specs.declared.types.Ty.{Ty}
@@ -50,7 +50,7 @@ AreDims names _ _ = ⊥
 -- the places of the dimensions that are used, in the order of their uses
 abbrev pub AreUsed : List DimType → List Name → List ℕ → Type 0
 AreUsed dims [] [] = Unit {0}
-AreUsed dims (name ∷ names) (k ∷ ks) = ((dim : DimType) × ((k < length dims) × ((get_or dims k dim ≡ dim) × (dim.name ≡ name.text)))) × AreUsed dims names ks
+AreUsed dims (name ∷ names) (k ∷ ks) = ((dim : DimType) × ((slice_get dims k ≡ Some dim) × (dim.name ≡ name.text))) × AreUsed dims names ks
 AreUsed dims _ _ = ⊥
 
 pub record IsTableOf (names : List ℕ → Shape) (statements : List Statement) (table : Table) : Type 0 where

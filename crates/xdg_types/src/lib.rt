@@ -4,5 +4,5 @@
 mod names;
 mod table;
 
-pub use names::{index_dims, keys_again, keys_seen, repeated, unknown};
+pub use names::{add_use, index_dims, keys_again, keys_seen, names_again, repeated, unknown};
 pub use table::{DimType, TypeTable};

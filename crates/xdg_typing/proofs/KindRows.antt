@@ -2,13 +2,13 @@
 use Rattle.std.proofs.Common.{◌≡◌, ◌⊎◌, inl, inr, ℕ, ◌<◌, ◌-◌, ◌^◌, ltb, Bool, true, false, List, ◌++◌, length, refl, sym, subst}
 use Rattle.std.specs.Prelude.{min, not, ◌&&◌}
 use Rattle.std.proofs.lemmas.Bool.{lt-ltb, ltb-true, true≢false, false≢true}
+use Rattle.xdg_base.specs.Faults.{fault_at}
 use Rattle.xdg_base.specs.declared.faults.Cause.TheVariants as causes
 use Rattle.xdg_base.specs.declared.faults.Fault.{Fault}
 use Rattle.xdg_ast.specs.declared.names.Name.{Name}
 use Rattle.xdg_domain.specs.Shapes.{Shape, constants, sizes, product}
 use Rattle.xdg_types.specs.Written.{Tree, listed, tupled, Trees}
 use Rattle.xdg_types.specs.Meaning.{meaning, domains_meaning, as_domain}
-use Rattle.xdg_types.specs.Names.{fault_at}
 use Rattle.xdg_types.specs.Kinds.{Wanted, the_labels, Site, is_of_kind, has_no_field, reaching, IsWrongKind, IsTooBig, HasManyTuples, SiteOffends}
 use Rattle.xdg_typing.specs.KindFaults.{kind_faults, big_faults, label_faults, wide_faults, shared_faults, attributes_faults, alone_faults, site_faults}
 use Rattle.xdg_typing.proofs.RecordRows.{attributes_sound, attributes_complete}

@@ -1,6 +1,7 @@
 -- The offences of names that the pass lists are those of the rows.
 use Rattle.std.proofs.Common.{inl, inr, ℕ, List, [], ◌++◌, refl, sym, subst}
 use Rattle.std.specs.List.{flat_map}
+use Rattle.xdg_base.specs.Faults.{fault_at}
 use Rattle.xdg_base.specs.declared.faults.Cause.TheVariants as causes
 use Rattle.xdg_base.specs.declared.faults.Fault.{Fault}
 use Rattle.xdg_ast.specs.declared.names.Name.{Name}
@@ -9,7 +10,7 @@ use Rattle.xdg_names.proofs.First.{tells_as, first-tells}
 use Rattle.xdg_names.specs.Texts.{has_text}
 use Rattle.xdg_types.specs.Written.{tree, uses, lists}
 use Rattle.xdg_types.specs.Parts.{TypeTerm, Statement, Dimension, dimensions, dim_names, used_names, defined_names, in_parts, type_in, types}
-use Rattle.xdg_types.specs.Names.{fault_at, IsTwice, NameOffends, once}
+use Rattle.xdg_types.specs.Names.{IsTwice, NameOffends, once}
 use Rattle.xdg_types.specs.NameFaults.{unknown, repeats, different}
 use Rattle.xdg_typing.specs.Listed.{in_type, none_stood, parts_again, in_dimension, name_faults}
 use Rattle.xdg_types.proofs.Distinct.{missing, not_there}

@@ -2,7 +2,8 @@
 use Rattle.std.proofs.Common.{◌≡◌, inl, inr, ℕ, zero, suc, ◌<◌, List, [], ◌∷◌, length, get_or, Option, Some, Ok, Err, refl, sym, ap, ap₂, ◌∙◌, subst, arith}
 use Rattle.std.proofs.Math.Path.{fun_ext}
 use Rattle.std.proofs.lemmas.List.{length-map}
-use Rattle.std.specs.Prelude.{Result}
+use Rattle.std.proofs.lemmas.Option.{get_or_from_slice_get}
+use Rattle.std.specs.Prelude.{Result, slice_get}
 use Rattle.xdg_ast.specs.declared.names.Name.{Name}
 use Rattle.xdg_base.specs.declared.faults.Fault.{Fault}
 use Rattle.xdg_base.specs.declared.faults.Stop.{Stop}
@@ -25,6 +26,7 @@ use Rattle.xdg_types.proofs.NamesAgain.{no_repeat}
 use Rattle.xdg_typing.proofs.OneShape.{one_typed}
 use Rattle.xdg_types.proofs.Elements.{all_differ}
 use Rattle.xdg_types.proofs.Made.{names_made}
+use Rattle.xdg_facts.proofs.Lists.{get_within}
 use Rattle.xdg_facts.specs.Membership.{Differ}
 use Rattle.xdg_ast.specs.Texts.{texts}
 
@@ -52,8 +54,10 @@ name_at (d ∷ dims) zero dim within is = ap (λ (x : DimType). x.name) is
 name_at (d ∷ dims) (suc k) dim within is = name_at dims k dim (omega (arith, within)) is
 
 -- the dimension of that name stands at this place alone
-placed : (dims : List DimType) → AllDiffer (names_in dims) → (text : List ℕ) (k : ℕ) (dim : DimType) → k < length dims → get_or dims k dim ≡ dim → dim.name ≡ text → place_of (names_in dims) text ≡ Some k
-placed dims apart text k dim within is named =
+placed : (dims : List DimType) → AllDiffer (names_in dims) → (text : List ℕ) (k : ℕ) (dim : DimType) → slice_get dims k ≡ Some dim → dim.name ≡ text → place_of (names_in dims) text ≡ Some k
+placed dims apart text k dim there named =
+    let within = get_within dims k dim there in
+    let is = get_or_from_slice_get dims k dim dim there in
     let len : length (names_in dims) ≡ length dims = length-map dims (λ d. d.name) in
     ap (place_of (names_in dims)) (sym (name_at dims k dim within is ∙ named)) ∙ place_of-at (names_in dims) k apart (omega (arith, within, len))
 
@@ -67,8 +71,8 @@ one_used dims apart (name ∷ names) [] ks h u = absurd h
 one_used dims apart (name ∷ names) (j ∷ js) (k ∷ ks) h u =
     ap₂ (λ z zs. z ∷ zs)
     (one_place (place_of (names_in dims) name.text) j k
-    (placed dims apart name.text j h.0.0 h.0.1.0 h.0.1.1.0 h.0.1.1.1)
-    (placed dims apart name.text k u.0.0 u.0.1.0 u.0.1.1.0 u.0.1.1.1))
+    (placed dims apart name.text j h.0.0 h.0.1.0 h.0.1.1)
+    (placed dims apart name.text k u.0.0 u.0.1.0 u.0.1.1))
     (one_used dims apart names js ks h.1 u.1)
 one_used dims apart _ _ _ h u = absurd u
 

@@ -1,11 +1,12 @@
 -- Which parts of a dimension are told to stand again.
 use Rattle.std.proofs.Common.{◌≡◌, ◌⊎◌, inl, inr, true, List, [], ◌∷◌, ◌++◌, Option, None, Some, refl, sym, ap, ◌∙◌, subst, append_assoc}
 use Rattle.std.proofs.lemmas.Bool.{false≢true}
+use Rattle.xdg_base.specs.Faults.{fault_at}
 use Rattle.xdg_base.specs.declared.faults.Cause.TheVariants as causes
 use Rattle.xdg_base.specs.declared.faults.Fault.{Fault}
 use Rattle.xdg_typing.specs.declared.singles.Stood.{Stood}
 use Rattle.xdg_types.specs.Parts.{DimPart}
-use Rattle.xdg_types.specs.Names.{fault_at, Single, the_labels, the_attributes, the_features, single}
+use Rattle.xdg_types.specs.Names.{Single, the_labels, the_attributes, the_features, single}
 use Rattle.xdg_typing.specs.Listed.{has_stood, with_part, none_stood, part_again, parts_again}
 use Rattle.xdg_facts.specs.Membership.{In}
 use Rattle.xdg_facts.proofs.In.{in_append, in_left, in_right, in_when, when_in}

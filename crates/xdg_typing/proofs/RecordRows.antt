@@ -2,13 +2,13 @@
 use Rattle.std.proofs.Common.{◌≡◌, inl, inr, ℕ, zero, suc, ltb, true, List, [], ◌∷◌, ◌++◌, length, Option, None, Some, refl, sym, ap, subst, ◌∙◌}
 use Rattle.std.specs.Prelude.{slice_get, not}
 use Rattle.std.proofs.lemmas.Bool.{or_cases, or_left, or_right, lt-ltb, ltb-true, true≢false}
+use Rattle.xdg_base.specs.Faults.{fault_at}
 use Rattle.xdg_base.specs.declared.faults.Cause.TheVariants as causes
 use Rattle.xdg_base.specs.declared.faults.Fault.{Fault}
 use Rattle.xdg_ast.specs.declared.names.Name.{Name}
 use Rattle.xdg_domain.specs.Shapes.{Shape, fields, Fields, no_field, field_then}
 use Rattle.xdg_types.specs.Written.{Tree, recorded, named, member_names}
 use Rattle.xdg_types.specs.Meaning.{as_domain}
-use Rattle.xdg_types.specs.Names.{fault_at}
 use Rattle.xdg_types.specs.Kinds.{Wanted, the_attributes, Site, is_attribute, reaching, field_count, HasOther, NamedOffends, AttributesOffend, HasWrongAttributes}
 use Rattle.xdg_typing.specs.KindFaults.{ninth_name_faults, has_other, wide_record_faults, other_faults, named_faults, record_faults, attributes_faults}
 use Rattle.xdg_facts.proofs.Truths.{from_not}

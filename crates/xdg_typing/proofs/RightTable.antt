@@ -1,7 +1,10 @@
 -- The table of a grammar whose types are right.
 use Rattle.std.proofs.Common.{◌≡◌, ◌⊎◌, inl, inr, ℕ, zero, suc, ◌+◌, ◌<◌, ◌≤◌, true, List, [], ◌∷◌, ◌++◌, length, get_or, map, ap, ap₂, sym, ◌∙◌, refl, subst, arith}
 use Rattle.std.proofs.lemmas.Bool.{cases_Bool, false≢true}
-use Rattle.std.proofs.lemmas.List.{length-map, length-append, get_or_default}
+use Rattle.std.proofs.lemmas.List.{length-map, length-append}
+use Rattle.std.proofs.lemmas.Option.{get_or_from_slice_get}
+use Rattle.std.specs.Prelude.{Some, slice_get}
+use Rattle.xdg_base.specs.Faults.{fault_at}
 use Rattle.xdg_base.specs.declared.faults.Cause.TheVariants as causes
 use Rattle.xdg_ast.specs.declared.names.Name.{Name}
 use Rattle.xdg_ast.specs.declared.grammar.DimPartKind.{DimPartKind}
@@ -15,7 +18,6 @@ use Rattle.xdg_types.specs.Written.{Tree, nothing, recorded, named, Members, no_
 use Rattle.xdg_types.specs.Parts.{TypeTerm, DimPart, Statement, Dimension, dimensions, dim_names, used_name, used_names, used_places, label_type, attrs_type, entry_type, in_parts}
 use Rattle.xdg_types.specs.Meaning.{meaning, fields_meaning, as_domain}
 use Rattle.xdg_types.specs.Kinds.{an_attribute, the_labels, the_attributes, the_features, inside, inside_members, inside_attributes, is_record, is_attribute, field_count, HasOther, reaching}
-use Rattle.xdg_types.specs.Names.{fault_at}
 use Rattle.xdg_types.specs.Table.{Typed, typed, typed_fields, fields_in, first_meaning, IsDim, AreDims, AreUsed, firsts, AreAttributes, AreFeatures, KeepsDim, KeepDims, ArePlaces, IsTable}
 use Rattle.xdg_typing.specs.Used.{found, places}
 use Rattle.xdg_typing.specs.Branches.{Naming}
@@ -26,6 +28,7 @@ use Rattle.xdg_typing.proofs.RightTypes.{IsFine, AreFine, as_type, domain_of, at
 use Rattle.xdg_typing.proofs.RightText.{Stands, type_stands, site_fine, differ_once, lists_once, uses_right}
 use Rattle.xdg_facts.specs.Membership.{In, Differ}
 use Rattle.xdg_facts.proofs.In.{in_left, in_right, in_flat_map}
+use Rattle.xdg_facts.proofs.Lists.{get_within}
 use Rattle.xdg_ast.specs.Texts.{texts}
 
 -- ---- fields
@@ -254,10 +257,9 @@ named_there : (dims : List DimType) (names : List Name) (ks : List ℕ) (k : ℕ
 named_there dims [] [] k dim are h at = absurd h
 named_there dims (name ∷ names) (j ∷ ks) k dim are h at = elim h [
   | inl e ↦ (
-      let other = are.0.0 in
-      let less : k < length dims = subst (λ i. i < length dims) e are.0.1.0 in
-      let same : other ≡ dim = sym (subst (λ i. get_or dims i other ≡ other) e are.0.1.1.0) ∙ get_or_default dims k other dim less ∙ at in
-      inl (sym are.0.1.1.1 ∙ ap (λ (d : DimType). d.name) same)
+      let here : slice_get dims k ≡ Some are.0.0 = subst (λ i. slice_get dims i ≡ Some are.0.0) e are.0.1.0 in
+      let same : are.0.0 ≡ dim = sym (get_or_from_slice_get dims k are.0.0 dim here) ∙ at in
+      inl (sym are.0.1.1 ∙ ap (λ (d : DimType). d.name) same)
       )
   | inr l ↦ inr (named_there dims names ks k dim are.1 l at)
 ]
@@ -266,7 +268,10 @@ named_there dims _ _ k dim are h at = absurd are
 are_places : (dims : List DimType) (names : List Name) (ks : List ℕ) → AreUsed dims names ks → Differ (texts names) → ArePlaces (length dims) ks
 are_places dims [] [] are differ = tt
 are_places dims (name ∷ names) (k ∷ ks) are differ = (
-  (are.0.1.0, λ h. differ.0 (subst (In (texts names)) are.0.1.1.1 (named_there dims names ks k are.0.0 are.1 h are.0.1.1.0))),
+  (
+    get_within dims k are.0.0 are.0.1.0,
+    λ h. differ.0 (subst (In (texts names)) are.0.1.1 (named_there dims names ks k are.0.0 are.1 h (get_or_from_slice_get dims k are.0.0 are.0.0 are.0.1.0))),
+  ),
   are_places dims names ks are.1 differ.1,
 )
 are_places dims _ _ are differ = absurd are
@@ -288,7 +293,7 @@ places_count (s ∷ ss) =
 
 record DimAt (dims : List DimType) (k : ℕ) : Type 0 where
   dim : DimType
-  at : get_or dims k dim ≡ dim
+  at : slice_get dims k ≡ Some dim
   named : get_or (names_in dims) k [] ≡ dim.name
 
 dim_at : (dims : List DimType) (k : ℕ) → k < length dims → DimAt dims k
@@ -304,7 +309,7 @@ found_are_used dims (name ∷ names) h =
     let len : length (names_in dims) ≡ length dims = length-map dims (λ d. d.name) in
     let less : f.0 < length dims = omega (arith, s.0, len) in
     let w = dim_at dims f.0 less in
-    subst (λ o. AreUsed dims (name ∷ names) (found o ++ places (names_in dims) names)) (sym f.1) (((w.dim, (less, (w.at, sym w.named ∙ s.1))), found_are_used dims names (λ n i. h n (inr i))))
+    subst (λ o. AreUsed dims (name ∷ names) (found o ++ places (names_in dims) names)) (sym f.1) (((w.dim, (w.at, sym w.named ∙ s.1)), found_are_used dims names (λ n i. h n (inr i))))
 
 -- ---- the table
 

@@ -1,6 +1,7 @@
 -- What a text whose types are right tells of each type in it.
 use Rattle.std.proofs.Common.{◌≡◌, inl, inr, ℕ, zero, suc, ◌<◌, List, [], ◌∷◌, map, ap, sym, refl, subst, arith}
 use Rattle.std.specs.List.{flat_map}
+use Rattle.xdg_base.specs.Faults.{fault_at}
 use Rattle.xdg_base.specs.declared.faults.Cause.TheVariants as causes
 use Rattle.xdg_ast.specs.declared.names.Name.{Name}
 use Rattle.xdg_ast.specs.declared.grammar.DimPartKind.{DimPartKind}
@@ -9,7 +10,7 @@ use Rattle.xdg_domain.specs.Shapes.{IsType}
 use Rattle.xdg_types.specs.Written.{tree, uses, lists}
 use Rattle.xdg_types.specs.Parts.{TypeTerm, DimPart, Statement, Dimension, Definition, dimensions, definition, definitions_in, definitions, defined_names, type_in, in_parts, types}
 use Rattle.xdg_types.specs.Kinds.{anything, part_sites}
-use Rattle.xdg_types.specs.Names.{fault_at, once}
+use Rattle.xdg_types.specs.Names.{once}
 use Rattle.xdg_typing.specs.Branches.{Naming}
 use Rattle.xdg_typing.specs.Right.{AreRight}
 use Rattle.xdg_types.proofs.Elements.{differ_unless, among_or_not}

@@ -1,13 +1,13 @@
 -- Constants that two fields of a tuple type have are found as the rule says.
 use Rattle.std.proofs.Common.{◌≡◌, inl, inr, ℕ, List, [], ◌++◌, refl, sym, subst, append_assoc}
 use Rattle.std.proofs.lemmas.List.{append-nil}
+use Rattle.xdg_base.specs.Faults.{fault_at}
 use Rattle.xdg_base.specs.declared.faults.Cause.TheVariants as causes
 use Rattle.xdg_base.specs.declared.faults.Fault.{Fault}
 use Rattle.xdg_domain.specs.Shapes.{Shape, constants, constants_of, in_a_row}
 use Rattle.xdg_names.specs.Texts.{has_text}
 use Rattle.xdg_types.specs.Written.{Tree, listed, tupled, named, Trees, no_tree, tree_then}
 use Rattle.xdg_types.specs.Meaning.{meaning, domains_meaning, as_domain}
-use Rattle.xdg_types.specs.Names.{fault_at}
 use Rattle.xdg_types.specs.Kinds.{Site, Split, SharesAt, SharesConstant}
 use Rattle.xdg_typing.specs.KindFaults.{add_texts, has_one, field_faults, shared_in, shared_faults}
 use Rattle.xdg_typing.proofs.KindAmong.{Alike, alike_none, alike_more, has_one_in, in_has_one}

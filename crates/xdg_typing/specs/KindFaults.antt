@@ -1,6 +1,7 @@
 -- What is wrong with the kinds and the sizes of types, as lists of faults.
 use Rattle.std.specs.Prelude.{ℕ, ◌-◌, ◌^◌, min, Bool, true, false, ◌&&◌, ◌||◌, not, ltb, if◌then◌else◌, List, [], ◌∷◌, ◌++◌, length, flat_map, slice_get}
 use Rattle.std.specs.Prelude.{Option, None, Some}
+use Rattle.xdg_base.specs.Faults.{fault_at}
 use Rattle.xdg_base.specs.declared.faults.Cause.TheVariants as causes
 use Rattle.xdg_base.specs.declared.faults.Fault.{Fault}
 use Rattle.xdg_ast.specs.declared.names.Name.{Name}
@@ -15,7 +16,6 @@ use Rattle.xdg_types.specs.Written.{Tree, nothing, listed, recorded, tupled, set
 use Rattle.xdg_types.specs.Written.{Trees, no_tree, tree_then, Members, no_member, member_then, member_names, tree}
 use Rattle.xdg_types.specs.Parts.{TypeTerm, Statement, used_places}
 use Rattle.xdg_types.specs.Meaning.{meaning, domains_meaning, as_domain}
-use Rattle.xdg_types.specs.Names.{fault_at}
 use Rattle.xdg_types.specs.Kinds.{Wanted, anything, a_domain, a_small, a_mapped, an_attribute, the_labels, the_attributes, the_features, Site, sites}
 use Rattle.xdg_types.specs.Kinds.{is_of_kind, is_attribute, has_no_field, reaching, field_count}
 use Rattle.xdg_types.specs.NameFaults.{repeated, with_text}

@@ -1,5 +1,6 @@
 -- The offences of the names of a grammar as a list, in the order in which the code comes to them.
 use Rattle.std.specs.Prelude.{ℕ, Bool, true, false, if◌then◌else◌, List, [], ◌∷◌, ◌++◌, map, flat_map, Option, None, Some}
+use Rattle.xdg_base.specs.Faults.{fault_at}
 use Rattle.xdg_base.specs.declared.faults.Cause.TheVariants as causes
 use Rattle.xdg_base.specs.declared.faults.Fault.{Fault}
 use Rattle.xdg_ast.specs.declared.names.Name.{Name}
@@ -9,7 +10,7 @@ use Rattle.xdg_typing.specs.declared.singles.Stood.{Stood}
 use Rattle.xdg_types.specs.Written.{tree, uses, lists}
 use Rattle.xdg_types.specs.Parts.{TypeTerm, DimPart, Statement, Dimension, dimension, dimensions, definition, definitions_in, dim_names, used_names}
 use Rattle.xdg_types.specs.Parts.{defined_names, in_parts, type_in}
-use Rattle.xdg_types.specs.Names.{fault_at, Single, the_labels, the_attributes, the_features, single}
+use Rattle.xdg_types.specs.Names.{Single, the_labels, the_attributes, the_features, single}
 use Rattle.xdg_types.specs.NameFaults.{unknown, repeats, different}
 
 -- ---- where names stand

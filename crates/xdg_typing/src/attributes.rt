@@ -59,11 +59,7 @@ fn check_others(at: u32, others: bool) -> Option<Fault>
     ensures { result ≡ first (other_faults at others) }
 {
     if others {
-        Some(Fault {
-            cause: Cause::WrongKind,
-            at,
-            reached: 0,
-        })
+        Some(Fault::at(Cause::WrongKind, at))
     } else {
         None
     }

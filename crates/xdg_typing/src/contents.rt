@@ -5,18 +5,18 @@ ghost use Rattle.xdg_names.specs.First.{first};
 ghost use Rattle.xdg_types.specs.Written.{tree, lists};
 ghost use Rattle.xdg_types.specs.NameFaults as spec;
 
-use std::alloc::{AllocError, Global};
-use xdg_ast::{Name, TypeKind, TypeTerm};
-use xdg_base::Fault;
-use xdg_names::{Index, earlier};
-use xdg_types::{keys_again, repeated};
+use std::alloc::Global;
+use xdg_ast::{TypeKind, TypeTerm};
+use xdg_base::{Fault, OutOfMemory};
+use xdg_names::earlier;
+use xdg_types::{keys_again, names_again};
 
 /// The first constant of a domain in a type, or field of a record in it, that stands there before.
-pub(crate) fn lists_again(alloc: Global, ty: &TypeTerm) -> Result<Option<Fault>, AllocError>
+pub(crate) fn lists_again(alloc: Global, ty: &TypeTerm) -> Result<Option<Fault>, OutOfMemory>
     ensures { IfOk result (λ found. found ≡ first (flat_map (spec.repeats []) (lists (tree ty.now.kind)))) }
 {
     match &ty.kind {
-        TypeKind::Domain(names) => constants_again(alloc, names.as_slice()),
+        TypeKind::Domain(names) => names_again(alloc, names.as_slice()),
         TypeKind::Rec(fields) => {
             let mut found = keys_again(alloc, fields.as_slice())?;
             for field in fields.as_slice() {
@@ -46,16 +46,4 @@ pub(crate) fn lists_again(alloc: Global, ty: &TypeTerm) -> Result<Option<Fault>,
         | TypeKind::Str
         | TypeKind::Named(_) => Ok(None),
     }
-}
-
-/// The first of the constants of a domain that stands there before.
-fn constants_again(alloc: Global, names: &[Name]) -> Result<Option<Fault>, AllocError>
-    ensures { IfOk result (λ found. found ≡ first (spec.repeats [] names.now)) }
-{
-    let mut seen = Index::new(alloc);
-    let mut found = None;
-    for name in names {
-        found = earlier(found, repeated(alloc, &mut seen, name)?);
-    }
-    Ok(found)
 }

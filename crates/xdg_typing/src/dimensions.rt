@@ -16,9 +16,9 @@ ghost use Rattle.xdg_typing.specs.Used.{found, places};
 
 use crate::definitions::Definitions;
 use crate::resolving::{MOST_PARTS, copies, resolve_attributes, resolve_members};
-use std::alloc::{AllocError, Global};
+use std::alloc::Global;
 use xdg_ast::{DimPart, DimPartKind, Name, Statement, StatementKind, TypeKind, TypeTerm};
-use xdg_base::{List, Text};
+use xdg_base::{List, OutOfMemory, Text};
 use xdg_domain::Ty;
 use xdg_names::Index;
 use xdg_types::DimType;
@@ -82,7 +82,7 @@ pub(crate) fn resolve_dimensions<'a>(
     alloc: Global,
     definitions: &Definitions<'a>,
     statements: &'a [Statement],
-) -> Result<List<DimType>, AllocError>
+) -> Result<List<DimType>, OutOfMemory>
     requires { HasRoom definitions.now.names (map (λ head. head.now) definitions.now.heads.items) (λ names. all_parts names (small.given_types statements.now))
         16777216 }
     ensures { (names : Naming) → Knows names definitions.now.names (map (λ head. head.now) definitions.now.heads.items)
@@ -106,7 +106,7 @@ fn resolve_dimension<'a>(
     definitions: &Definitions<'a>,
     name: &Name,
     parts: &'a [DimPart],
-) -> Result<DimType, AllocError>
+) -> Result<DimType, OutOfMemory>
     requires { HasRoom definitions.now.names (map (λ head. head.now) definitions.now.heads.items) (λ names. all_parts names (small.given_in parts.now))
         16777216 }
     ensures { (names : Naming) → Knows names definitions.now.names (map (λ head. head.now) definitions.now.heads.items)
@@ -125,7 +125,7 @@ fn labels<'a>(
     alloc: Global,
     definitions: &Definitions<'a>,
     parts: &'a [DimPart],
-) -> Result<List<Text>, AllocError>
+) -> Result<List<Text>, OutOfMemory>
     ensures { (names : Naming) → Knows names definitions.now.names (map (λ head. head.now) definitions.now.heads.items)
         → IfOk result (λ made. made ≡ constants (as_domain (first_meaning names (spec.in_parts spec.label_type parts.now)))) }
 {
@@ -143,7 +143,7 @@ fn attributes<'a>(
     alloc: Global,
     definitions: &Definitions<'a>,
     parts: &'a [DimPart],
-) -> Result<List<(Text, Ty)>, AllocError>
+) -> Result<List<(Text, Ty)>, OutOfMemory>
     requires { HasRoom definitions.now.names (map (λ head. head.now) definitions.now.heads.items) (λ names. all_parts names (small.given_in parts.now))
         16777216 }
     ensures { (names : Naming) → Knows names definitions.now.names (map (λ head. head.now) definitions.now.heads.items)
@@ -165,7 +165,7 @@ fn features<'a>(
     alloc: Global,
     definitions: &Definitions<'a>,
     parts: &'a [DimPart],
-) -> Result<List<(Text, Ty)>, AllocError>
+) -> Result<List<(Text, Ty)>, OutOfMemory>
     requires { HasRoom definitions.now.names (map (λ head. head.now) definitions.now.heads.items) (λ names. all_parts names (small.given_in parts.now))
         16777216 }
     ensures { (names : Naming) → Knows names definitions.now.names (map (λ head. head.now) definitions.now.heads.items)
@@ -224,7 +224,7 @@ pub(crate) fn used_places(
     alloc: Global,
     known: &Index,
     statements: &[Statement],
-) -> Result<List<usize>, AllocError>
+) -> Result<List<usize>, OutOfMemory>
     ensures { IfOk result (λ made. made ≡ places known.now (spec.used_names statements.now)) }
 {
     let mut all = List::new(alloc);

@@ -5,31 +5,19 @@ ghost use Rattle.xdg_types.specs.Parts.{definitions, definitions_in};
 ghost use Rattle.xdg_types.specs.Written.{tree};
 ghost use Rattle.xdg_types.specs.Graph as spec;
 
-use std::alloc::{AllocError, Global};
-use xdg_ast::{DimPart, DimPartKind, Name, Statement, StatementKind, TypeKind, TypeTerm};
-use xdg_base::List;
+use std::alloc::Global;
+use xdg_ast::{DimPart, DimPartKind, Statement, StatementKind, TypeKind, TypeTerm};
+use xdg_base::{List, OutOfMemory};
 use xdg_names::{Index, Use};
-
-/// Adds the use of a type by name.
-fn add_name(known: &Index, name: &Name, made: &mut List<Use>) -> Result<(), AllocError>
-    ensures { IfOk result (λ _. made.new ≡ made.old ++ spec.use_of known.now name.now) }
-{
-    match known.find(name.text.as_str()) {
-        None => Ok(()),
-        Some(to) => made.push(Use {
-            to,
-            at: name.span.start,
-        }),
-    }
-}
+use xdg_types::add_use;
 
 /// Adds the uses in a type, in the order of the text.
 #[tactic(auto, using(crate::proofs::GraphUses::use_steps))]
-fn add_uses(known: &Index, ty: &TypeKind, made: &mut List<Use>) -> Result<(), AllocError>
+fn add_uses(known: &Index, ty: &TypeKind, made: &mut List<Use>) -> Result<(), OutOfMemory>
     ensures { IfOk result (λ _. made.new ≡ made.old ++ spec.uses_in known.now (tree ty.now)) }
 {
     match ty {
-        TypeKind::Named(name) => add_name(known, name, made),
+        TypeKind::Named(name) => add_use(known, name, made),
         TypeKind::Set(inner) | TypeKind::ISet(inner) | TypeKind::Valency(inner) => {
             add_uses(known, &inner.get().kind, made)
         }
@@ -59,7 +47,7 @@ fn add_uses(known: &Index, ty: &TypeKind, made: &mut List<Use>) -> Result<(), Al
 }
 
 /// Adds the types that the parts of a dimension define.
-fn add_bodies<'a>(parts: &'a [DimPart], made: &mut Vec<&'a TypeTerm>) -> Result<(), AllocError>
+fn add_bodies<'a>(parts: &'a [DimPart], made: &mut Vec<&'a TypeTerm>) -> Result<(), OutOfMemory>
     ensures { IfOk result (λ _. map (λ body. body.now) made.new.items ≡ map (λ body. body.now) made.old.items ++ map (λ d. d.body) (definitions_in parts.now)) }
 {
     for part in parts {
@@ -74,7 +62,7 @@ fn add_bodies<'a>(parts: &'a [DimPart], made: &mut Vec<&'a TypeTerm>) -> Result<
 pub(crate) fn bodies<'a>(
     alloc: Global,
     statements: &'a [Statement],
-) -> Result<Vec<&'a TypeTerm>, AllocError>
+) -> Result<Vec<&'a TypeTerm>, OutOfMemory>
     ensures { IfOk result (λ made. map (λ body. body.now) made.items ≡ map (λ d. d.body) (definitions statements.now)) }
 {
     let mut made = Vec::new(alloc);
@@ -91,7 +79,7 @@ pub(crate) fn type_graph(
     alloc: Global,
     known: &Index,
     bodies: &[&TypeTerm],
-) -> Result<Vec<List<Use>>, AllocError>
+) -> Result<Vec<List<Use>>, OutOfMemory>
     ensures { IfOk result (λ made. made.items ≡ map (λ body. spec.uses_in known.now (tree body.now.kind)) bodies.now) }
 {
     let mut made = Vec::new(alloc);

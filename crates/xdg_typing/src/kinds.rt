@@ -12,16 +12,16 @@ ghost use Rattle.xdg_typing.specs.KindFaults.{faults_in, ninth_use_faults};
 use crate::definitions::Definitions;
 use crate::walk::{check_inside, check_members, check_site, check_type};
 use crate::wanted::Wanted;
-use std::alloc::{AllocError, Global};
+use std::alloc::Global;
 use xdg_ast::{DimPart, DimPartKind, Statement, StatementKind, TypeKind, TypeTerm};
-use xdg_base::{Cause, Fault};
+use xdg_base::{Cause, Fault, OutOfMemory};
 use xdg_names::earlier;
 
 fn check_inside_attributes<'a>(
     alloc: Global,
     definitions: &Definitions<'a>,
     kind: &'a TypeKind,
-) -> Result<Option<Fault>, AllocError>
+) -> Result<Option<Fault>, OutOfMemory>
     ensures { (names : List ℕ → Shape) → Knows names definitions.now.names (map (λ head. head.now) definitions.now.heads.items)
         → IfOk result (λ found. found ≡ first (faults_in names (inside_attributes (tree kind.now)))) }
 {
@@ -40,7 +40,7 @@ fn check_attributes_type<'a>(
     alloc: Global,
     definitions: &Definitions<'a>,
     ty: &'a TypeTerm,
-) -> Result<Option<Fault>, AllocError>
+) -> Result<Option<Fault>, OutOfMemory>
     ensures { (names : List ℕ → Shape) → Knows names definitions.now.names (map (λ head. head.now) definitions.now.heads.items)
         → IfOk result
         (λ found.
@@ -58,7 +58,7 @@ fn check_part<'a>(
     alloc: Global,
     definitions: &Definitions<'a>,
     part: &'a DimPart,
-) -> Result<Option<Fault>, AllocError>
+) -> Result<Option<Fault>, OutOfMemory>
     ensures { (names : List ℕ → Shape) → Knows names definitions.now.names (map (λ head. head.now) definitions.now.heads.items)
         → IfOk result (λ found. found ≡ first (faults_in names (part_sites part.now.kind))) }
 {
@@ -75,7 +75,7 @@ fn check_parts<'a>(
     alloc: Global,
     definitions: &Definitions<'a>,
     parts: &'a [DimPart],
-) -> Result<Option<Fault>, AllocError>
+) -> Result<Option<Fault>, OutOfMemory>
     ensures { (names : List ℕ → Shape) → Knows names definitions.now.names (map (λ head. head.now) definitions.now.heads.items)
         → IfOk result (λ found. found ≡ first (faults_in names (flat_map (λ part. part_sites part.kind) parts.now))) }
 {
@@ -90,7 +90,7 @@ fn check_statement<'a>(
     alloc: Global,
     definitions: &Definitions<'a>,
     statement: &'a Statement,
-) -> Result<Option<Fault>, AllocError>
+) -> Result<Option<Fault>, OutOfMemory>
     ensures { (names : List ℕ → Shape) → Knows names definitions.now.names (map (λ head. head.now) definitions.now.heads.items)
         → IfOk result
         (λ found. found ≡ first (faults_in names (flat_map (λ dim. flat_map (λ part. part_sites part.kind) dim.1) (dimension statement.now.kind)))) }
@@ -105,7 +105,7 @@ fn check_statements<'a>(
     alloc: Global,
     definitions: &Definitions<'a>,
     statements: &'a [Statement],
-) -> Result<Option<Fault>, AllocError>
+) -> Result<Option<Fault>, OutOfMemory>
     ensures { (names : List ℕ → Shape) → Knows names definitions.now.names (map (λ head. head.now) definitions.now.heads.items)
         → IfOk result (λ found. found ≡ first (faults_in names (sites statements.now))) }
 {
@@ -145,7 +145,7 @@ pub fn check_kinds<'a>(
     alloc: Global,
     statements: &'a [Statement],
     definitions: &Definitions<'a>,
-) -> Result<Option<Fault>, AllocError>
+) -> Result<Option<Fault>, OutOfMemory>
     ensures { (names : List ℕ → Shape) → Knows names definitions.now.names (map (λ head. head.now) definitions.now.heads.items)
         → IfOk result (λ found. Tells (KindOffends names statements.now) found) }
 {

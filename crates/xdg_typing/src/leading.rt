@@ -4,8 +4,9 @@ ghost use Rattle.std.specs.Prelude.{◌≡◌, ◌<◌, ℕ, List, map, length, 
 ghost use Rattle.xdg_domain.specs.Shapes.{Shape};
 ghost use Rattle.xdg_typing.specs.Heads.{Agrees, IsDefined, IsRight, NamesFirst, RightBefore};
 
-use std::alloc::{AllocError, Global};
+use std::alloc::Global;
 use xdg_ast::{TypeKind, TypeTerm};
+use xdg_base::OutOfMemory;
 use xdg_names::Index;
 
 /// What a type leads to in one step: where it is a name, the head of the definition with that name.
@@ -32,7 +33,7 @@ pub(crate) fn heads<'a>(
     known: &Index,
     bodies: &[&'a TypeTerm],
     order: &[usize],
-) -> Result<Vec<&'a TypeTerm>, AllocError>
+) -> Result<Vec<&'a TypeTerm>, OutOfMemory>
     requires within { (i : ℕ) → i < length order.now → slice_index_or order.now i 0 < length bodies.now }
     requires first { NamesFirst known.now (map (λ body. body.now) bodies.now) order.now }
     ensures len { IfOk result (λ made. length made.items ≡ length bodies.now) }

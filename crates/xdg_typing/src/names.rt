@@ -13,9 +13,9 @@ use crate::contents::lists_again;
 use crate::repeats::{definitions_again, dims_again, used_again};
 use crate::singles::parts_again;
 use crate::uses::{unknown_in, unknown_used};
-use std::alloc::{AllocError, Global};
+use std::alloc::Global;
 use xdg_ast::{DimPart, DimPartKind, Statement, StatementKind, TypeTerm};
-use xdg_base::Fault;
+use xdg_base::{Fault, OutOfMemory};
 use xdg_names::{Index, earlier};
 
 /// The first fault of the names of dimensions and types, if there is one. Its cause is `UnknownName` (30) for a
@@ -24,7 +24,7 @@ use xdg_names::{Index, earlier};
 /// and the type of the labels, the attributes or the features in a dimension. Its place is where the name or the part
 /// begins. A name may be used before it is defined. Names are looked up in hash indexes.
 #[tactic(auto, using(crate::proofs::NameLaw::names_tell))]
-pub fn check_names(alloc: Global, statements: &[Statement]) -> Result<Option<Fault>, AllocError>
+pub fn check_names(alloc: Global, statements: &[Statement]) -> Result<Option<Fault>, OutOfMemory>
     ensures { IfOk result (λ found. Tells (NameOffends statements.now) found) }
 {
     names_wrong(alloc, statements)
@@ -32,7 +32,7 @@ pub fn check_names(alloc: Global, statements: &[Statement]) -> Result<Option<Fau
 
 /// The different names of the types that the dimensions define, in the order of the text.
 #[tactic(auto, using(xdg_types::proofs::Distinct::same_known, xdg_types::proofs::Distinct::all_differ))]
-pub fn defined(alloc: Global, statements: &[Statement]) -> Result<Index, AllocError>
+pub fn defined(alloc: Global, statements: &[Statement]) -> Result<Index, OutOfMemory>
     ensures known { IfOk result (λ made. (t : List ℕ) → has_text made t ≡ has_text (texts (defined_names statements.now)) t) }
     ensures same { IfOk result (λ made. Differ (texts (defined_names statements.now)) → made ≡ texts (defined_names statements.now)) }
 {
@@ -42,7 +42,7 @@ pub fn defined(alloc: Global, statements: &[Statement]) -> Result<Index, AllocEr
 }
 
 #[tactic(auto, using(xdg_names::proofs::First::first_append))]
-fn names_wrong(alloc: Global, statements: &[Statement]) -> Result<Option<Fault>, AllocError>
+fn names_wrong(alloc: Global, statements: &[Statement]) -> Result<Option<Fault>, OutOfMemory>
     ensures { IfOk result (λ found. found ≡ first (listing.name_faults statements.now)) }
 {
     let mut dims = Index::new(alloc);
@@ -62,7 +62,7 @@ fn in_statements(
     alloc: Global,
     known: &Index,
     statements: &[Statement],
-) -> Result<Option<Fault>, AllocError>
+) -> Result<Option<Fault>, OutOfMemory>
     ensures { IfOk result (λ found. found ≡ first (flat_map (listing.in_dimension known.now) (dimensions statements.now))) }
 {
     let mut found = None;
@@ -76,7 +76,7 @@ fn in_statement(
     alloc: Global,
     known: &Index,
     statement: &Statement,
-) -> Result<Option<Fault>, AllocError>
+) -> Result<Option<Fault>, OutOfMemory>
     ensures { IfOk result (λ found. found ≡ first (flat_map (listing.in_dimension known.now) (dimension statement.now.kind))) }
 {
     match &statement.kind {
@@ -90,7 +90,7 @@ fn in_dimension(
     alloc: Global,
     known: &Index,
     parts: &[DimPart],
-) -> Result<Option<Fault>, AllocError>
+) -> Result<Option<Fault>, OutOfMemory>
     ensures { IfOk result (λ found. found ≡ first (listing.in_definition known.now parts.now)) }
 {
     let inside = in_types(alloc, known, parts)?;
@@ -98,7 +98,7 @@ fn in_dimension(
 }
 
 /// In the types of these parts.
-fn in_types(alloc: Global, known: &Index, parts: &[DimPart]) -> Result<Option<Fault>, AllocError>
+fn in_types(alloc: Global, known: &Index, parts: &[DimPart]) -> Result<Option<Fault>, OutOfMemory>
     ensures { IfOk result (λ found. found ≡ first (flat_map (listing.in_type known.now) (in_parts type_in parts.now))) }
 {
     let mut found = None;
@@ -108,7 +108,7 @@ fn in_types(alloc: Global, known: &Index, parts: &[DimPart]) -> Result<Option<Fa
     Ok(found)
 }
 
-fn in_part(alloc: Global, known: &Index, part: &DimPart) -> Result<Option<Fault>, AllocError>
+fn in_part(alloc: Global, known: &Index, part: &DimPart) -> Result<Option<Fault>, OutOfMemory>
     ensures { IfOk result (λ found. found ≡ first (flat_map (listing.in_type known.now) (type_in part.now.kind))) }
 {
     match &part.kind {
@@ -121,7 +121,7 @@ fn in_part(alloc: Global, known: &Index, part: &DimPart) -> Result<Option<Fault>
 }
 
 #[tactic(auto, using(xdg_names::proofs::First::first_append))]
-fn in_type(alloc: Global, known: &Index, ty: &TypeTerm) -> Result<Option<Fault>, AllocError>
+fn in_type(alloc: Global, known: &Index, ty: &TypeTerm) -> Result<Option<Fault>, OutOfMemory>
     ensures { IfOk result (λ found. found ≡ first (listing.in_type known.now ty.now)) }
 {
     let again = lists_again(alloc, ty)?;

@@ -6,9 +6,9 @@ ghost use Rattle.xdg_types.specs.Parts.{dim_names, used_name, used_names, define
 ghost use Rattle.xdg_types.specs.NameFaults as spec;
 ghost use Rattle.xdg_typing.specs.Listed as listing;
 
-use std::alloc::{AllocError, Global};
+use std::alloc::Global;
 use xdg_ast::{DimPart, DimPartKind, Statement, StatementKind};
-use xdg_base::Fault;
+use xdg_base::{Fault, OutOfMemory};
 use xdg_names::{Index, earlier};
 use xdg_types::repeated;
 
@@ -19,7 +19,7 @@ pub(crate) fn dims_again(
     alloc: Global,
     seen: &mut Index,
     statements: &[Statement],
-) -> Result<Option<Fault>, AllocError>
+) -> Result<Option<Fault>, OutOfMemory>
     ensures found { IfOk result (λ found. found ≡ first (spec.repeats seen.old (dim_names statements.now))) }
     ensures seen { IfOk result (λ _. seen.new ≡ spec.with_all seen.old (dim_names statements.now)) }
 {
@@ -34,7 +34,7 @@ fn dim_again(
     alloc: Global,
     seen: &mut Index,
     statement: &Statement,
-) -> Result<Option<Fault>, AllocError>
+) -> Result<Option<Fault>, OutOfMemory>
     ensures found { IfOk result (λ found. found ≡ first (spec.repeats seen.old (spec.dim_name statement.now.kind))) }
     ensures seen { IfOk result (λ _. seen.new ≡ spec.with_all seen.old (spec.dim_name statement.now.kind)) }
 {
@@ -49,7 +49,7 @@ pub(crate) fn used_again(
     alloc: Global,
     seen: &mut Index,
     statements: &[Statement],
-) -> Result<Option<Fault>, AllocError>
+) -> Result<Option<Fault>, OutOfMemory>
     ensures found { IfOk result (λ found. found ≡ first (spec.repeats seen.old (used_names statements.now))) }
     ensures seen { IfOk result (λ _. seen.new ≡ spec.with_all seen.old (used_names statements.now)) }
 {
@@ -64,7 +64,7 @@ fn use_again(
     alloc: Global,
     seen: &mut Index,
     statement: &Statement,
-) -> Result<Option<Fault>, AllocError>
+) -> Result<Option<Fault>, OutOfMemory>
     ensures found { IfOk result (λ found. found ≡ first (spec.repeats seen.old (used_name statement.now.kind))) }
     ensures seen { IfOk result (λ _. seen.new ≡ spec.with_all seen.old (used_name statement.now.kind)) }
 {
@@ -81,7 +81,7 @@ pub(crate) fn definitions_again(
     alloc: Global,
     seen: &mut Index,
     statements: &[Statement],
-) -> Result<Option<Fault>, AllocError>
+) -> Result<Option<Fault>, OutOfMemory>
     ensures found { IfOk result (λ found. found ≡ first (spec.repeats seen.old (defined_names statements.now))) }
     ensures seen { IfOk result (λ _. seen.new ≡ spec.with_all seen.old (defined_names statements.now)) }
 {
@@ -96,7 +96,7 @@ fn definitions_in(
     alloc: Global,
     seen: &mut Index,
     statement: &Statement,
-) -> Result<Option<Fault>, AllocError>
+) -> Result<Option<Fault>, OutOfMemory>
     ensures found { IfOk result (λ found. found ≡ first (spec.repeats seen.old (listing.defined_name statement.now.kind))) }
     ensures seen { IfOk result (λ _. seen.new ≡ spec.with_all seen.old (listing.defined_name statement.now.kind)) }
 {
@@ -110,7 +110,7 @@ fn definitions_by(
     alloc: Global,
     seen: &mut Index,
     parts: &[DimPart],
-) -> Result<Option<Fault>, AllocError>
+) -> Result<Option<Fault>, OutOfMemory>
     ensures found { IfOk result (λ found. found ≡ first (spec.repeats seen.old (listing.named_by parts.now))) }
     ensures seen { IfOk result (λ _. seen.new ≡ spec.with_all seen.old (listing.named_by parts.now)) }
 {
@@ -125,7 +125,7 @@ fn definition_again(
     alloc: Global,
     seen: &mut Index,
     part: &DimPart,
-) -> Result<Option<Fault>, AllocError>
+) -> Result<Option<Fault>, OutOfMemory>
     ensures found { IfOk result (λ found. found ≡ first (spec.repeats seen.old (listing.named_in part.now.kind))) }
     ensures seen { IfOk result (λ _. seen.new ≡ spec.with_all seen.old (listing.named_in part.now.kind)) }
 {

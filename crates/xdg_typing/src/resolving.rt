@@ -13,9 +13,9 @@ ghost use Rattle.xdg_types.specs.Table.{typed};
 ghost use Rattle.xdg_typing.specs.Heads.{Knows};
 
 use crate::definitions::Definitions;
-use std::alloc::{AllocError, Global};
+use std::alloc::Global;
 use xdg_ast::{Name, Pair, TypeKind, TypeTerm};
-use xdg_base::{Boxed, List, Text};
+use xdg_base::{Boxed, List, OutOfMemory, Text};
 use xdg_domain::Ty;
 
 /// How many parts the types of a grammar may have together, names followed: above, the answer is want of memory.
@@ -28,7 +28,7 @@ pub(crate) fn resolve<'a>(
     definitions: &Definitions<'a>,
     ty: &'a TypeTerm,
     room: u64,
-) -> Result<Ty, AllocError>
+) -> Result<Ty, OutOfMemory>
     requires { HasRoom definitions.now.names (map (λ head. head.now) definitions.now.heads.items) (λ names. parts (meaning names (tree ty.now.kind))) room }
     ensures { (names : Naming) → Knows names definitions.now.names (map (λ head. head.now) definitions.now.heads.items)
         → IfOk result (λ made. shape made ≡ meaning names (tree ty.now.kind)) }
@@ -43,7 +43,7 @@ fn resolve_form<'a>(
     definitions: &Definitions<'a>,
     form: &'a TypeKind,
     room: u64,
-) -> Result<Ty, AllocError>
+) -> Result<Ty, OutOfMemory>
     requires { HasRoom definitions.now.names (map (λ head. head.now) definitions.now.heads.items) (λ names. parts (meaning names (tree form.now))) (room + 1) }
     ensures { (names : Naming) → Knows names definitions.now.names (map (λ head. head.now) definitions.now.heads.items) → IsHead names (tree form.now)
         → IfOk result (λ made. shape made ≡ meaning names (tree form.now)) }
@@ -91,7 +91,7 @@ fn resolve_domain<'a>(
     definitions: &Definitions<'a>,
     ty: &'a TypeTerm,
     room: u64,
-) -> Result<Ty, AllocError>
+) -> Result<Ty, OutOfMemory>
     requires { HasRoom definitions.now.names (map (λ head. head.now) definitions.now.heads.items) (λ names. parts (meaning names (tree ty.now.kind))) room }
     ensures { (names : Naming) → Knows names definitions.now.names (map (λ head. head.now) definitions.now.heads.items)
         → IfOk result (λ made. shape made ≡ as_domain (meaning names (tree ty.now.kind))) }
@@ -110,7 +110,7 @@ fn resolve_domains<'a>(
     definitions: &Definitions<'a>,
     types: &'a [TypeTerm],
     room: u64,
-) -> Result<List<Ty>, AllocError>
+) -> Result<List<Ty>, OutOfMemory>
     requires { HasRoom definitions.now.names (map (λ head. head.now) definitions.now.heads.items) (λ names. all_parts names types.now) room }
     ensures { (names : Naming) → Knows names definitions.now.names (map (λ head. head.now) definitions.now.heads.items)
         → IfOk result (λ made. map shape made ≡ map (domain_meaning names) types.now) }
@@ -130,7 +130,7 @@ pub(crate) fn resolve_members<'a>(
     definitions: &Definitions<'a>,
     fields: &'a [Pair<TypeTerm>],
     room: u64,
-) -> Result<List<(Text, Ty)>, AllocError>
+) -> Result<List<(Text, Ty)>, OutOfMemory>
     requires { HasRoom definitions.now.names (map (λ head. head.now) definitions.now.heads.items) (λ names. all_parts names (field_types fields.now)) room }
     ensures { (names : Naming) → Knows names definitions.now.names (map (λ head. head.now) definitions.now.heads.items)
         → IfOk result (λ made. typed made ≡ map (field_meaning names) fields.now) }
@@ -149,7 +149,7 @@ pub(crate) fn resolve_attributes<'a>(
     definitions: &Definitions<'a>,
     fields: &'a [Pair<TypeTerm>],
     room: u64,
-) -> Result<List<(Text, Ty)>, AllocError>
+) -> Result<List<(Text, Ty)>, OutOfMemory>
     requires { HasRoom definitions.now.names (map (λ head. head.now) definitions.now.heads.items) (λ names. all_parts names (field_types fields.now)) room }
     ensures { (names : Naming) → Knows names definitions.now.names (map (λ head. head.now) definitions.now.heads.items)
         → IfOk result (λ made. typed made ≡ map (attribute_meaning names) fields.now) }
@@ -173,7 +173,7 @@ fn is_empty_record(ty: &Ty) -> bool
 }
 
 /// Copies of the texts of names.
-pub(crate) fn copies(alloc: Global, names: &[Name]) -> Result<List<Text>, AllocError>
+pub(crate) fn copies(alloc: Global, names: &[Name]) -> Result<List<Text>, OutOfMemory>
     ensures { IfOk result (λ made. made ≡ texts names.now) }
 {
     let mut all = List::new(alloc);

@@ -11,12 +11,12 @@ ghost use Rattle.xdg_types.specs.NameFaults.{repeated};
 
 use crate::definitions::Definitions;
 use crate::sizes::constants_of;
-use std::alloc::{AllocError, Global};
+use std::alloc::Global;
 use xdg_ast::{Name, TypeKind, TypeTerm};
-use xdg_base::{Cause, Fault};
+use xdg_base::{Cause, Fault, OutOfMemory};
 use xdg_names::{Index, earlier};
 
-fn add_constants(alloc: Global, seen: &mut Index, constants: &[Name]) -> Result<(), AllocError>
+fn add_constants(alloc: Global, seen: &mut Index, constants: &[Name]) -> Result<(), OutOfMemory>
     ensures { OnOk result (seen.new ≡ add_texts seen.old (texts constants.now)) }
 {
     for constant in constants {
@@ -40,11 +40,7 @@ fn check_constant(seen: &Index, constant: &Name) -> Option<Fault>
     ensures { result ≡ first (repeated seen.now constant.now) }
 {
     if seen.contains(constant.text.as_str()) {
-        Some(Fault {
-            cause: Cause::Twice,
-            at: constant.span.start,
-            reached: 0,
-        })
+        Some(Fault::at(Cause::Twice, constant.span.start))
     } else {
         None
     }
@@ -64,11 +60,7 @@ fn check_one(at: u32, shared: bool) -> Option<Fault>
     ensures { result ≡ first (one_fault at shared) }
 {
     if shared {
-        Some(Fault {
-            cause: Cause::Twice,
-            at,
-            reached: 0,
-        })
+        Some(Fault::at(Cause::Twice, at))
     } else {
         None
     }
@@ -92,7 +84,7 @@ fn check_fields<'a>(
     alloc: Global,
     definitions: &Definitions<'a>,
     types: &'a [TypeTerm],
-) -> Result<Option<Fault>, AllocError>
+) -> Result<Option<Fault>, OutOfMemory>
     ensures { (names : List ℕ → Shape) → Knows names definitions.now.names (map (λ head. head.now) definitions.now.heads.items)
         → IfOk result (λ found. found ≡ first (shared_in names [] (trees_in types.now))) }
 {
@@ -110,7 +102,7 @@ pub(crate) fn check_shared<'a>(
     alloc: Global,
     definitions: &Definitions<'a>,
     ty: &'a TypeTerm,
-) -> Result<Option<Fault>, AllocError>
+) -> Result<Option<Fault>, OutOfMemory>
     ensures { (names : List ℕ → Shape) → Knows names definitions.now.names (map (λ head. head.now) definitions.now.heads.items)
         → IfOk result (λ found. found ≡ first (shared_faults names (tree ty.now.kind))) }
 {

@@ -41,11 +41,7 @@ fn part_again(stood: Stood, part: &DimPart) -> Option<Fault>
     ensures { result ≡ first (listing.part_again stood part.now) }
 {
     if has_stood(stood, &part.kind) {
-        return Some(Fault {
-            cause: Cause::Twice,
-            at: part.span.start,
-            reached: 0,
-        });
+        return Some(Fault::at(Cause::Twice, part.span.start));
     }
     None
 }

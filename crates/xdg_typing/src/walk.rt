@@ -1,12 +1,12 @@
 //! The walk over what stands in a type.
 
 ghost use Rattle.std.specs.Prelude.{◌≡◌, ℕ, List, ◌∷◌, map, IfOk};
+ghost use Rattle.xdg_base.specs.Faults.{fault_at};
 ghost use Rattle.xdg_domain.specs.Shapes.{Shape};
 ghost use Rattle.xdg_names.specs.First.{first};
 ghost use Rattle.xdg_types.specs.Written.{tree};
 ghost use Rattle.xdg_base.specs.declared.faults.Cause.TheVariants as causes;
 ghost use Rattle.xdg_typing.specs.Heads.{Knows};
-ghost use Rattle.xdg_types.specs.Names.{fault_at};
 ghost use Rattle.xdg_types.specs.Kinds.{inside, inside_trees, inside_members};
 ghost use Rattle.xdg_typing.specs.KindFaults.{asked, trees_in, members_in, wrong_faults, kind_faults, alone_faults, site_faults, faults_in};
 
@@ -15,19 +15,15 @@ use crate::definitions::Definitions;
 use crate::shared::check_shared;
 use crate::sizes::{check_labels, check_size, check_width, constants_of};
 use crate::wanted::{Wanted, has_no_field, is_of_kind};
-use std::alloc::{AllocError, Global};
+use std::alloc::Global;
 use xdg_ast::{Pair, TypeKind, TypeTerm};
-use xdg_base::{Cause, Fault};
+use xdg_base::{Cause, Fault, OutOfMemory};
 use xdg_names::earlier;
 
 fn wrong_kind(at: u32) -> Option<Fault>
     ensures { result ≡ Some (fault_at causes.WrongKind at) }
 {
-    Some(Fault {
-        cause: Cause::WrongKind,
-        at,
-        reached: 0,
-    })
+    Some(Fault::at(Cause::WrongKind, at))
 }
 
 fn check_right(at: u32, right: bool, fieldless: bool) -> Option<Fault>
@@ -74,7 +70,7 @@ pub(crate) fn check_site<'a>(
     definitions: &Definitions<'a>,
     wanted: Wanted,
     ty: &'a TypeTerm,
-) -> Result<Option<Fault>, AllocError>
+) -> Result<Option<Fault>, OutOfMemory>
     ensures { (names : List ℕ → Shape) → Knows names definitions.now.names (map (λ head. head.now) definitions.now.heads.items)
         → IfOk result (λ found. found ≡ first (site_faults names (record { wanted = asked wanted; at = ty.now.span.start; written = tree ty.now.kind }))) }
 {
@@ -89,7 +85,7 @@ pub(crate) fn check_type<'a>(
     definitions: &Definitions<'a>,
     wanted: Wanted,
     ty: &'a TypeTerm,
-) -> Result<Option<Fault>, AllocError>
+) -> Result<Option<Fault>, OutOfMemory>
     ensures { (names : List ℕ → Shape) → Knows names definitions.now.names (map (λ head. head.now) definitions.now.heads.items)
         → IfOk result
         (λ found. found
@@ -106,7 +102,7 @@ pub(crate) fn check_inside<'a>(
     alloc: Global,
     definitions: &Definitions<'a>,
     kind: &'a TypeKind,
-) -> Result<Option<Fault>, AllocError>
+) -> Result<Option<Fault>, OutOfMemory>
     ensures { (names : List ℕ → Shape) → Knows names definitions.now.names (map (λ head. head.now) definitions.now.heads.items)
         → IfOk result (λ found. found ≡ first (faults_in names (inside (tree kind.now)))) }
 {
@@ -135,7 +131,7 @@ fn check_types<'a>(
     alloc: Global,
     definitions: &Definitions<'a>,
     types: &'a [TypeTerm],
-) -> Result<Option<Fault>, AllocError>
+) -> Result<Option<Fault>, OutOfMemory>
     ensures { (names : List ℕ → Shape) → Knows names definitions.now.names (map (λ head. head.now) definitions.now.heads.items)
         → IfOk result (λ found. found ≡ first (faults_in names (inside_trees (trees_in types.now)))) }
 {
@@ -155,7 +151,7 @@ pub(crate) fn check_members<'a>(
     definitions: &Definitions<'a>,
     wanted: Wanted,
     fields: &'a [Pair<TypeTerm>],
-) -> Result<Option<Fault>, AllocError>
+) -> Result<Option<Fault>, OutOfMemory>
     ensures { (names : List ℕ → Shape) → Knows names definitions.now.names (map (λ head. head.now) definitions.now.heads.items)
         → IfOk result (λ found. found ≡ first (faults_in names (inside_members (asked wanted) (members_in fields.now)))) }
 {

@@ -9,8 +9,9 @@ ghost use Rattle.xdg_typing.specs.Weights as spec;
 ghost use Rattle.xdg_typing.specs.Weights.{UsesFirst, WeighedBefore};
 ghost use Rattle.xdg_types.specs.Written.{tree};
 
-use std::alloc::{AllocError, Global};
+use std::alloc::Global;
 use xdg_ast::{Name, TypeKind, TypeTerm};
+use xdg_base::OutOfMemory;
 use xdg_names::Index;
 
 /// The weight of a type without types and constants in it.
@@ -71,7 +72,7 @@ pub(crate) fn weights(
     known: &Index,
     bodies: &[&TypeTerm],
     order: &[usize],
-) -> Result<Vec<u64>, AllocError>
+) -> Result<Vec<u64>, OutOfMemory>
     requires within { (i : ℕ) → i < length order.now → slice_index_or order.now i 0 < length bodies.now }
     requires first { UsesFirst known.now (map (λ body. body.now) bodies.now) order.now }
     ensures { IfOk result

@@ -1,18 +1,17 @@
 use Rattle.std.proofs.Common.{sym, subst}
-use Rattle.xdg_inputs.specs.Answers.{meaning_of}
-use Rattle.xdg_build.specs.Grammars.{grammar_of}
+use Rattle.xdg_inputs.specs.Answers.{grammar_in, meaning_of}
 use Rattle.xdg_io.specs.Left.{TakesAll}
 use Rattle.xdg_arrange.proofs.Listing.{input_found, input_quiet, input_read, input_stops, input_taken, long_stops}
 use Rattle.xdg_arrange.proofs.lists.read_list.Goals as goal
 
 pub returns-in-Err-TooLong-clause-refused : goal.returns-in-Err-TooLong-clause-refused
 returns-in-Err-TooLong-clause-refused g c =
-    long_stops c.args.expanded.now c.args.packed.now c.requires.packed c.args.segment (g.S.Source.left c.args.source.now) (g.S.Source.left c.read_all.new.source) (g.S.Source.faults c.args.source.now) (g.S.Source.faults c.read_all.new.source) c.in-Err-TooLong.field-0
+    long_stops c.args.expanded.now c.requires.lexicon c.args.segment (g.S.Source.left c.args.source.now) (g.S.Source.left c.read_all.new.source) (g.S.Source.faults c.args.source.now) (g.S.Source.faults c.read_all.new.source) c.in-Err-TooLong.field-0
     c.in-Err-TooLong.reached c.too_long.result c.in-Err-TooLong.ensures.reached c.in-Err-TooLong.field-0-is (rw c.in-Err-TooLong.field-0-is at c.too_long.ensures)
 
 pub returns-clause-found : goal.returns-clause-found
 returns-clause-found g c =
-    input_found (meaning_of c.args.expanded.now) c.args.segment (g.S.Source.left c.args.source.now) (g.S.Source.left c.read_all.new.source) c.deref.result.now (g.S.Source.faults c.args.source.now) (g.S.Source.faults c.read_all.new.source) (grammar_of c.args.expanded.now.checked c.args.packed.now) c.list_in.result
+    input_found (meaning_of c.args.expanded.now) c.args.segment (g.S.Source.left c.args.source.now) (g.S.Source.left c.read_all.new.source) c.deref.result.now (g.S.Source.faults c.args.source.now) (g.S.Source.faults c.read_all.new.source) (grammar_in c.args.expanded.now) c.list_in.result
     (subst (TakesAll (g.S.Source.left c.args.source.now) (g.S.Source.left c.read_all.new.source)) (sym c.deref.ensures.value) c.in-Ok.ensures.all) c.list_in.ensures.found
 
 pub returns-clause-refused : goal.returns-clause-refused

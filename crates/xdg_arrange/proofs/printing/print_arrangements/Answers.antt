@@ -7,22 +7,22 @@ use Rattle.xdg_arrange.proofs.Closing.{fails_done, fails_spent, leaves_done, lea
 use Rattle.xdg_arrange.proofs.Fronting.{memory_front}
 use Rattle.xdg_arrange.proofs.Going.{goes_first, goes_on, goes_whole}
 use Rattle.xdg_arrange.proofs.Passing.{arranged_said}
-use Rattle.xdg_build.specs.Grammars.{grammar_of}
+use Rattle.xdg_inputs.specs.Answers.{grammar_in}
 use Rattle.xdg_arrange.proofs.printing.print_arrangements.Goals as goal
 
 pub returns-in_default-clause-leaves : goal.returns-in_default-clause-leaves
 returns-in_default-clause-leaves g c =
-    let listed : Listed = record { grammar = grammar_of c.args.expanded.now.checked c.args.packed.now; words = c.args.words.now } in
+    let listed : Listed = record { grammar = grammar_in c.args.expanded.now; words = c.args.words.now } in
     memory_front (AreArranged c.args.budget listed) (g.K.Sink.held c.args.out.now) (arranged_said c.args.budget listed)
 
 pub returns-in_default-of-clause-leaves : goal.returns-in_default-of-clause-leaves
 returns-in_default-of-clause-leaves g c =
-    let listed : Listed = record { grammar = grammar_of c.args.expanded.now.checked c.args.packed.now; words = c.args.words.now } in
+    let listed : Listed = record { grammar = grammar_in c.args.expanded.now; words = c.args.words.now } in
     memory_front (AreArranged c.args.budget listed) (g.K.Sink.held c.args.out.now) (arranged_said c.args.budget listed)
 
 pub next-init : goal.next-init
 next-init g c =
-    let listed : Listed = record { grammar = grammar_of c.args.expanded.now.checked c.args.packed.now; words = c.args.words.now } in
+    let listed : Listed = record { grammar = grammar_in c.args.expanded.now; words = c.args.words.now } in
     record {
       goes = goes_first c.args.budget listed c.in-Ok-of.arrangements (g.K.Sink.held c.args.out.now) c.in-Ok-of.ensures.seen.0 c.in-Ok-of.ensures.passed;
       stock = c.in-Ok.ensures;
@@ -33,13 +33,13 @@ next-init g c =
 
 pub returns-then-is_err-clause-leaves : goal.returns-then-is_err-clause-leaves
 returns-then-is_err-clause-leaves g c =
-    let listed : Listed = record { grammar = grammar_of c.args.expanded.now.checked c.args.packed.now; words = c.args.words.now } in
+    let listed : Listed = record { grammar = grammar_in c.args.expanded.now; words = c.args.words.now } in
     fails_done c.args.budget listed c.next.arrangements c.advance.new.self c.next.printed c.next._turn (g.K.Sink.held c.args.out.now) (g.K.Sink.held c.next.out) (g.K.Sink.held c.write_complete-written.new.sink) c.next.invariant.goes c.if-not-advance.ensures
     (failed_of c.write_complete-written.result _ (sym c.is_err.ensures.value ∙ c.if-is_err.true) c.write_complete-written.ensures.front)
 
 pub returns-then-not-advance-clause-leaves : goal.returns-then-not-advance-clause-leaves
 returns-then-not-advance-clause-leaves g c =
-    let listed : Listed = record { grammar = grammar_of c.args.expanded.now.checked c.args.packed.now; words = c.args.words.now } in
+    let listed : Listed = record { grammar = grammar_in c.args.expanded.now; words = c.args.words.now } in
     leaves_done c.args.budget listed c.next.arrangements c.advance.new.self c.next.printed c.next._turn (g.K.Sink.held c.args.out.now) (g.K.Sink.held c.next.out) (g.K.Sink.held c.write_complete-written.new.sink) c.next.invariant.goes c.if-not-advance.ensures
     (done_of c.write_complete-written.result _ (sym c.is_err.ensures.value ∙ c.if-is_err.false) c.write_complete-written.ensures.all)
 
@@ -60,7 +60,7 @@ with_printed-requires g c = let few = c.next.invariant.goes.going.few in let mor
 -- the next one is looked for
 pub next-preserved : goal.next-preserved
 next-preserved g c =
-    let listed : Listed = record { grammar = grammar_of c.args.expanded.now.checked c.args.packed.now; words = c.args.words.now } in
+    let listed : Listed = record { grammar = grammar_in c.args.expanded.now; words = c.args.words.now } in
     let old = g.K.Sink.held c.args.out.now in
     let now = g.K.Sink.held c.next.out in
     let reached = goes_on c.args.budget listed c.next.arrangements c.advance.new.self c.next.printed c.next._turn old now c.next.invariant.goes c.if-not-advance.ensures c.view.result.now c.view.ensures in
@@ -77,7 +77,7 @@ next-preserved g c =
 
 pub returns-then-is_err-2-clause-leaves : goal.returns-then-is_err-2-clause-leaves
 returns-then-is_err-2-clause-leaves g c =
-    let listed : Listed = record { grammar = grammar_of c.args.expanded.now.checked c.args.packed.now; words = c.args.words.now } in
+    let listed : Listed = record { grammar = grammar_in c.args.expanded.now; words = c.args.words.now } in
     let old = g.K.Sink.held c.args.out.now in
     let now = g.K.Sink.held c.next.out in
     let reached = goes_on c.args.budget listed c.next.arrangements c.advance.new.self c.next.printed c.next._turn old now c.next.invariant.goes c.if-not-advance.ensures c.view.result.now c.view.ensures in
@@ -87,7 +87,7 @@ returns-then-is_err-2-clause-leaves g c =
 
 pub returns-in-Spent-clause-leaves : goal.returns-in-Spent-clause-leaves
 returns-in-Spent-clause-leaves g c =
-    let listed : Listed = record { grammar = grammar_of c.args.expanded.now.checked c.args.packed.now; words = c.args.words.now } in
+    let listed : Listed = record { grammar = grammar_in c.args.expanded.now; words = c.args.words.now } in
     let old = g.K.Sink.held c.args.out.now in
     let now = g.K.Sink.held c.next.out in
     let reached = goes_on c.args.budget listed c.next.arrangements c.advance.new.self c.next.printed c.next._turn old now c.next.invariant.goes c.if-not-advance.ensures c.view.result.now c.view.ensures in
@@ -99,7 +99,7 @@ returns-in-Spent-clause-leaves g c =
 
 pub returns-in-Failed-clause-leaves : goal.returns-in-Failed-clause-leaves
 returns-in-Failed-clause-leaves g c =
-    let listed : Listed = record { grammar = grammar_of c.args.expanded.now.checked c.args.packed.now; words = c.args.words.now } in
+    let listed : Listed = record { grammar = grammar_in c.args.expanded.now; words = c.args.words.now } in
     let old = g.K.Sink.held c.args.out.now in
     let now = g.K.Sink.held c.next.out in
     let reached = goes_on c.args.budget listed c.next.arrangements c.advance.new.self c.next.printed c.next._turn old now c.next.invariant.goes c.if-not-advance.ensures c.view.result.now c.view.ensures in
@@ -107,7 +107,7 @@ returns-in-Failed-clause-leaves g c =
 
 pub returns-in-OutOfMemory-clause-leaves : goal.returns-in-OutOfMemory-clause-leaves
 returns-in-OutOfMemory-clause-leaves g c =
-    let listed : Listed = record { grammar = grammar_of c.args.expanded.now.checked c.args.packed.now; words = c.args.words.now } in
+    let listed : Listed = record { grammar = grammar_in c.args.expanded.now; words = c.args.words.now } in
     let old = g.K.Sink.held c.args.out.now in
     let now = g.K.Sink.held c.next.out in
     let reached = goes_on c.args.budget listed c.next.arrangements c.advance.new.self c.next.printed c.next._turn old now c.next.invariant.goes c.if-not-advance.ensures c.view.result.now c.view.ensures in
@@ -115,5 +115,5 @@ returns-in-OutOfMemory-clause-leaves g c =
 
 pub returns-clause-leaves : goal.returns-clause-leaves
 returns-clause-leaves g c =
-    let listed : Listed = record { grammar = grammar_of c.args.expanded.now.checked c.args.packed.now; words = c.args.words.now } in
+    let listed : Listed = record { grammar = grammar_in c.args.expanded.now; words = c.args.words.now } in
     leaves_going c.args.budget listed c.next.arrangements c.next.printed c.next._turn (g.K.Sink.held c.args.out.now) (g.K.Sink.held c.next.out) c.next.invariant.goes

@@ -20,7 +20,7 @@ returns-in-Ok-clause-leaves g c files content told given =
     accepted_leaves CostLists statuses.BadCosts (HasBadCosts files o.costs m.table (length m.entries)) (HasCosts files o.costs m.table (length m.entries)) (CostedThen o content m) c.in-Ok.costs c.best_costed.result _ _
     (subst (λ (n : List ℕ). Accepts CostLists (HasBadCosts files n m.table (length m.entries)) (HasCosts files n m.table (length m.entries)) c.in-Ok.costs) c.as_str.ensures
     (subst (λ (t : Table). Accepts CostLists (HasBadCosts files c.as_str.result.now t (length m.entries)) (HasCosts files c.as_str.result.now t (length m.entries)) c.in-Ok.costs) c.types.ensures.same
-    (subst (λ (k : ℕ). Accepts CostLists (HasBadCosts files c.as_str.result.now c.types.result.now k) (HasCosts files c.as_str.result.now c.types.result.now k) c.in-Ok.costs) c.len-entries.ensures found)))
+    (subst (λ (k : ℕ). Accepts CostLists (HasBadCosts files c.as_str.result.now c.types.result.now k) (HasCosts files c.as_str.result.now c.types.result.now k) c.in-Ok.costs) c.len-entries.ensures.len found)))
     (c.best_costed.ensures.leaves content given)
 
 pub returns-in-Err-clause-leaves : goal.returns-in-Err-clause-leaves
@@ -33,7 +33,7 @@ returns-in-Err-clause-leaves g c files content told given =
     stopped_leaves CostLists statuses.BadCosts (HasBadCosts files o.costs m.table (length m.entries)) (HasCosts files o.costs m.table (length m.entries)) (CostedThen o content m) Told old new c.refuse.result c.in-Err.refusal _ _ told (λ e. e)
     (subst (λ (n : List ℕ). Stops Told old new CostLists (HasBadCosts files n m.table (length m.entries)) (HasCosts files n m.table (length m.entries)) c.in-Err.refusal) c.as_str.ensures
     (subst (λ (t : Table). Stops Told old new CostLists (HasBadCosts files c.as_str.result.now t (length m.entries)) (HasCosts files c.as_str.result.now t (length m.entries)) c.in-Err.refusal) c.types.ensures.same
-    (subst (λ (k : ℕ). Stops Told old new CostLists (HasBadCosts files c.as_str.result.now c.types.result.now k) (HasCosts files c.as_str.result.now c.types.result.now k) c.in-Err.refusal) c.len-entries.ensures (c.in-Err.ensures.refused files))))
+    (subst (λ (k : ℕ). Stops Told old new CostLists (HasBadCosts files c.as_str.result.now c.types.result.now k) (HasCosts files c.as_str.result.now c.types.result.now k) c.in-Err.refusal) c.len-entries.ensures.len (c.in-Err.ensures.refused files))))
     c.refuse.ensures.written
 
 pub returns-in-Ok-clause-shelf_quiet : goal.returns-in-Ok-clause-shelf_quiet

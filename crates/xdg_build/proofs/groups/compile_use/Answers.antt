@@ -14,30 +14,32 @@ attrs-requires c = subst (All IsSmallArg) (sym c.as_slice-args.ensures) (small_a
 
 pub all_features-requires-clause-dim : goal.all_features-requires-clause-dim
 all_features-requires-clause-dim c =
-    wide (grammar_of c.args.checked.now c.args.packed.now) c.args.one.now c.used-used.result.now c.as_slice.result.now c.principle_called-principle.result c.as_str.result.now c.feature_place-dim.result
-    c.requires.typed c.requires.used c.requires.lexicon (c.used-used.ensures.same ∙ ap (λ (t : Table). t.used) c.types.ensures.same) c.as_slice.ensures c.as_str.ensures c.principle_called-principle.ensures c.feature_place-dim.ensures
+    wide (grammar_of c.args.checked.now c.args.packed.now) c.args.one.now c.feature_place-dim.result c.requires.typed c.requires.used c.requires.lexicon
+    (dim_is (grammar_of c.args.checked.now c.args.packed.now) c.args.one.now _ _ _
+    (c.used-used.ensures.same ∙ ap (λ (t : Table). t.used) c.types.ensures.same) c.as_slice.ensures c.feature_place-dim.ensures)
 
 pub returns-clause-group : goal.returns-clause-group
 returns-clause-group c =
-    made_group (grammar_of c.args.checked.now c.args.packed.now) c.args.candidates.now c.args.one.now c.principle_called-principle.result c.as_str.result.now c.as_slice.result.now c.as_slice-3.result.now c.in_ok-places.places c.as_slice-args.result.now
-    c.used-used.result.now c.feature_place-dim.result c.in_ok-dims_in.field-0 c.in_ok-attrs.field-0 c.in_ok-labels.field-0 c.in_ok-truths.field-0 c.in_ok-feats.feats
-    (c.used-used.ensures.same ∙ ap (λ (t : Table). t.used) c.types.ensures.same) c.as_slice.ensures c.as_slice-3.ensures c.as_str.ensures c.as_slice-args.ensures c.principle_called-principle.ensures c.feature_place-dim.ensures
+    made_group (grammar_of c.args.checked.now c.args.packed.now) c.args.candidates.now c.args.one.now _ _ _ _ _ _ _ _ _ _ _ c.in_ok-copy.ensures
+    (c.used-used.ensures.same ∙ ap (λ (t : Table). t.used) c.types.ensures.same) c.as_slice-3.ensures c.as_slice-args.ensures
+    (dim_is (grammar_of c.args.checked.now c.args.packed.now) c.args.one.now _ _ _
+    (c.used-used.ensures.same ∙ ap (λ (t : Table). t.used) c.types.ensures.same) c.as_slice.ensures c.feature_place-dim.ensures)
     c.in_ok-dims_in.ensures c.in_ok-attrs.ensures c.in_ok-labels.ensures c.in_ok-truths.ensures c.in_ok-places.ensures
     (c.in_ok-feats.ensures.features ∙ ap (λ ps. map (features_by_number c.args.packed.now.entries c.feature_place-dim.result ps) c.args.candidates.now) c.as_slice-2.ensures)
 
 pub all_features-requires-clause-kept : goal.all_features-requires-clause-kept
 all_features-requires-clause-kept c =
     known_of (grammar_of c.args.checked.now c.args.packed.now) c.args.one.now c.feature_place-dim.result c.as_slice-2.result.now c.args.kept.now.entries
-    (dim_is (grammar_of c.args.checked.now c.args.packed.now) c.args.one.now c.used-used.result.now c.as_slice.result.now c.principle_called-principle.result c.as_str.result.now c.feature_place-dim.result
-    (c.used-used.ensures.same ∙ ap (λ (t : Table). t.used) c.types.ensures.same) c.as_slice.ensures c.as_str.ensures c.principle_called-principle.ensures c.feature_place-dim.ensures)
+    (dim_is (grammar_of c.args.checked.now c.args.packed.now) c.args.one.now _ _ _
+    (c.used-used.ensures.same ∙ ap (λ (t : Table). t.used) c.types.ensures.same) c.as_slice.ensures c.feature_place-dim.ensures)
     (c.as_slice-2.ensures ∙ c.in_ok-places.ensures ∙ ap (flat_map features_in) c.as_slice-args.ensures)
     c.requires.kept
 
 pub returns-clause-kept : goal.returns-clause-kept
 returns-clause-kept c =
     known_for (grammar_of c.args.checked.now c.args.packed.now) c.args.one.now c.feature_place-dim.result c.as_slice-2.result.now c.all_features.new.kept.entries
-    (dim_is (grammar_of c.args.checked.now c.args.packed.now) c.args.one.now c.used-used.result.now c.as_slice.result.now c.principle_called-principle.result c.as_str.result.now c.feature_place-dim.result
-    (c.used-used.ensures.same ∙ ap (λ (t : Table). t.used) c.types.ensures.same) c.as_slice.ensures c.as_str.ensures c.principle_called-principle.ensures c.feature_place-dim.ensures)
+    (dim_is (grammar_of c.args.checked.now c.args.packed.now) c.args.one.now _ _ _
+    (c.used-used.ensures.same ∙ ap (λ (t : Table). t.used) c.types.ensures.same) c.as_slice.ensures c.feature_place-dim.ensures)
     (c.as_slice-2.ensures ∙ c.in_ok-places.ensures ∙ ap (flat_map features_in) c.as_slice-args.ensures)
     c.in_ok-feats.ensures.kept
 

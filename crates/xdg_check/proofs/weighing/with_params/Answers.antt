@@ -1,7 +1,7 @@
 use Rattle.std.proofs.Common.{◌+◌, take}
 use Rattle.std.specs.List.{sum_by}
 use Rattle.xdg_check.specs.Weights.{param_bytes}
-use Rattle.xdg_check.proofs.LeftOut.{count_next, count_more, count_end, count_over}
+use Rattle.xdg_check.proofs.LeftOut.{count_next, count_more, count_end}
 use Rattle.xdg_check.proofs.weighing.with_params.Goals as goal
 
 pub loop-param-preserved : goal.loop-param-preserved

@@ -1,8 +1,7 @@
 use Rattle.std.proofs.Common.{◌≡◌, subst}
-use Rattle.xdg_inputs.specs.Answers.{meaning_of}
+use Rattle.xdg_inputs.specs.Answers.{grammar_in, meaning_of}
 use Rattle.xdg_inputs.specs.Refusals.{refusal_of}
 use Rattle.xdg_build.specs.Stocks.{IsStock}
-use Rattle.xdg_build.specs.Grammars.{grammar_of}
 use Rattle.xdg_corpus.proofs.Grouping.{asked_added, refused_added, stays_at_text, words_refused}
 use Rattle.xdg_corpus.proofs.group.add_line.Goals as goal
 
@@ -16,4 +15,4 @@ returns-in-Text-clause-lines c =
 
 pub returns-in-Text-clause-stock : goal.returns-in-Text-clause-stock
 returns-in-Text-clause-stock c =
-    stays_at_text (IsStock (grammar_of c.args.expanded.now.checked c.args.packed.now) c.job_of.new.stock) c.refuse.result c.as_bytes.result.now c.in-Err.stop c.stopped_in.result c.in-Text.fault c.in-Text.place c.in-Err.ensures.stock c.stopped_in.ensures c.in-Text.is
+    stays_at_text (IsStock (grammar_in c.args.expanded.now) c.job_of.new.stock) c.refuse.result c.as_bytes.result.now c.in-Err.stop c.stopped_in.result c.in-Text.fault c.in-Text.place c.in-Err.ensures.stock c.stopped_in.ensures c.in-Text.is

@@ -2,12 +2,11 @@ use Rattle.std.proofs.Common.{◌≡◌, ◌<◌, ◌+◌, length, refl, sym, �
 use Rattle.std.specs.List.{AllZip}
 use Rattle.std.proofs.lemmas.Bool.{eqb-true}
 use Rattle.std.proofs.lemmas.Result.{IfOk-at_ok}
-use Rattle.xdg_build.specs.Grammars.{grammar_of}
 use Rattle.xdg_build.specs.Stocks.{IsStock}
 use Rattle.xdg_corpus.specs.Groups.{TakesLines}
 use Rattle.xdg_corpus.specs.Outcomes.{AreSearched}
 use Rattle.xdg_split.proofs.Ending.{done_of, failed_of}
-use Rattle.xdg_inputs.specs.Answers.{meaning_of}
+use Rattle.xdg_inputs.specs.Answers.{grammar_in, meaning_of}
 use Rattle.xdg_split.specs.Answers.{IsAnswer}
 use Rattle.xdg_corpus.proofs.Parting.{memory_part}
 use Rattle.xdg_corpus.proofs.Searching.{PrintedSoFar, numbers, printed_all, printed_front, printed_group, printed_none, printed_part, rest_within}
@@ -54,7 +53,7 @@ loop-rest-preserved g c = (
   subst (λ n. PrintedSoFar (meaning_of c.args.expanded.now) c.args.options.now c.args.text.now c.loop-rest.rest.now (c.loop-rest.number + n) (g.K.Sink.held c.args.out.now) (g.K.Sink.held c.write_group-written.new.out)) (let same : length c.as_slice.result.now ≡ c.len.result = search rules in same)
       (printed_group (meaning_of c.args.expanded.now) c.args.options.now c.args.text.now c.loop-rest.from.now c.loop-rest.rest.now c.loop-rest.number c.loop-rest.group c.as_slice-jobs.result.now c.as_slice.result.now c.as_slice-in-loop-rest.result.now c.loop-rest.invariant.6 c.as_slice-jobs.ensures.value c.as_slice.ensures.value (subst (AllZip IsAnswer c.as_slice-jobs.result.now) (sym c.as_slice-in-loop-rest.ensures) (IfOk-at_ok (AllZip IsAnswer c.as_slice-jobs.result.now) c.in-Ok-answered.is c.answer_and_take-answered.ensures.answers)) (g.K.Sink.held c.args.out.now) (g.K.Sink.held c.loop-rest.out) (g.K.Sink.held c.write_group-written.new.out) c.loop-rest.invariant.2 (done_of c.write_group-written.result _ (sym c.is_err.ensures.value ∙ c.if-is_err.false) c.write_group-written.ensures.all)),
   done_of c.write_group-written.result _ (sym c.is_err.ensures.value ∙ c.if-is_err.false) c.write_group-written.ensures.quiet ∙ c.loop-rest.invariant.3,
-  IfOk-at_ok (λ made. IsStock (grammar_of c.args.expanded.now.checked c.args.packed.now) made.2) c.in-Ok-taken.is c.answer_and_take-answered.ensures.stock,
+  IfOk-at_ok (λ made. IsStock (grammar_in c.args.expanded.now) made.2) c.in-Ok-taken.is c.answer_and_take-answered.ensures.stock,
   search rules,
   IfOk-at_ok (λ made. TakesLines (meaning_of c.args.expanded.now) c.args.options.now c.loop-rest.rest.now made.0 made.1.now) c.in-Ok-taken.is c.answer_and_take-answered.ensures.takes,
   IfOk-at_ok (λ made. 0 < length c.loop-rest.rest.now → length made.1.now < length c.loop-rest.rest.now) c.in-Ok-taken.is c.answer_and_take-answered.ensures.some,

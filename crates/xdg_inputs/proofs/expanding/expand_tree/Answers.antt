@@ -11,17 +11,17 @@ returns-in-Err-check-clause-tells c = check_tells c.args.tree c.in-Ok.table c.in
 pub returns-in-Err-check-clause-only : goal.returns-in-Err-check-clause-only
 returns-in-Err-check-clause-only c = check_only_tell c.args.tree c.in-Ok.table c.in-Err-check.stop c.in-Ok.ensures.only c.in-Err-check.ensures.only
 
-pub returns-in-Ok-expand-clause-tells : goal.returns-in-Ok-expand-clause-tells
-returns-in-Ok-expand-clause-tells c = made_tells c.args.tree c.in-Ok.table c.in-Ok-check.checked c.in-Ok-expand.entries c.in-Ok.ensures.tells c.in-Ok-check.ensures.tells c.in-Ok-expand.ensures.tells
+pub returns-in-Ok-lexicon-clause-tells : goal.returns-in-Ok-lexicon-clause-tells
+returns-in-Ok-lexicon-clause-tells c = made_tells c.args.tree c.in-Ok.table c.in-Ok-check.checked c.in-Ok-lexicon.lexicon.entries c.in-Ok.ensures.tells c.in-Ok-check.ensures.tells c.in-Ok-lexicon.ensures.tells
 
-pub returns-in-Ok-expand-clause-only : goal.returns-in-Ok-expand-clause-only
-returns-in-Ok-expand-clause-only c = made_only c.args.tree c.in-Ok.table c.in-Ok-check.checked c.in-Ok-expand.entries c.in-Ok.ensures.only c.in-Ok-check.ensures.only c.in-Ok-expand.ensures.only
+pub returns-in-Ok-lexicon-clause-only : goal.returns-in-Ok-lexicon-clause-only
+returns-in-Ok-lexicon-clause-only c = made_only c.args.tree c.in-Ok.table c.in-Ok-check.checked c.in-Ok-lexicon.lexicon c.in-Ok.ensures.only c.in-Ok-check.ensures.only c.in-Ok-lexicon.ensures.only
 
-pub returns-in-Ok-expand-clause-classes : goal.returns-in-Ok-expand-clause-classes
-returns-in-Ok-expand-clause-classes c = as_many_classes c.args.tree c.in-Ok.table c.in-Ok-check.checked c.in-Ok-check.ensures.tells
+pub returns-in-Ok-lexicon-clause-classes : goal.returns-in-Ok-lexicon-clause-classes
+returns-in-Ok-lexicon-clause-classes c = as_many_classes c.args.tree c.in-Ok.table c.in-Ok-check.checked c.in-Ok-check.ensures.tells
 
-pub returns-in-Err-expand-clause-tells : goal.returns-in-Err-expand-clause-tells
-returns-in-Err-expand-clause-tells c = expand_tells c.args.tree c.in-Ok.table c.in-Ok-check.checked c.in-Err-expand.stop c.in-Ok.ensures.tells c.in-Ok-check.ensures.tells c.in-Err-expand.ensures.tells
+pub returns-in-Err-lexicon-clause-tells : goal.returns-in-Err-lexicon-clause-tells
+returns-in-Err-lexicon-clause-tells c = expand_tells c.args.tree c.in-Ok.table c.in-Ok-check.checked c.in-Err-lexicon.stop c.in-Ok.ensures.tells c.in-Ok-check.ensures.tells c.in-Err-lexicon.ensures.tells
 
-pub returns-in-Err-expand-clause-only : goal.returns-in-Err-expand-clause-only
-returns-in-Err-expand-clause-only c = expand_only_tell c.args.tree c.in-Ok.table c.in-Ok-check.checked c.in-Err-expand.stop c.in-Ok.ensures.only c.in-Ok-check.ensures.only c.in-Err-expand.ensures.only
+pub returns-in-Err-lexicon-clause-only : goal.returns-in-Err-lexicon-clause-only
+returns-in-Err-lexicon-clause-only c = expand_only_tell c.args.tree c.in-Ok.table c.in-Ok-check.checked c.in-Err-lexicon.stop c.in-Ok.ensures.only c.in-Ok-check.ensures.only c.in-Err-lexicon.ensures.only

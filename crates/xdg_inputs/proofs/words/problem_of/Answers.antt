@@ -1,13 +1,13 @@
-use Rattle.xdg_build.specs.Grammars.{grammar_of}
+use Rattle.xdg_inputs.specs.Answers.{grammar_in}
 use Rattle.xdg_inputs.proofs.Wording.{built_accepted, built_stops, made_of}
 use Rattle.xdg_inputs.proofs.words.problem_of.Goals as goal
 
 pub returns-clause-found : goal.returns-clause-found
 returns-clause-found c =
-    built_accepted c.args.expanded.now c.args.packed.now c.requires.packed c.args.segment c.args.text.now c.in-Ok.words c.build.result c.in-Ok.ensures.words c.build.ensures.compiled c.build.ensures.sentence c.build.ensures.keeps
+    built_accepted c.args.expanded.now c.requires.lexicon c.args.segment c.args.text.now c.in-Ok.words c.build.result c.in-Ok.ensures.words c.build.ensures.compiled c.build.ensures.sentence c.build.ensures.keeps
 
 pub returns-clause-refused : goal.returns-clause-refused
-returns-clause-refused c = built_stops c.args.expanded.now c.args.packed.now c.requires.packed c.args.segment c.args.text.now c.in-Ok.words c.build.result c.in-Ok.ensures.words c.build.ensures.refused
+returns-clause-refused c = built_stops c.args.expanded.now c.requires.lexicon c.args.segment c.args.text.now c.in-Ok.words c.build.result c.in-Ok.ensures.words c.build.ensures.refused
 
 pub returns-clause-made : goal.returns-clause-made
-returns-clause-made c = made_of (grammar_of c.args.expanded.now.checked c.args.packed.now) c.in-Ok.words c.build.result c.build.ensures.compiled
+returns-clause-made c = made_of (grammar_in c.args.expanded.now) c.in-Ok.words c.build.result c.build.ensures.compiled

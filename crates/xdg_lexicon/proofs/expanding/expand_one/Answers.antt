@@ -1,8 +1,10 @@
 use Rattle.std.proofs.Common.{Err, refl, sym, ap, ◌∙◌, subst}
 use Rattle.std.proofs.lemmas.Result.{err_from_is_err_and}
+use Rattle.xdg_lexicon.specs.Answers.{answer_of}
 use Rattle.xdg_lexicon.specs.Expanding.{so_far}
-use Rattle.xdg_lexicon.specs.Sources.{source_of}
+use Rattle.xdg_lexicon.specs.Growing.{entries_in}
 use Rattle.xdg_lexicon.specs.Lexicon.{SoFar}
+use Rattle.xdg_lexicon.specs.Sources.{source_of}
 use Rattle.xdg_lexicon.specs.Steps.{one_of, ExpandsOne}
 use Rattle.xdg_lexicon.proofs.Stepping.{counts_refuse, adding_refuses, one_expanded, few_sums}
 use Rattle.xdg_lexicon.proofs.expanding.expand_one.Goals as goal
@@ -10,26 +12,25 @@ use Rattle.xdg_lexicon.proofs.expanding.expand_one.Goals as goal
 pub returns-in_err-uses-clause-expands : goal.returns-in_err-uses-clause-expands
 returns-in_err-uses-clause-expands c =
     let p = err_from_is_err_and c.from_residual.result c.from_residual.ensures.1 in
-    let before = so_far c.args.expanding.now in
-    subst (ExpandsOne (source_of c.args.checked.now) before (one_of c.args.def.now) before) (sym (p.1 ∙ ap Err p.2))
-    (counts_refuse (source_of c.args.checked.now) before (one_of c.args.def.now) before c.in_err-uses.field-0.0 (c.in_err-uses.ensures before refl refl))
+    let before = so_far c.args.expanding in
+    subst (λ r. ExpandsOne (source_of c.args.checked.now) before (one_of c.args.def.now) (answer_of so_far r)) (sym (p.1 ∙ ap Err p.2))
+    (counts_refuse (source_of c.args.checked.now) before (one_of c.args.def.now) c.in_err-uses.field-0.0 (c.in_err-uses.ensures before refl refl))
 
-pub returns-in_err-add_one-clause-expands : goal.returns-in_err-add_one-clause-expands
-returns-in_err-add_one-clause-expands c =
-    let p = err_from_is_err_and c.from_residual-in_err-add_one.result c.from_residual-in_err-add_one.ensures.1 in
-    let before = so_far c.args.expanding.now in
-    let after : SoFar = record { uses = c.args.expanding.now.uses; combos = c.args.expanding.now.combos; entries = c.add_one.new.growing.entries } in
-    subst (ExpandsOne (source_of c.args.checked.now) before (one_of c.args.def.now) after) (sym (p.1 ∙ ap Err p.2))
-    (adding_refuses (source_of c.args.checked.now) before (one_of c.args.def.now) after (c.in_ok-uses.uses, c.in_ok-uses.combos) c.add_one.new.growing.entries c.in_err-add_one.field-0.0 (c.in_ok-uses.ensures before refl refl) (c.in_err-add_one.ensures.adds before refl))
+pub returns-in_err-growing-clause-expands : goal.returns-in_err-growing-clause-expands
+returns-in_err-growing-clause-expands c =
+    let p = err_from_is_err_and c.from_residual-in_err-growing.result c.from_residual-in_err-growing.ensures.1 in
+    let before = so_far c.args.expanding in
+    subst (λ r. ExpandsOne (source_of c.args.checked.now) before (one_of c.args.def.now) (answer_of so_far r)) (sym (p.1 ∙ ap Err p.2))
+    (adding_refuses (source_of c.args.checked.now) before (one_of c.args.def.now) (c.in_ok-uses.uses, c.in_ok-uses.combos) c.in_err-growing.field-0.0 (c.in_ok-uses.ensures before refl refl) (c.in_err-growing.ensures.adds before refl))
 
 pub returns-clause-right : goal.returns-clause-right
 returns-clause-right c =
-    let before = so_far c.args.expanding.now in
+    let before = so_far c.args.expanding in
     let few = few_sums (source_of c.args.checked.now) before (one_of c.args.def.now) (c.in_ok-uses.uses, c.in_ok-uses.combos) (c.in_ok-uses.ensures before refl refl) in
-    record { growing = c.in_ok-add_one.ensures.right; few_uses = few.0; few_combos = few.1 }
+    record { growing = c.in_ok-growing.ensures.right; few_uses = few.0; few_combos = few.1 }
 
 pub returns-clause-expands : goal.returns-clause-expands
 returns-clause-expands c =
-    let before = so_far c.args.expanding.now in
-    let after : SoFar = record { uses = c.in_ok-uses.uses; combos = c.in_ok-uses.combos; entries = c.add_one.new.growing.entries } in
-    one_expanded (source_of c.args.checked.now) before (one_of c.args.def.now) after (c.in_ok-uses.uses, c.in_ok-uses.combos) (c.in_ok-uses.ensures before refl refl) (c.in_ok-add_one.ensures.adds before refl) refl refl
+    let before = so_far c.args.expanding in
+    let after : SoFar = record { uses = c.in_ok-uses.uses; combos = c.in_ok-uses.combos; entries = entries_in c.in_ok-growing.growing } in
+    one_expanded (source_of c.args.checked.now) before (one_of c.args.def.now) after (c.in_ok-uses.ensures before refl refl) (c.in_ok-growing.ensures.adds before refl)

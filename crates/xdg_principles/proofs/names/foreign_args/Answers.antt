@@ -1,11 +1,11 @@
 use Rattle.std.proofs.Common.{refl, ap, ◌∙◌}
 use Rattle.std.specs.List.{flat_map}
 use Rattle.std.specs.Prelude.{[], ◌∷◌, if◌then◌else◌}
+use Rattle.xdg_base.specs.Faults.{fault_at}
 use Rattle.xdg_base.specs.declared.faults.Cause.TheVariants as causes
 use Rattle.xdg_names.specs.First.{first}
 use Rattle.xdg_names.proofs.First.{first_turn}
 use Rattle.xdg_names.specs.Texts.{has_text}
-use Rattle.xdg_types.specs.Names.{fault_at}
 use Rattle.xdg_principles.specs.Names.{arg_keys}
 use Rattle.xdg_principles.specs.NameFaults as spec
 use Rattle.xdg_types.specs.Parts.{keys}

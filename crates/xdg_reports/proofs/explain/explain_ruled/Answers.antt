@@ -11,28 +11,28 @@ use Rattle.xdg_reports.specs.Runs.{ExplainEnds}
 use Rattle.xdg_inputs.proofs.Writing.{refused_quiet, refused_wrote, judged_wrote}
 use Rattle.xdg_reports.proofs.explain.explain_ruled.Goals as goal
 
-pub returns-in-Ok-load_analysis-clause-leaves : goal.returns-in-Ok-load_analysis-clause-leaves
-returns-in-Ok-load_analysis-clause-leaves g c files told =
+pub returns-in-Ok-clause-leaves : goal.returns-in-Ok-clause-leaves
+returns-in-Ok-clause-leaves g c files told =
     let m = meaning_of c.args.expanded.now in
-    accepted_leaves Analysed statuses.BadAnalysis (HasBadAnalysis files c.args.options.now.analysis m) (HasAnalysis files c.args.options.now.analysis m) (Explained c.args.rules.now m) (analysed_of c.in-Ok-load_analysis.found) c.explain_found.result _ _
-    (subst (λ n. Accepts Analysed (HasBadAnalysis files n m) (HasAnalysis files n m) (analysed_of c.in-Ok-load_analysis.found)) c.as_str.ensures (c.in-Ok-load_analysis.ensures.found files told)) c.explain_found.ensures.leaves
+    accepted_leaves Analysed statuses.BadAnalysis (HasBadAnalysis files c.args.options.now.analysis m) (HasAnalysis files c.args.options.now.analysis m) (Explained c.args.rules.now m) (analysed_of c.in-Ok.found) c.explain_found.result _ _
+    (subst (λ n. Accepts Analysed (HasBadAnalysis files n m) (HasAnalysis files n m) (analysed_of c.in-Ok.found)) c.as_str.ensures (c.in-Ok.ensures.found files told)) c.explain_found.ensures.leaves
 
-pub returns-clause-leaves : goal.returns-clause-leaves
-returns-clause-leaves g c files told =
+pub returns-in-Err-clause-leaves : goal.returns-in-Err-clause-leaves
+returns-in-Err-clause-leaves g c files told =
     let m = meaning_of c.args.expanded.now in
     let old = g.H.Shelf.faults c.args.shelf.now c.as_str.result.now in
     let new = g.H.Shelf.faults c.load_analysis.new.shelf c.as_str.result.now in
-    stopped_leaves Analysed statuses.BadAnalysis (HasBadAnalysis files c.args.options.now.analysis m) (HasAnalysis files c.args.options.now.analysis m) (Explained c.args.rules.now m) (g.H.Shelf.files c.args.shelf.now ≡ Some files) old new c.refuse.result c.in-Err-load_analysis.refusal _ _
+    stopped_leaves Analysed statuses.BadAnalysis (HasBadAnalysis files c.args.options.now.analysis m) (HasAnalysis files c.args.options.now.analysis m) (Explained c.args.rules.now m) (g.H.Shelf.files c.args.shelf.now ≡ Some files) old new c.refuse.result c.in-Err.refusal _ _
     told (λ e. e)
-    (subst (λ n. Stops (g.H.Shelf.files c.args.shelf.now ≡ Some files) old new Analysed (HasBadAnalysis files n m) (HasAnalysis files n m) c.in-Err-load_analysis.refusal) c.as_str.ensures (c.in-Err-load_analysis.ensures.refused files)) c.refuse.ensures.written
+    (subst (λ n. Stops (g.H.Shelf.files c.args.shelf.now ≡ Some files) old new Analysed (HasBadAnalysis files n m) (HasAnalysis files n m) c.in-Err.refusal) c.as_str.ensures (c.in-Err.ensures.refused files)) c.refuse.ensures.written
 
-pub returns-in-Ok-load_analysis-clause-wrote : goal.returns-in-Ok-load_analysis-clause-wrote
-returns-in-Ok-load_analysis-clause-wrote g c = judged_wrote ExplainEnds (Explained c.args.rules.now (meaning_of c.args.expanded.now) (analysed_of c.in-Ok-load_analysis.found)) c.explain_found.result _ _ _ _ tt tt tt c.explain_found.ensures.ends c.explain_found.ensures.leaves c.explain_found.ensures.out_quiet
+pub returns-in-Ok-clause-wrote : goal.returns-in-Ok-clause-wrote
+returns-in-Ok-clause-wrote g c = judged_wrote ExplainEnds (Explained c.args.rules.now (meaning_of c.args.expanded.now) (analysed_of c.in-Ok.found)) c.explain_found.result _ _ _ _ tt tt tt c.explain_found.ensures.ends c.explain_found.ensures.leaves c.explain_found.ensures.out_quiet
 
-pub returns-clause-wrote : goal.returns-clause-wrote
-returns-clause-wrote g c =
-    refused_wrote ExplainEnds statuses.BadAnalysis c.refuse.result c.in-Err-load_analysis.refusal _ _ _ _ tt tt tt tt tt c.refuse.ensures.written c.refuse.ensures.quiet
+pub returns-in-Err-clause-wrote : goal.returns-in-Err-clause-wrote
+returns-in-Err-clause-wrote g c =
+    refused_wrote ExplainEnds statuses.BadAnalysis c.refuse.result c.in-Err.refusal _ _ _ _ tt tt tt tt tt c.refuse.ensures.written c.refuse.ensures.quiet
 
-pub returns-clause-shelf_quiet : goal.returns-clause-shelf_quiet
-returns-clause-shelf_quiet g c other differs =
-    refused_quiet statuses.BadAnalysis c.refuse.result c.in-Err-load_analysis.refusal _ _ (g.H.Shelf.faults c.args.shelf.now other) (g.H.Shelf.faults c.load_analysis.new.shelf other) c.refuse.ensures.written (c.in-Err-load_analysis.ensures.quiet other) differs
+pub returns-in-Err-clause-shelf_quiet : goal.returns-in-Err-clause-shelf_quiet
+returns-in-Err-clause-shelf_quiet g c other differs =
+    refused_quiet statuses.BadAnalysis c.refuse.result c.in-Err.refusal _ _ (g.H.Shelf.faults c.args.shelf.now other) (g.H.Shelf.faults c.load_analysis.new.shelf other) c.refuse.ensures.written (c.in-Err.ensures.quiet other) differs

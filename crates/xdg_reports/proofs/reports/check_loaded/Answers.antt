@@ -20,7 +20,7 @@ returns-in-Ok-counts_line-clause-leaves g c =
     (subst (λ z. Leaves (IsDone z) c.write_text.result (g.K.Sink.held c.args.out.now) (g.K.Sink.held c.write_text.new.out))
     (c.as_slice.ensures ∙ c.in-Ok-counts_line.ensures ∙ ap (λ z. counts_line (length z) (length c.classes-classes.result.now) c.len.result) (c.used-dims.ensures.same ∙ ap (λ t. t.used) c.types.ensures.same)
     ∙ ap (λ n. counts_line (length c.in-Ok.expanded.checked.types.used) n c.len.result) (ap length c.classes-classes.ensures.same ∙ c.in-Ok.ensures.classes)
-    ∙ ap (counts_line (length c.in-Ok.expanded.checked.types.used) (length (classes c.args.loaded.tree.statements))) c.len.ensures) c.write_text.ensures.leaves)
+    ∙ ap (counts_line (length c.in-Ok.expanded.checked.types.used) (length (classes c.args.loaded.tree.statements))) c.len.ensures.len) c.write_text.ensures.leaves)
 
 pub returns-in-Err-clause-wrote : goal.returns-in-Err-clause-wrote
 returns-in-Err-clause-wrote g c =

@@ -17,7 +17,7 @@ pub returns-in-Ok-lexicon_text-clause-leaves : goal.returns-in-Ok-lexicon_text-c
 returns-in-Ok-lexicon_text-clause-leaves g c =
     meaning_leaves (read_of c.args.loaded) (λ m. IsDone (lexicon_text m.table m.entries)) c.write_text.result c.in-Ok.expanded _ _ c.in-Ok.ensures.tells c.in-Ok.ensures.only
     (subst (λ z. Leaves (IsDone z) c.write_text.result (g.K.Sink.held c.args.out.now) (g.K.Sink.held c.write_text.new.out))
-    (c.as_bytes.ensures.value ∙ c.as_str.ensures ∙ c.in-Ok-lexicon_text.ensures ∙ ap (λ z. lexicon_text z c.as_slice.result.now) c.types.ensures.same ∙ ap (lexicon_text c.in-Ok.expanded.checked.types) c.as_slice.ensures) c.write_text.ensures.leaves)
+    (c.as_bytes.ensures.value ∙ c.as_str.ensures ∙ c.in-Ok-lexicon_text.ensures ∙ ap (λ z. lexicon_text z c.in-Ok.expanded.lexicon.entries) c.types.ensures.same) c.write_text.ensures.leaves)
 
 pub returns-in-Err-clause-wrote : goal.returns-in-Err-clause-wrote
 returns-in-Err-clause-wrote g c =

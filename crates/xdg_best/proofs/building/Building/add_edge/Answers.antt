@@ -8,8 +8,8 @@ use Rattle.xdg_best.proofs.building.Building.add_edge.Goals as goal
 
 pub returns-then-has_place : goal.returns-then-has_place
 returns-then-has_place c earlier b =
-    edge_twice c.args.types.now c.args.entries earlier c.args.self.now c.args.self.now c.args.dim.now c.args.label.now c.args.cost c.in-Ok.place c.refusal.result (sym c.in-Ok.ensures)
-    (ap (λ (z : List (DimId × LabelId × ℕ)). has_place z c.in-Ok.place) (sym c.as_slice.ensures) ∙ sym c.has_place.ensures ∙ c.if-has_place.true) c.refusal.ensures b
+    edge_twice c.args.types.now c.args.entries earlier c.args.self.now c.args.self.now c.args.dim.now c.args.label.now c.args.cost c.in-Ok.place c.at.result (sym c.in-Ok.ensures)
+    (ap (λ (z : List (DimId × LabelId × ℕ)). has_place z c.in-Ok.place) (sym c.as_slice.ensures) ∙ sym c.has_place.ensures ∙ c.if-has_place.true) c.at.ensures b
 
 pub returns-in_ok-push-in-Ok : goal.returns-in_ok-push-in-Ok
 returns-in_ok-push-in-Ok c earlier b =

@@ -1,7 +1,6 @@
-use Rattle.std.proofs.Common.{ℕ, ◌<◌, ◌≤◌, [], get_or}
-use Rattle.xdg_packed.specs.Entries.{count_of}
-use Rattle.xdg_packed.specs.Lexicon.{word_of}
+use Rattle.std.proofs.Common.{ℕ, ◌<◌, ◌≤◌}
+use Rattle.xdg_lexicon.specs.Growing.{count_at}
 use Rattle.xdg_lexicon.proofs.growing.Growing.first_crowded.Given as goal
 
-abbrev pub invariant-loop-entry : goal.invariant-loop-entry
-invariant-loop-entry l = (n : ℕ) → n < l.entry-index → count_of l.self.dim l.self.field l.self.entries (word_of l.self.dim l.self.field (get_or l.self.entries n [])) ≤ 1024
+abbrev pub invariant-loop-number : goal.invariant-loop-number
+invariant-loop-number l = (n : ℕ) → n < l.number → count_at l.self.packing n ≤ 1024

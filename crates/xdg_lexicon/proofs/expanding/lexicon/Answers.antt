@@ -1,0 +1,72 @@
+use Rattle.std.proofs.Common.{◌≤◌, length, Ok, Err, refl, sym, ap, ◌∙◌, subst, arith}
+use Rattle.std.proofs.lemmas.Result.{err_from_is_err_and}
+use Rattle.xdg_packed.specs.Entries.{IsRightLexicon}
+use Rattle.xdg_packed.specs.Lexicon.{Lexicon}
+use Rattle.xdg_lexicon.specs.Answers.{Tells, Gives, IsPlaced, entries_of}
+use Rattle.xdg_lexicon.specs.Expanding.{so_far}
+use Rattle.xdg_lexicon.specs.Growing.{entries_in}
+use Rattle.xdg_lexicon.specs.Lexicon.{IsLexicon}
+use Rattle.xdg_lexicon.specs.Sources.{source_of}
+use Rattle.xdg_lexicon.proofs.Bounds.{words_once}
+use Rattle.xdg_lexicon.proofs.Stepping.{expanded_none, expanded_more, refused_tells, refused_only, all_expanded, expanded_only}
+use Rattle.xdg_lexicon.proofs.expanding.lexicon.Goals as goal
+use Rattle.xdg_facts.specs.Membership.{In}
+use Rattle.xdg_facts.proofs.In.{in_at}
+
+pub loop-def-init : goal.loop-def-init
+loop-def-init c = (
+  record {
+    growing = c.new.ensures.right c.args.checked.now.types c.word_place-dim.ensures.place;
+    few_uses = omega arith;
+    few_combos = omega arith;
+  },
+  expanded_none c.args.checked.now c.entries-entries.result.now (entries_in c.new.result) c.new.ensures.none,
+)
+
+pub expand_one-requires-clause-entry : goal.expand_one-requires-clause-entry
+expand_one-requires-clause-entry c =
+    subst (λ l. In l c.def-item.result) c.entries-entries.ensures.same (in_at c.entries-entries.result.now c.loop-def.def-index c.def-item.result c.loop-def-test.true c.def-item.is)
+
+pub returns-in_err-expanding-clause-tells : goal.returns-in_err-expanding-clause-tells
+returns-in_err-expanding-clause-tells c =
+    let p = err_from_is_err_and c.from_residual.result c.from_residual.ensures.1 in
+    subst (λ r. Tells (source_of c.args.checked.now) (entries_of r)) (sym (p.1 ∙ ap Err p.2))
+    (refused_tells c.args.checked.now c.entries-entries.result.now c.loop-def.def-index c.def-item.result c.loop-def-test.true c.def-item.is (so_far c.loop-def.expanding) c.loop-def.invariant.1 c.in_err-expanding.field-0.0
+    (sym c.entries-entries.ensures.same) c.in_err-expanding.ensures.expands)
+
+pub returns-in_err-expanding-clause-only : goal.returns-in_err-expanding-clause-only
+returns-in_err-expanding-clause-only c answer told =
+    let p = err_from_is_err_and c.from_residual.result c.from_residual.ensures.1 in
+    subst (λ r. Gives answer (entries_of r)) (sym (p.1 ∙ ap Err p.2))
+    (refused_only c.args.checked.now c.entries-entries.result.now c.loop-def.def-index c.def-item.result c.loop-def-test.true c.def-item.is (so_far c.loop-def.expanding) c.loop-def.invariant.1 c.word_place-dim.ensures.keeps c.in_err-expanding.field-0.0
+    (sym c.entries-entries.ensures.same) c.in_err-expanding.ensures.expands answer told)
+
+pub loop-def-preserved : goal.loop-def-preserved
+loop-def-preserved c = (
+  c.in_ok-expanding.ensures.right,
+  expanded_more c.args.checked.now c.entries-entries.result.now c.loop-def.def-index c.def-item.result c.loop-def-test.true c.def-item.is (so_far c.loop-def.expanding) c.loop-def.invariant.1 (so_far c.in_ok-expanding.expanding) c.in_ok-expanding.ensures.expands,
+)
+
+pub returns-clause-tells : goal.returns-clause-tells
+returns-clause-tells c =
+    let past : length c.entries-entries.result.now ≤ c.loop-def.def-index = omega (arith, c.loop-def-test.false) in
+    subst (λ (l : Lexicon). IsLexicon (source_of c.args.checked.now) l.entries) (sym c.finish.ensures)
+    (so_far c.loop-def.expanding, (all_expanded c.args.checked.now c.entries-entries.result.now c.loop-def.def-index (so_far c.loop-def.expanding) (sym c.entries-entries.ensures.same) past c.loop-def.invariant.1, refl))
+
+pub returns-clause-only : goal.returns-clause-only
+returns-clause-only c answer told =
+    let past : length c.entries-entries.result.now ≤ c.loop-def.def-index = omega (arith, c.loop-def-test.false) in
+    subst (λ (l : Lexicon). Gives answer (Ok l.entries)) (sym c.finish.ensures)
+    (expanded_only c.args.checked.now c.entries-entries.result.now c.loop-def.def-index (so_far c.loop-def.expanding) (sym c.entries-entries.ensures.same) past c.loop-def.invariant.1 c.word_place-dim.ensures.keeps answer told)
+
+pub returns-clause-right : goal.returns-clause-right
+returns-clause-right c =
+    subst (λ (l : Lexicon). IsRightLexicon c.args.checked.now.types l.entries) (sym c.finish.ensures)
+    (record { entries = c.loop-def.invariant.0.growing.right; few = c.loop-def.invariant.1.few; each = c.loop-def.invariant.1.few_each })
+
+pub returns-clause-place : goal.returns-clause-place
+returns-clause-place c =
+    let types = c.args.checked.now.types in
+    let here = c.loop-def.invariant.0.growing.place in
+    let lexicon = c.loop-def.expanding.growing.packing in
+    subst (IsPlaced types) (sym c.finish.ensures) (record { place = here; one = λ d f other. words_once types c.word_place-dim.ensures.keeps.types d f lexicon.dim lexicon.field other here })

@@ -1,6 +1,0 @@
-use Rattle.std.proofs.Common.{◌≡◌, drop}
-use Rattle.xdg_domain.specs.Valencies.{said_at}
-use Rattle.xdg_lexicon.proofs.words.text_at.Given as goal
-
-abbrev pub invariant-loop-said : goal.invariant-loop-said
-invariant-loop-said l = said_at (drop l.said-index l.fields) l.field ≡ said_at l.fields l.field

@@ -1,0 +1,399 @@
+-- An entry is added to a packed lexicon, or stands there already.
+use Rattle.std.proofs.Common.{◌≡◌, ℕ, suc, ◌+◌, ◌-◌, ◌^◌, ◌<◌, ◌≤◌, true, false, List, [], ◌∷◌, ◌++◌, ◌⊎◌, length, get_or, map, take, refl, sym, ap, ap₂, subst, inl, inr, ◌∙◌, arith, All, true≢false}
+use Rattle.std.proofs.lemmas.Bool.{cases_lt}
+use Rattle.std.proofs.lemmas.List.{map-append, length-map, length-append, get_or-map, get_or_past, take_more}
+use Rattle.std.proofs.lemmas.List.Elements.{All-push, All-take}
+use Rattle.std.proofs.lemmas.List.FromFn.{length-map-range_with_len, get_or-map-range_with_len}
+use Rattle.std.proofs.Math.ListN.{get_or-append}
+use Rattle.std.proofs.Math.Seq.{get_or-append_seam}
+use Rattle.xdg_base.specs.declared.ids.EntryNo.{EntryNo}
+use Rattle.xdg_names.specs.Texts.{has_text}
+use Rattle.xdg_names.proofs.Texts.{has_text-stands, stands-has_text}
+use Rattle.xdg_packed.specs.Lexicon.{Entry, Lexicon, HasWord, IsSaid, said_in, word_of, number, places_of, numbers_of, AreAsLong, width, column, columns, CountsRows}
+use Rattle.xdg_packed.specs.Entries.{count_of}
+use Rattle.xdg_packed.specs.Packing.{unpacked, IsPacked, IsPacking}
+use Rattle.xdg_packed.specs.Rows.{shown, IsTable, AreSpelled}
+use Rattle.xdg_packed.specs.Spelling.{numbers}
+use Rattle.xdg_packed.specs.Tables.{no_table, records, IsRight, AreTables, AddsEntry, IsWithoutLast, places_at, key, AreKeys}
+use Rattle.xdg_packed.specs.Words.{IsWordIndex}
+use Rattle.xdg_packed.specs.declared.table.Table.{Table}
+use Rattle.xdg_packed.proofs.Firsts.{in_column, in_shown, long_shown, same_row}
+use Rattle.xdg_packed.proofs.Growing.{empty_right, cut_last}
+use Rattle.xdg_packed.proofs.Packs.{taken_back}
+use Rattle.xdg_packed.proofs.Prefixes.{numbers_alone}
+use Rattle.xdg_packed.proofs.Unpacked.{all_places, row_back, unpacked_columns, made_packed, table_within}
+use Rattle.xdg_facts.proofs.In.{in_get, in_index, map_in}
+use Rattle.xdg_facts.proofs.Lists.{head_of, tail_of}
+use Rattle.xdg_facts.specs.Membership.{In}
+
+-- ---- lists by their places
+
+map_same : {A B : Type 0} (f : A → B) (xs ys : List A) (d : A) → length xs ≡ length ys → ((i : ℕ) → i < length xs → f (get_or xs i d) ≡ f (get_or ys i d)) → map f xs ≡ map f ys
+map_same f [] [] d size same = refl
+map_same f [] (y ∷ ys) d size same = absurd (omega (arith, size))
+map_same f (x ∷ xs) [] d size same = absurd (omega (arith, size))
+map_same f (x ∷ xs) (y ∷ ys) d size same = ap₂ (λ z zs. z ∷ zs) (same 0 (omega arith)) (map_same f xs ys d (omega (arith, size)) (λ i within. same (suc i) (omega (arith, within))))
+
+from_zero : (i : ℕ) → 0 + i ≡ i
+from_zero i = omega arith
+
+-- ---- rows of tables
+
+-- the records of the entry with a number
+abbrev row : List Table → ℕ → Entry
+row tables n = map (λ table. get_or (records table) n []) tables
+
+-- all tables have an entry with that number
+abbrev Reach : List Table → ℕ → Type 0
+Reach tables n = (dim : ℕ) → dim < length tables → n < length (get_or tables dim no_table).places
+
+-- entries at equal places are equal
+rows_told : (tables : List Table) (m k : ℕ) → Reach tables m → Reach tables k → places_at tables m ≡ places_at tables k → row tables m ≡ row tables k
+rows_told [] m k one other e = refl
+rows_told (table ∷ tables) m k one other e =
+    let head : get_or table.places m 0 ≡ get_or table.places k 0 = head_of (get_or table.places m 0) (get_or table.places k 0) (places_at tables m) (places_at tables k) e in
+    ap₂ (λ x xs. x ∷ xs)
+    (in_shown table.rows table.places m (one 0 (omega arith)) ∙ ap (λ p. get_or table.rows p []) head ∙ sym (in_shown table.rows table.places k (other 0 (omega arith))))
+    (rows_told tables m k (λ dim within. one (suc dim) (omega (arith, within))) (λ dim within. other (suc dim) (omega (arith, within))) (tail_of (get_or table.places m 0) (get_or table.places k 0) (places_at tables m) (places_at tables k) e))
+
+-- and equal entries stand at equal places
+places_told : (tables : List Table) (m k : ℕ) → ((dim : ℕ) → IsRight (get_or tables dim no_table)) → Reach tables m → Reach tables k → row tables m ≡ row tables k → places_at tables m ≡ places_at tables k
+places_told [] m k right one other e = refl
+places_told (table ∷ tables) m k right one other e =
+    let here = one 0 (omega arith) in
+    let there = other 0 (omega arith) in
+    let head = head_of (get_or (records table) m []) (get_or (records table) k []) (row tables m) (row tables k) e in
+    ap₂ (λ x xs. x ∷ xs)
+    (same_row table.rows (right 0).kept.once (get_or table.places m 0) (get_or table.places k 0) ((right 0).within m 0 here) ((right 0).within k 0 there)
+    (sym (in_shown table.rows table.places m here) ∙ head ∙ in_shown table.rows table.places k there))
+    (places_told tables m k (λ dim. right (suc dim)) (λ dim within. one (suc dim) (omega (arith, within))) (λ dim within. other (suc dim) (omega (arith, within)))
+    (tail_of (get_or (records table) m []) (get_or (records table) k []) (row tables m) (row tables k) e))
+
+-- ---- tables of entries
+
+columns_wide : (entries : List Entry) (tables : List Table) → map records tables ≡ columns entries → length tables ≡ width entries
+columns_wide entries tables are = sym (length-map tables records) ∙ ap length are ∙ length-map-range_with_len (λ d. column d entries) 0 (width entries)
+
+columns_at : (entries : List Entry) (tables : List Table) (dim : ℕ) → map records tables ≡ columns entries → dim < length tables → records (get_or tables dim no_table) ≡ column dim entries
+columns_at entries tables dim are inside =
+    let wide = columns_wide entries tables are in
+    let below : dim < width entries = omega (arith, wide, inside) in
+    sym (get_or-map records tables dim no_table [] inside) ∙ ap (λ ts. get_or ts dim []) are ∙ get_or-map-range_with_len (λ d. column d entries) 0 (width entries) dim dim [] below (from_zero dim)
+
+-- each table has as many places as there are entries
+pub long_places : (entries : List Entry) (tables : List Table) (dim : ℕ) → map records tables ≡ columns entries → dim < length tables → length (get_or tables dim no_table).places ≡ length entries
+long_places entries tables dim are inside =
+    let table = get_or tables dim no_table in
+    sym (long_shown table.rows table.places) ∙ ap length (columns_at entries tables dim are inside) ∙ length-map entries (λ e. get_or e dim [])
+
+-- or none
+pub few_places : (entries : List Entry) (tables : List Table) (bound : ℕ) → map records tables ≡ columns entries → length entries < bound → (dim : ℕ) → length (get_or tables dim no_table).places < bound
+few_places entries tables bound are few dim = elim (cases_lt dim (length tables)) [
+  | inl inside ↦ (let size = long_places entries tables dim are inside in omega (arith, size, few))
+  | inr past ↦ subst (λ (t : Table). length t.places < bound) (sym (get_or_past tables dim no_table past)) (omega (arith, few))
+]
+
+pub reach : (entries : List Entry) (tables : List Table) (n : ℕ) → map records tables ≡ columns entries → n < length entries → Reach tables n
+reach entries tables n are within dim inside = let size = long_places entries tables dim are inside in omega (arith, size, within)
+
+-- ---- words
+
+-- an entry with a word has that dimension
+pub has_dim : (dim field : ℕ) (entry : Entry) → HasWord dim field entry → dim < length entry
+has_dim dim field entry h = elim (cases_lt dim (length entry)) [
+  | inl inside ↦ inside
+  | inr past ↦ absurd (subst (λ r. IsSaid r field) (get_or_past entry dim [] past) h)
+]
+
+module _ (lexicon : Lexicon) (tables : List Table) (rows : ℕ) (words : List (List ℕ)) (numbers : List (List EntryNo)) (packed : IsPacked lexicon tables rows words numbers) where
+  pub word_within : (n : ℕ) → n < length lexicon.entries → lexicon.dim < length tables
+  word_within n within = table_within lexicon tables rows words numbers packed n lexicon.dim within (has_dim lexicon.dim lexicon.field (get_or lexicon.entries n []) (packed.right.words n [] within))
+
+  pub word_is : (n : ℕ) (word : List ℕ) → n < length lexicon.entries → word ≡ said_in (get_or (records (get_or tables lexicon.dim no_table)) n []) lexicon.field → word ≡ word_of lexicon.dim lexicon.field (get_or lexicon.entries n [])
+  word_is n word within is =
+      is ∙ ap (λ r. said_in r lexicon.field) (ap (λ rs. get_or rs n []) (columns_at lexicon.entries tables lexicon.dim packed.tables_are (word_within n within)) ∙ in_column lexicon.entries n lexicon.dim within)
+
+-- ---- one entry more
+
+width_more : (entries : List Entry) (entry : Entry) → AreAsLong (entries ++ entry ∷ []) → length entry ≡ width (entries ++ entry ∷ [])
+width_more entries entry equal =
+    ap length (sym (get_or-append_seam entries entry [] [])) ∙ equal (length entries) [] (let size = length-append entries (entry ∷ []) in omega (arith, size))
+
+-- the entries before it are none, or as wide
+same_width : (entries : List Entry) (entry : Entry) → AreAsLong (entries ++ entry ∷ []) → (entries ≡ []) ⊎ (length entry ≡ width entries)
+same_width [] entry equal = inl refl
+same_width (first ∷ entries) entry equal = inr (width_more (first ∷ entries) entry equal)
+
+no_wider : (entries : List Entry) (entry : Entry) (n : ℕ) → n ≡ width entries → (entries ≡ []) ⊎ (length entry ≡ width entries) → n ≤ length entry
+no_wider entries entry n is (inl none) = let e : n ≡ 0 = is ∙ ap width none in omega (arith, e)
+no_wider entries entry n is (inr same) = omega (arith, is, same)
+
+pub within_entry : (entries : List Entry) (entry : Entry) (tables : List Table) → AreAsLong (entries ++ entry ∷ []) → map records tables ≡ columns entries → length tables ≤ length entry
+within_entry entries entry tables equal are = no_wider entries entry (length tables) (columns_wide entries tables are) (same_width entries entry equal)
+
+module _ (entries : List Entry) (entry : Entry) (old new : List Table) (equal : AreAsLong (entries ++ entry ∷ [])) (are : map records old ≡ columns entries) (adds : AddsEntry old new entry) where
+  abbrev all : List Entry
+  all = entries ++ entry ∷ []
+
+  column_old : (dim : ℕ) → dim < length entry → records (get_or old dim no_table) ≡ column dim entries
+  column_old dim inside = by (same_width entries entry equal)
+    where
+      by : (entries ≡ []) ⊎ (length entry ≡ width entries) → records (get_or old dim no_table) ≡ column dim entries
+      by (inl none) =
+          let wide = columns_wide entries old are ∙ ap width none in
+          ap records (get_or_past old dim no_table (omega (arith, wide))) ∙ sym (ap (column dim) none)
+      by (inr same) = columns_at entries old dim are (let wide = columns_wide entries old are in omega (arith, wide, same, inside))
+
+  -- the tables are those of all entries
+  pub grown_columns : map records new ≡ columns all
+  grown_columns = sym (all_places (λ dim. column dim all) [] (map records new) (width all) (sym (length-map new records ∙ adds.as_many ∙ width_more entries entry equal)) each)
+    where
+      each : (dim : ℕ) → dim < length (map records new) → column dim all ≡ get_or (map records new) dim []
+      each dim within =
+          let inside : dim < length new = subst (λ n. dim < n) (length-map new records) within in
+          let below : dim < length entry = subst (λ n. dim < n) adds.as_many inside in
+          map-append (λ e. get_or e dim []) entries (entry ∷ [])
+          ∙ ap (λ l. l ++ get_or entry dim [] ∷ []) (sym (column_old dim below))
+          ∙ sym (adds.each dim below).records_grow
+          ∙ sym (get_or-map records new dim no_table [] inside)
+
+  long_all : length all ≡ length entries + 1
+  long_all = length-append entries (entry ∷ [])
+
+  long_old : (n : ℕ) → n < length entries → length old ≡ length entry
+  long_old n within = by (same_width entries entry equal)
+    where
+      by : (entries ≡ []) ⊎ (length entry ≡ width entries) → length old ≡ length entry
+      by (inl none) = absurd (let e : length entries ≡ 0 = ap length none in omega (arith, e, within))
+      by (inr same) = columns_wide entries old are ∙ sym same
+
+  -- of tables of the same width whose entries stand where they stood
+  at_places : (tables : List Table) (n : ℕ) → n < length entries → length tables ≡ length entry → ((dim : ℕ) → dim < length entry → get_or (get_or tables dim no_table).places n 0 ≡ get_or (get_or old dim no_table).places n 0)
+      → places_at tables n ≡ places_at old n
+  at_places tables n within size same =
+      map_same (λ (table : Table). get_or table.places n 0) tables old no_table (size ∙ sym (long_old n within)) (λ dim inside. same dim (subst (λ k. dim < k) size inside))
+
+  places_stay : (n : ℕ) → n < length entries → places_at new n ≡ places_at old n
+  places_stay n within = at_places new n within adds.as_many each
+    where
+      each : (dim : ℕ) → dim < length entry → get_or (get_or new dim no_table).places n 0 ≡ get_or (get_or old dim no_table).places n 0
+      each dim inside =
+          let a = adds.each dim inside in
+          let size = long_places entries old dim are (let same = long_old n within in omega (arith, same, inside)) in
+          ap (λ ps. get_or ps n 0) a.places_grow ∙ get_or-append (get_or old dim no_table).places (a.place ∷ []) 0 n (omega (arith, size, within))
+
+  -- the entry's key is that of an entry before it where it equals it
+  pub last_row : row new (length entries) ≡ entry
+  last_row = row_back all new equal grown_columns (length entries) (let size = long_all in omega (arith, size)) ∙ get_or-append_seam entries entry [] []
+
+  row_before : (n : ℕ) → n < length entries → row new n ≡ get_or entries n []
+  row_before n within = row_back all new equal grown_columns n (let size = long_all in omega (arith, size, within)) ∙ get_or-append entries (entry ∷ []) [] n within
+
+  reach_new : (n : ℕ) → n ≤ length entries → Reach new n
+  reach_new n within = reach all new n grown_columns (let size = long_all in omega (arith, size, within))
+
+  pub reaches_last : Reach new (length entries)
+  reaches_last = reach_new (length entries) (omega arith)
+
+  module _ (keys : List (List ℕ)) (text : List ℕ) (keyed : AreKeys old keys (length entries)) (is : text ≡ key new (length entries)) where
+    pub stands : has_text keys text ≡ true → In entries entry
+    stands found =
+        let at = has_text-stands keys text found in
+        let within : at.0 < length entries = (let size = keyed.as_many in let inside = at.1 in omega (arith, size, inside)) in
+        let same : places_at new at.0 ≡ places_at new (length entries) = places_stay at.0 within
+        ∙ numbers_alone (places_at old at.0) (places_at new (length entries)) (sym (keyed.each at.0 within) ∙ at.2 ∙ is) in
+        let one = sym (row_before at.0 within) ∙ rows_told new at.0 (length entries) (reach_new at.0 (omega (arith, within))) reaches_last same ∙ last_row in
+        subst (In entries) one (in_get entries at.0 [] within)
+
+    pub fresh : ((dim : ℕ) → IsRight (get_or new dim no_table)) → has_text keys text ≡ false → In entries entry → ⊥
+    fresh right absent h =
+        let at = in_index entries entry [] h in
+        let within = at.1.0 in
+        let same : places_at new at.0 ≡ places_at new (length entries) = places_told new at.0 (length entries) right (reach_new at.0 (omega (arith, within))) reaches_last (row_before at.0 within ∙ at.1.1 ∙ sym last_row) in
+        true≢false (sym (stands-has_text keys text at.0 (let size = keyed.as_many in omega (arith, size, within))
+        (keyed.each at.0 within ∙ ap numbers (sym (places_stay at.0 within) ∙ same) ∙ sym is)) ∙ absent)
+
+    -- ---- the entry is new
+
+    keys_more : (grown : List (List ℕ)) → grown ≡ keys ++ text ∷ [] → AreKeys new grown (length entries + 1)
+    keys_more grown more = subst (λ ks. AreKeys new ks (length entries + 1)) (sym more) (record {
+      as_many = length-append keys (text ∷ []) ∙ ap (λ n. n + 1) keyed.as_many;
+      each = λ n below. by n below (cases_lt n (length entries));
+    })
+      where
+        by : (n : ℕ) → n < length entries + 1 → (n < length entries) ⊎ (length entries ≤ n) → get_or (keys ++ text ∷ []) n [] ≡ key new n
+        by n below (inl within) = get_or-append keys (text ∷ []) [] n (let size = keyed.as_many in omega (arith, size, within)) ∙ keyed.each n within ∙ ap numbers (sym (places_stay n within))
+        by n below (inr past) =
+            let last : n ≡ length keys = (let size = keyed.as_many in omega (arith, size, below, past)) in
+            let end : length entries ≡ n = omega (arith, below, past) in
+            ap (λ k. get_or (keys ++ text ∷ []) k []) last ∙ get_or-append_seam keys text [] [] ∙ is ∙ ap (key new) end
+
+    -- ---- the entry is taken back
+
+    module _ (known : In entries entry) (back : List Table) (right : (dim : ℕ) → IsRight (get_or new dim no_table)) (long : length back ≡ length new) (less : (dim : ℕ) → IsWithoutLast (get_or new dim no_table) (get_or back dim no_table)) where
+      same_long : length old ≡ length entry
+      same_long = long_old (in_index entries entry [] known).0 (in_index entries entry [] known).1.0
+
+      long_back : length back ≡ length entry
+      long_back = long ∙ adds.as_many
+
+      places_back : (dim : ℕ) → dim < length entry → (get_or back dim no_table).places ≡ (get_or old dim no_table).places
+      places_back dim inside = (less dim).2 (get_or old dim no_table).places (adds.each dim inside).place (adds.each dim inside).places_grow
+
+      -- what the last of the records is, and those before it
+      cut : (dim : ℕ) (inside : dim < length entry) → (shown (get_or new dim no_table).rows (get_or old dim no_table).places ≡ records (get_or old dim no_table)) × (get_or (get_or new dim no_table).rows (adds.each dim inside).place [] ≡ get_or entry dim [])
+      cut dim inside =
+          let table = get_or new dim no_table in
+          let a = adds.each dim inside in
+          cut_last (shown table.rows (get_or old dim no_table).places) (records (get_or old dim no_table)) (get_or table.rows a.place []) (get_or entry dim [])
+          (sym (map-append (λ place. get_or table.rows place []) (get_or old dim no_table).places (a.place ∷ [])) ∙ sym (ap (shown table.rows) a.places_grow) ∙ a.records_grow)
+
+      records_back : (dim : ℕ) → dim < length entry → records (get_or back dim no_table) ≡ records (get_or old dim no_table)
+      records_back dim inside = ap₂ shown (less dim).0 (places_back dim inside) ∙ (cut dim inside).0
+
+      pub back_columns : map records back ≡ columns entries
+      back_columns = map_same records back old no_table (long_back ∙ sym same_long) (λ dim within. records_back dim (subst (λ n. dim < n) long_back within)) ∙ are
+
+      right_back : (dim : ℕ) → dim < length entry → IsRight (get_or back dim no_table)
+      right_back dim inside =
+          let table = get_or new dim no_table in
+          let places = (get_or old dim no_table).places in
+          let a = adds.each dim inside in
+          let there : In (shown table.rows places) (get_or table.rows a.place []) = subst (In (shown table.rows places)) (sym (cut dim inside).1)
+          (subst (λ l. In l (get_or entry dim [])) (sym ((cut dim inside).0 ∙ column_old dim inside)) (map_in (λ e. get_or e dim []) entries entry known)) in
+          let whole = taken_back table.rows table.firsts places a.place (subst (IsTable table.rows table.firsts) a.places_grow (right dim)) there in
+          subst (λ r. IsTable r (get_or back dim no_table).firsts (get_or back dim no_table).places) (sym (less dim).0)
+          (subst (λ f. IsTable table.rows f (get_or back dim no_table).places) (sym (less dim).1)
+          (subst (IsTable table.rows table.firsts) (sym (places_back dim inside)) whole))
+
+      pub back_right : (dim : ℕ) → IsRight (get_or back dim no_table)
+      back_right dim = elim (cases_lt dim (length entry)) [
+        | inl inside ↦ right_back dim inside
+        | inr past ↦ subst IsRight (sym (get_or_past back dim no_table (let size = long_back in omega (arith, size, past)))) empty_right
+      ]
+
+      pub back_keys : AreKeys back keys (length entries)
+      back_keys = record {
+        as_many = keyed.as_many;
+        each = λ n within. keyed.each n within ∙ ap numbers (sym (at_places back n within long_back (λ dim inside. ap (λ ps. get_or ps n 0) (places_back dim inside))));
+      }
+
+      pub back_tables : (spellings : List (List (List ℕ))) → AreTables new spellings → AreTables back spellings
+      back_tables spellings tables = record {
+        as_many = tables.as_many ∙ sym long;
+        right = back_right;
+        spelled = λ dim. subst (λ r. AreSpelled r (get_or spellings dim [])) (sym (less dim).0) (tables.spelled dim);
+      }
+
+-- ---- the first entries of a list
+
+pub first_more : (entries : List Entry) (i : ℕ) (item copy : Entry) → i < length entries → item ≡ get_or entries i item → copy ≡ item → take i entries ++ copy ∷ [] ≡ take (i + 1) entries
+first_more entries i item copy within is same = ap (λ e. take i entries ++ e ∷ []) (same ∙ is) ∙ sym (take_more entries i item within)
+
+pub first_long : (entries : List Entry) (i : ℕ) (item copy : Entry) → AreAsLong entries → i < length entries → item ≡ get_or entries i item → copy ≡ item → AreAsLong (take i entries ++ copy ∷ [])
+first_long entries i item copy equal within is same =
+    let next : i + 1 ≡ suc i = omega arith in
+    subst AreAsLong (sym (first_more entries i item copy within is same ∙ ap (λ n. take n entries) next)) (by entries equal)
+  where
+    by : (es : List Entry) → AreAsLong es → AreAsLong (take (suc i) es)
+    by [] h = h
+    by (x ∷ xs) h = All-take (λ e. length e ≡ length x) (suc i) (x ∷ xs) h
+
+-- ---- the whole
+
+count_here : (tables : List Table) (count : ℕ) → length (unpacked tables count) ≡ count
+count_here tables count = length-map-range_with_len (λ n. map (λ table. get_or (records table) n []) tables) 0 count
+
+made_packing : (entries : List Entry) (tables : List Table) (spellings : List (List (List ℕ))) (count rows dim field : ℕ) (words : List (List ℕ)) (numbers : List (List EntryNo)) (keys : List (List ℕ)) → All (HasWord dim field) entries → AreAsLong entries
+    → length entries ≤ 2 ^ 32 - 1 → AreTables tables spellings → map records tables ≡ columns entries → count ≡ length entries → CountsRows (map records tables) rows → IsWordIndex (map (word_of dim field) entries) words numbers → AreKeys tables keys (length entries)
+    → IsPacking (record { entries = unpacked tables count; dim = dim; field = field }) tables spellings rows words numbers keys
+made_packing entries tables spellings count rows dim field words numbers keys said equal few right are size counted indexed keyed = record {
+  packed = made_packed entries tables count rows dim field words numbers said equal few right.right are size counted indexed;
+  spelled = right;
+  keyed = subst (λ es. AreKeys tables keys (length es)) (sym (unpacked_columns entries tables count equal are size)) keyed;
+}
+
+-- what is packed, and an entry that is added to its tables
+module _ (tables : List Table) (spellings : List (List (List ℕ))) (count rows dim field : ℕ) (words : List (List ℕ)) (numbers : List (List EntryNo)) (keys : List (List ℕ))
+    (packing : IsPacking (record { entries = unpacked tables count; dim = dim; field = field }) tables spellings rows words numbers keys) (entry : Entry) (equal : AreAsLong (unpacked tables count ++ entry ∷ [])) where
+  abbrev so_far : List Entry
+  so_far = unpacked tables count
+
+  are : map records tables ≡ columns so_far
+  are = packing.packed.tables_are
+
+  pub room : length tables ≤ length entry
+  room = within_entry so_far entry tables equal are
+
+  pub few : (bound : ℕ) → count < bound → (d : ℕ) → length (get_or tables d no_table).places < bound
+  few bound below = few_places so_far tables bound are (let size = count_here tables count in omega (arith, size, below))
+
+  module _ (new : List Table) (adds : AddsEntry tables new entry) where
+    pub reached : (d : ℕ) → d < length new → count < length (get_or new d no_table).places
+    reached d inside = let last = reaches_last so_far entry tables new equal are adds d inside in let size = count_here tables count in omega (arith, last, size)
+
+    module _ (said : HasWord dim field entry) where
+      dim_new : dim < length new
+      dim_new = let size = adds.as_many in let inside = has_dim dim field entry said in omega (arith, size, inside)
+
+      pub word_reached : count < length (get_or new dim no_table).places
+      word_reached = reached dim dim_new
+
+      word_last : (word : List ℕ) → word ≡ said_in (get_or (records (get_or new dim no_table)) count []) field → word ≡ word_of dim field entry
+      word_last word is =
+          let inside = has_dim dim field entry said in
+          let e : count ≡ length (records (get_or tables dim no_table)) = sym (count_here tables count) ∙ sym (ap length (column_old so_far entry tables new equal are adds dim inside) ∙ length-map so_far (λ e. get_or e dim [])) in
+          is ∙ ap (λ r. said_in r field) (ap₂ (λ n rs. get_or rs n []) e (adds.each dim inside).records_grow ∙ get_or-append_seam (records (get_or tables dim no_table)) (get_or entry dim []) [] [])
+
+      pub index_more : (word : List ℕ) (new_words : List (List ℕ)) (new_numbers : List (List EntryNo)) → word ≡ said_in (get_or (records (get_or new dim no_table)) count []) field
+          → ((before : List (List ℕ)) → count ≡ length before → IsWordIndex before words numbers → IsWordIndex (before ++ word ∷ []) new_words new_numbers) → IsWordIndex (map (word_of dim field) (so_far ++ entry ∷ [])) new_words new_numbers
+      index_more word new_words new_numbers is step =
+          subst (λ all. IsWordIndex all new_words new_numbers)
+          (ap (λ w. map (word_of dim field) so_far ++ w ∷ []) (word_last word is) ∙ sym (map-append (word_of dim field) so_far (entry ∷ [])))
+          (step (map (word_of dim field) so_far) (sym (length-map so_far (word_of dim field) ∙ count_here tables count)) packing.packed.indexed)
+
+      -- how many entries the word then has
+      pub count_told : (list : List EntryNo) (word : List ℕ) (all now : List Entry) → word ≡ said_in (get_or (records (get_or new dim no_table)) count []) field → list ≡ numbers_of (map (word_of dim field) all) word → now ≡ all
+          → length list ≡ count_of dim field now (word_of dim field entry)
+      count_told list word all now is numbers_are same =
+          ap length numbers_are ∙ length-map (places_of (map (word_of dim field) all) word) number ∙ ap₂ (λ es w. count_of dim field es w) (sym same) (word_last word is)
+
+    module _ (new_spellings : List (List (List ℕ))) (right : AreTables new new_spellings) (text : List ℕ) (is : text ≡ key new count) where
+      key_is : text ≡ key new (length so_far)
+      key_is = is ∙ ap (key new) (sym (count_here tables count))
+
+      module _ (found : has_text keys text ≡ true) where
+        pub known_stands : In so_far entry
+        known_stands = stands so_far entry tables new equal are adds keys text packing.keyed key_is found
+
+        module _ (back : List Table) (long : length back ≡ length new) (less : (d : ℕ) → IsWithoutLast (get_or new d no_table) (get_or back d no_table)) where
+          columns_are : map records back ≡ columns so_far
+          columns_are = back_columns so_far entry tables new equal are adds keys text packing.keyed key_is known_stands back right.right long less
+
+          pub known_entries : unpacked back count ≡ so_far
+          known_entries = unpacked_columns so_far back count packing.packed.right.equal columns_are (sym (count_here tables count))
+
+          pub known_packing : (back_spellings : List (List (List ℕ))) → back_spellings ≡ new_spellings → IsPacking (record { entries = unpacked back count; dim = dim; field = field }) back back_spellings rows words numbers keys
+          known_packing back_spellings same =
+              made_packing so_far back back_spellings count rows dim field words numbers keys packing.packed.right.words packing.packed.right.equal packing.packed.right.few
+              (subst (AreTables back) (sym same) (back_tables so_far entry tables new equal are adds keys text packing.keyed key_is known_stands back right.right long less new_spellings right))
+              columns_are (sym (count_here tables count)) (subst (λ ts. CountsRows ts rows) (are ∙ sym columns_are) packing.packed.counted) packing.packed.indexed
+              (back_keys so_far entry tables new equal are adds keys text packing.keyed key_is known_stands back right.right long less)
+
+      module _ (absent : has_text keys text ≡ false) where
+        pub new_fresh : In so_far entry → ⊥
+        new_fresh = fresh so_far entry tables new equal are adds keys text packing.keyed key_is right.right absent
+
+        size : count + 1 ≡ length (so_far ++ entry ∷ [])
+        size = ap (λ n. n + 1) (sym (count_here tables count)) ∙ sym (length-append so_far (entry ∷ []))
+
+        pub new_entries : unpacked new (count + 1) ≡ so_far ++ entry ∷ []
+        new_entries = unpacked_columns (so_far ++ entry ∷ []) new (count + 1) equal (grown_columns so_far entry tables new equal are adds) size
+
+        pub new_packing : (new_rows : ℕ) (new_words : List (List ℕ)) (new_numbers : List (List EntryNo)) (new_keys : List (List ℕ)) → HasWord dim field entry → count < 2 ^ 32 - 1 → CountsRows (map records new) new_rows
+            → IsWordIndex (map (word_of dim field) (so_far ++ entry ∷ [])) new_words new_numbers → new_keys ≡ keys ++ text ∷ []
+            → IsPacking (record { entries = unpacked new (count + 1); dim = dim; field = field }) new new_spellings new_rows new_words new_numbers new_keys
+        new_packing new_rows new_words new_numbers new_keys said below counts index grown =
+            made_packing (so_far ++ entry ∷ []) new new_spellings (count + 1) new_rows dim field new_words new_numbers new_keys
+            (All-push (HasWord dim field) so_far entry packing.packed.right.words said) equal (let e = size in omega (arith, e, below)) right (grown_columns so_far entry tables new equal are adds) size counts index
+            (subst (AreKeys new new_keys) (sym (length-append so_far (entry ∷ []))) (keys_more so_far entry tables new equal are adds keys text packing.keyed key_is new_keys grown))

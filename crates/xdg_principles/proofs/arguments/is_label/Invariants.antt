@@ -1,6 +1,0 @@
-use Rattle.std.proofs.Common.{◌≡◌, drop}
-use Rattle.xdg_names.specs.Texts.{has_text}
-use Rattle.xdg_principles.proofs.arguments.is_label.Given as goal
-
-abbrev pub invariant-loop-label : goal.invariant-loop-label
-invariant-loop-label l = has_text (drop l.label-index l.labels) l.name ≡ has_text l.labels l.name

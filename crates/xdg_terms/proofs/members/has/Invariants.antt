@@ -1,6 +1,0 @@
-use Rattle.std.proofs.Common.{◌≡◌, drop}
-use Rattle.xdg_names.specs.Texts.{has_text}
-use Rattle.xdg_terms.proofs.members.has.Given as goal
-
-abbrev pub invariant-loop-other : goal.invariant-loop-other
-invariant-loop-other l = has_text (drop l.other-index l.texts) l.text ≡ has_text l.texts l.text
