@@ -18,7 +18,7 @@ use Rattle.xdg_io.specs.Left.{TakesAll, TakesCount}
 use Rattle.xdg_io.specs.Rose.{Rose}
 use Rattle.xdg_io.specs.declared.failures.ReadStop.{ReadStop}
 use Rattle.xdg_io.specs.declared.failures.ReadStop.TheVariants as stopped
-use Rattle.xdg_inputs.specs.Places.{place_in}
+use Rattle.xdg_inputs.specs.Places.{line_column}
 use Rattle.xdg_inputs.specs.Refusals.{RejectsAt, Stops, refusal_of}
 use Rattle.xdg_inputs.specs.Stages.{Accepts, Rejects}
 use Rattle.xdg_inputs.specs.declared.refusals.Refusal.{Refusal}
@@ -95,7 +95,7 @@ module _ (made : Expanded) (right : HasRightLexicon made) (segment : Bool) (inpu
 
   -- an input that is no text, or too long
   pub text_rejected : (at : ℕ) → length input ≤ sentence_limit → (IsUtf8 input → ⊥) → IsValidUpTo input at
-      → RejectsAt Listed (IsBadList (meaning_of made) segment input) (HasList (meaning_of made) segment input) (fault causes.BadUtf8 at 0) (place_in input (fault causes.BadUtf8 at 0))
+      → RejectsAt Listed (IsBadList (meaning_of made) segment input) (HasList (meaning_of made) segment input) (fault causes.BadUtf8 at 0) (line_column input (fault causes.BadUtf8 at 0))
   text_rejected at within ill valid = record { text = input; rejects = list_rejected (fault causes.BadUtf8 at 0) (no_text at within ill valid refl); place_is = refl }
 
   pub long_rejected : sentence_limit < length input

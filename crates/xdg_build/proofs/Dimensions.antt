@@ -12,24 +12,24 @@ use Rattle.xdg_problem.specs.declared.forms.Sort.{Sort}
 use Rattle.xdg_problem.specs.declared.forms.Which.{Which}
 use Rattle.xdg_principles.specs.Settings.{at_place, labels_in, members_in}
 use Rattle.xdg_principles.specs.Typed.{IsTypedUse, number_of, labels_at, members_at}
-use Rattle.xdg_build.specs.Grammars.{is_used, used_place, place_in, no_dim}
+use Rattle.xdg_build.specs.Grammars.{is_used, used_place, place_of_used, no_dim}
 use Rattle.xdg_facts.specs.Membership.{In}
 use Rattle.xdg_facts.proofs.In.{in_get}
 
 -- ---- places among the used ones
 
-pub used_at : (used : List ℕ) (k : ℕ) → In used k → slice_get used (place_in used k) ≡ Some k
+pub used_at : (used : List ℕ) (k : ℕ) → In used k → slice_get used (place_of_used used k) ≡ Some k
 used_at [] k h = absurd h
 used_at (j ∷ used) k h = elim (cases_eq j k) [
-  | inl e ↦ ap (λ b. slice_get (j ∷ used) (cond b 0 (suc (place_in used k)))) (eq-eqb j k e) ∙ ap Some e
-  | inr other ↦ ap (λ b. slice_get (j ∷ used) (cond b 0 (suc (place_in used k)))) (ne_eqb j k other) ∙ used_at used k (later h other)
+  | inl e ↦ ap (λ b. slice_get (j ∷ used) (cond b 0 (suc (place_of_used used k)))) (eq-eqb j k e) ∙ ap Some e
+  | inr other ↦ ap (λ b. slice_get (j ∷ used) (cond b 0 (suc (place_of_used used k)))) (ne_eqb j k other) ∙ used_at used k (later h other)
 ]
   where
     later : In (j ∷ used) k → (j ≡ k → ⊥) → In used k
     later h other = elim h [ inl e ↦ absurd (other e) | inr r ↦ r ]
 
-pub used_below : (used : List ℕ) (k : ℕ) → In used k → place_in used k < length used
-used_below used k h = slice_get_within used (place_in used k) k (used_at used k h)
+pub used_below : (used : List ℕ) (k : ℕ) → In used k → place_of_used used k < length used
+used_below used k h = slice_get_within used (place_of_used used k) k (used_at used k h)
 
 pub has_place : (used : List ℕ) (k : ℕ) → list_any (λ one. one == k) used ≡ true → In used k
 has_place [] k h = absurd cc

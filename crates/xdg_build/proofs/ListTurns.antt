@@ -6,7 +6,7 @@ use Rattle.std.proofs.lemmas.Bool.{ne_eqb, cond-true, cond-false}
 use Rattle.std.proofs.lemmas.List.{append_assoc, flat_map_more, take_more}
 use Rattle.std.proofs.Math.Seq.{drop-cons}
 use Rattle.xdg_types.specs.Table.{Table}
-use Rattle.xdg_build.specs.Grammars.{place_in, is_used}
+use Rattle.xdg_build.specs.Grammars.{place_of_used, is_used}
 use Rattle.xdg_facts.proofs.Lists.{from_place}
 
 -- ---- lists of lists
@@ -18,18 +18,18 @@ flat_turn f xs i x before after within is grown so_far =
 
 -- ---- places
 
-pub place_here : (used : List ℕ) (k i : ℕ) → i < length used → get_or used i 0 ≡ k → i + place_in (drop i used) k ≡ place_in used k → i ≡ place_in used k
+pub place_here : (used : List ℕ) (k i : ℕ) → i < length used → get_or used i 0 ≡ k → i + place_of_used (drop i used) k ≡ place_of_used used k → i ≡ place_of_used used k
 place_here used k i within same so_far =
-    let here : place_in (drop i used) k ≡ 0 =
-    ap (λ s. place_in s k) (drop-cons used i 0 within) ∙ ap (λ b. cond b 0 (suc (place_in (drop (suc i) used) k))) (eq-eqb (get_or used i 0) k same) in
+    let here : place_of_used (drop i used) k ≡ 0 =
+    ap (λ s. place_of_used s k) (drop-cons used i 0 within) ∙ ap (λ b. cond b 0 (suc (place_of_used (drop (suc i) used) k))) (eq-eqb (get_or used i 0) k same) in
     omega (arith, here, so_far)
 
-pub place_passed : (used : List ℕ) (k i whole : ℕ) → i < length used → (get_or used i 0 ≡ k → ⊥) → i + place_in (drop i used) k ≡ whole → i + 1 + place_in (drop (i + 1) used) k ≡ whole
+pub place_passed : (used : List ℕ) (k i whole : ℕ) → i < length used → (get_or used i 0 ≡ k → ⊥) → i + place_of_used (drop i used) k ≡ whole → i + 1 + place_of_used (drop (i + 1) used) k ≡ whole
 place_passed used k i whole within other so_far =
     let next : i + 1 ≡ suc i = omega arith in
-    let later : place_in (drop i used) k ≡ suc (place_in (drop (suc i) used) k) =
-    ap (λ s. place_in s k) (drop-cons used i 0 within) ∙ ap (λ b. cond b 0 (suc (place_in (drop (suc i) used) k))) (ne_eqb (get_or used i 0) k other) in
-    let same : place_in (drop (i + 1) used) k ≡ place_in (drop (suc i) used) k = ap (λ j. place_in (drop j used) k) next in
+    let later : place_of_used (drop i used) k ≡ suc (place_of_used (drop (suc i) used) k) =
+    ap (λ s. place_of_used s k) (drop-cons used i 0 within) ∙ ap (λ b. cond b 0 (suc (place_of_used (drop (suc i) used) k))) (ne_eqb (get_or used i 0) k other) in
+    let same : place_of_used (drop (i + 1) used) k ≡ place_of_used (drop (suc i) used) k = ap (λ j. place_of_used (drop j used) k) next in
     omega (arith, later, same, so_far)
 
 -- ---- elements that pass a test

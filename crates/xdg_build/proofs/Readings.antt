@@ -24,7 +24,7 @@ use Rattle.xdg_problem.specs.Vectors.{attr_sizes}
 use Rattle.xdg_problem.proofs.Counted.{length_attrs_of}
 use Rattle.xdg_types.specs.declared.table.DimType.{DimType}
 use Rattle.xdg_types.specs.Table.{typed, ArePlaces}
-use Rattle.xdg_build.specs.Grammars.{Grammar, no_dim, place_in, used_place, used_dims}
+use Rattle.xdg_build.specs.Grammars.{Grammar, no_dim, place_of_used, used_place, used_dims}
 use Rattle.xdg_build.proofs.Dimensions.{used_at, used_below}
 use Rattle.xdg_build.specs.Compiled.{compiled}
 use Rattle.xdg_build.specs.Plans.{plans, plan_at}
@@ -43,15 +43,15 @@ stands_at (k ∷ ks) zero within = inl refl
 stands_at (k ∷ ks) (suc i) within = inr (stands_at ks i (omega (arith, within)))
 
 -- a dimension stands at one place among the used ones
-pub place_is : (bound : ℕ) (used : List ℕ) (i k : ℕ) → ArePlaces bound used → i < length used → get_or used i 0 ≡ k → place_in used k ≡ i
+pub place_is : (bound : ℕ) (used : List ℕ) (i k : ℕ) → ArePlaces bound used → i < length used → get_or used i 0 ≡ k → place_of_used used k ≡ i
 place_is bound [] i k h within is = absurd (omega (arith, within))
-place_is bound (j ∷ used) zero k h within is = ap (λ b. cond b 0 (suc (place_in used k))) (eq-eqb j k is)
+place_is bound (j ∷ used) zero k h within is = ap (λ b. cond b 0 (suc (place_of_used used k))) (eq-eqb j k is)
 place_is bound (j ∷ used) (suc i) k h within is =
     let inside : i < length used = omega (arith, within) in
-    ap (λ b. cond b 0 (suc (place_in used k))) (ne_eqb j k (λ e. h.0.1 (subst (In used) (is ∙ sym e) (stands_at used i inside)))) ∙ ap suc (place_is bound used i k h.1 inside is)
+    ap (λ b. cond b 0 (suc (place_of_used used k))) (ne_eqb j k (λ e. h.0.1 (subst (In used) (is ∙ sym e) (stands_at used i inside)))) ∙ ap suc (place_is bound used i k h.1 inside is)
 
-used_is : (used : List ℕ) (k : ℕ) → In used k → get_or used (place_in used k) 0 ≡ k
-used_is used k has = get_or_from_slice_get used (place_in used k) k 0 (used_at used k has)
+used_is : (used : List ℕ) (k : ℕ) → In used k → get_or used (place_of_used used k) 0 ≡ k
+used_is used k has = get_or_from_slice_get used (place_of_used used k) k 0 (used_at used k has)
 
 pub filter_same : (p q : Edge → Bool) (es : List Edge) → ((e : Edge) → Contains es e → p e ≡ q e) → filter p es ≡ filter q es
 filter_same p q [] h = refl
@@ -62,11 +62,11 @@ filter_same p q (e ∷ es) h = ap₂ (λ (b : Bool) (more : List Edge). cond b (
 
 -- ---- records
 
-record_step : (b : Bool) (used : List ℕ) (r : Record) (entry : Entry) (k : ℕ) → record_for used entry k ≡ get_or entry (place_in used k) [] → cond b r (record_for used entry k) ≡ get_or (r ∷ entry) (cond b 0 (suc (place_in used k))) []
+record_step : (b : Bool) (used : List ℕ) (r : Record) (entry : Entry) (k : ℕ) → record_for used entry k ≡ get_or entry (place_of_used used k) [] → cond b r (record_for used entry k) ≡ get_or (r ∷ entry) (cond b 0 (suc (place_of_used used k))) []
 record_step true used r entry k later = refl
 record_step false used r entry k later = later
 
-pub record_same : (used : List ℕ) (entry : Entry) (k : ℕ) → length entry ≡ length used → record_for used entry k ≡ get_or entry (place_in used k) []
+pub record_same : (used : List ℕ) (entry : Entry) (k : ℕ) → length entry ≡ length used → record_for used entry k ≡ get_or entry (place_of_used used k) []
 record_same [] [] k long = refl
 record_same [] (r ∷ entry) k long = absurd (omega (arith, long))
 record_same (j ∷ used) [] k long = absurd (omega (arith, long))
@@ -129,25 +129,25 @@ module _ (g : Grammar) (n : ℕ) where
       passed : In (j ∷ used) k → (j ≡ k → ⊥) → In used k
       passed h other = elim h [ inl e ↦ absurd (other e) | inr r ↦ r ]
 
-  before_step : (b : Bool) (j : ℕ) (used : List ℕ) (k : ℕ) → length (attr_sizes n (take (place_in used k) (map (plan_at g g.table.dims) used))) ≡ values_before g n used k
-      → length (attr_sizes n (take (cond b 0 (suc (place_in used k))) (map (plan_at g g.table.dims) (j ∷ used)))) ≡ cond b 0 (n * length (dimension g j).attrs + values_before g n used k)
+  before_step : (b : Bool) (j : ℕ) (used : List ℕ) (k : ℕ) → length (attr_sizes n (take (place_of_used used k) (map (plan_at g g.table.dims) used))) ≡ values_before g n used k
+      → length (attr_sizes n (take (cond b 0 (suc (place_of_used used k))) (map (plan_at g g.table.dims) (j ∷ used)))) ≡ cond b 0 (n * length (dimension g j).attrs + values_before g n used k)
   before_step true j used k later = refl
   before_step false j used k later =
-      length-append (flat_map (λ (node : ℕ). map (λ (attr : AttrPlan). length attr.values) (plan_at g g.table.dims j).attrs) (below n)) (attr_sizes n (take (place_in used k) (map (plan_at g g.table.dims) used)))
+      length-append (flat_map (λ (node : ℕ). map (λ (attr : AttrPlan). length attr.values) (plan_at g g.table.dims j).attrs) (below n)) (attr_sizes n (take (place_of_used used k) (map (plan_at g g.table.dims) used)))
       ∙ ap₂ (λ x y. x + y) (length_attrs_of n (plan_at g g.table.dims j) ∙ ap (λ m. n * m) (planned.attr_count g (dimension g j))) later
 
   -- the values of a dimension begin behind those of the used dimensions before it
-  before_same : (used : List ℕ) (k : ℕ) → length (attr_sizes n (take (place_in used k) (map (plan_at g g.table.dims) used))) ≡ values_before g n used k
+  before_same : (used : List ℕ) (k : ℕ) → length (attr_sizes n (take (place_of_used used k) (map (plan_at g g.table.dims) used))) ≡ values_before g n used k
   before_same [] k = refl
   before_same (j ∷ used) k = before_step (j == k) j used k (before_same used k)
 
 -- ---- an analysis
 
 module _ (g : Grammar) (words : List SentenceWord) (a : Analysis) (used : ArePlaces (length g.table.dims) g.table.used) (is : IsAnalysisOf g words a) where
-  dim_test : (k : ℕ) (e : Edge) → In g.table.used k → e.dim.0 < length g.table.used → (e.dim.0 == place_in g.table.used k) ≡ (get_or g.table.used e.dim.0 0 == k)
-  dim_test k e has within = elim (cases_eq e.dim.0 (place_in g.table.used k)) [
-    | inl same ↦ eq-eqb e.dim.0 (place_in g.table.used k) same ∙ sym (eq-eqb (get_or g.table.used e.dim.0 0) k (ap (λ d. get_or g.table.used d 0) same ∙ used_is g.table.used k has))
-    | inr other ↦ ne_eqb e.dim.0 (place_in g.table.used k) other ∙ sym (ne_eqb (get_or g.table.used e.dim.0 0) k (λ at. other (sym (place_is (length g.table.dims) g.table.used e.dim.0 k used within at))))
+  dim_test : (k : ℕ) (e : Edge) → In g.table.used k → e.dim.0 < length g.table.used → (e.dim.0 == place_of_used g.table.used k) ≡ (get_or g.table.used e.dim.0 0 == k)
+  dim_test k e has within = elim (cases_eq e.dim.0 (place_of_used g.table.used k)) [
+    | inl same ↦ eq-eqb e.dim.0 (place_of_used g.table.used k) same ∙ sym (eq-eqb (get_or g.table.used e.dim.0 0) k (ap (λ d. get_or g.table.used d 0) same ∙ used_is g.table.used k has))
+    | inr other ↦ ne_eqb e.dim.0 (place_of_used g.table.used k) other ∙ sym (ne_eqb (get_or g.table.used e.dim.0 0) k (λ at. other (sym (place_is (length g.table.dims) g.table.used e.dim.0 k used within at))))
   ]
 
   pub edges_same : (k : ℕ) → In g.table.used k → edges_on (used_place g.table k) a.edges ≡ edges_in g a k
@@ -185,7 +185,7 @@ module _ (g : Grammar) (words : List SentenceWord) (a : Analysis) (used : ArePla
 
   -- the plan of a used dimension
   plan_same : (k : ℕ) → In g.table.used k → slice_index_or (plans g) (used_place g.table k) no_plan ≡ plan_at g g.table.dims k
-  plan_same k has = get_or-map (plan_at g g.table.dims) g.table.used (place_in g.table.used k) 0 no_plan (used_below g.table.used k has) ∙ ap (plan_at g g.table.dims) (used_is g.table.used k has)
+  plan_same k has = get_or-map (plan_at g g.table.dims) g.table.used (place_of_used g.table.used k) 0 no_plan (used_below g.table.used k has) ∙ ap (plan_at g g.table.dims) (used_is g.table.used k has)
 
   pub labels_same : (k : ℕ) → In g.table.used k → label_count (compiled g words) (used_place g.table k) ≡ length (dimension g k).labels
   labels_same k has = ap (λ (plan : DimPlan). length plan.labels) (plan_same k has)

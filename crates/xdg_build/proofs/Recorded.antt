@@ -4,7 +4,7 @@ use Rattle.std.specs.Prelude.{flat_map}
 use Rattle.std.specs.List.{AllZip}
 use Rattle.xdg_problem.specs.declared.parts.Feat.{Feat}
 use Rattle.xdg_principles.specs.declared.building.PrincipleUse.{PrincipleUse}
-use Rattle.xdg_build.specs.Grammars.{Grammar, place_in}
+use Rattle.xdg_build.specs.Grammars.{Grammar, place_of_used}
 use Rattle.xdg_build.specs.Groups.{features_in}
 use Rattle.xdg_build.specs.Known.{features_dim, IsKnownFor}
 use Rattle.xdg_build.specs.Rows.{AreKept}
@@ -42,8 +42,8 @@ zip_turn R xs ys more k y one within zip grown =
 
 -- ---- one principle use
 
-pub dim_is : (g : Grammar) (u : PrincipleUse) (used dims : List ℕ) (dim : ℕ) → used ≡ g.table.used → dims ≡ u.dims → dim ≡ place_in used (get_or dims (feature_dim u.principle) 0) → dim ≡ features_dim g u
-dim_is g u used dims dim same_used same_dims is = is ∙ ap₂ (λ us ds. place_in us (get_or ds (feature_dim u.principle) 0)) same_used same_dims
+pub dim_is : (g : Grammar) (u : PrincipleUse) (used dims : List ℕ) (dim : ℕ) → used ≡ g.table.used → dims ≡ u.dims → dim ≡ place_of_used used (get_or dims (feature_dim u.principle) 0) → dim ≡ features_dim g u
+dim_is g u used dims dim same_used same_dims is = is ∙ ap₂ (λ us ds. place_of_used us (get_or ds (feature_dim u.principle) 0)) same_used same_dims
 
 pub known_of : (g : Grammar) (u : PrincipleUse) (dim : ℕ) (places : List ℕ) (kept : List (ℕ × List Feat)) → dim ≡ features_dim g u → places ≡ flat_map features_in u.args → IsKnownFor g u kept → AreKept g.lexicon.entries dim places kept
 known_of g u dim places kept d p known =

@@ -32,7 +32,7 @@ use Rattle.xdg_problem.specs.Places.{nodes}
 use Rattle.xdg_problem.specs.Names.{IsOfTexts}
 use Rattle.xdg_problem.specs.Problems.{IsGroup, IsSuited}
 use Rattle.xdg_build.specs.Features.{feature}
-use Rattle.xdg_build.specs.Grammars.{Grammar, is_used, used_place, place_in}
+use Rattle.xdg_build.specs.Grammars.{Grammar, is_used, used_place, place_of_used}
 use Rattle.xdg_build.specs.Groups.{attrs_in, labels_in, truths_in, features_in, features_at, dims_of, group_of, groups_of}
 use Rattle.xdg_build.specs.Known.{features_dim}
 use Rattle.xdg_build.specs.Rows.{features_by_number}
@@ -204,11 +204,11 @@ wide g u dim typed_so used lexicon is n d less = subst (λ x. dim < length x) (g
 pub made_group : (g : Grammar) (candidates : List (List EntryNo)) (u : PrincipleUse) (q : Principle) (dims places : List ℕ) (args : List Arg) (used : List ℕ) (dim : ℕ)
     (made : List DimId) (attrs : List AttrId) (order : List LabelId) (truths : List Bool) (feats : List (List (List Feat)))
     → q ≡ u.principle → used ≡ g.table.used → dims ≡ u.dims → args ≡ u.args → dim ≡ features_dim g u
-    → made ≡ map (λ k. dim_id (place_in used k)) dims → attrs ≡ flat_map attrs_in args → order ≡ flat_map labels_in args → truths ≡ flat_map truths_in args → places ≡ flat_map features_in args
+    → made ≡ map (λ k. dim_id (place_of_used used k)) dims → attrs ≡ flat_map attrs_in args → order ≡ flat_map labels_in args → truths ≡ flat_map truths_in args → places ≡ flat_map features_in args
     → feats ≡ map (features_by_number g.lexicon.entries dim places) candidates
     → ◌≡◌ {A = Group} (record { principle = q; dims = made; attrs = attrs; order = order; truths = truths; feats = feats }) (group_of g candidates u)
 made_group g candidates u q dims places args used dim made attrs order truths feats e_q e_used e_dims e_args e_dim e_made e_attrs e_order e_truths e_places e_feats =
-    let a : made ≡ dims_of g u = e_made ∙ ap₂ (λ us ds. map (λ k. dim_id (place_in us k)) ds) e_used e_dims in
+    let a : made ≡ dims_of g u = e_made ∙ ap₂ (λ us ds. map (λ k. dim_id (place_of_used us k)) ds) e_used e_dims in
     let b : attrs ≡ flat_map attrs_in u.args = e_attrs ∙ ap (flat_map attrs_in) e_args in
     let c : order ≡ flat_map labels_in u.args = e_order ∙ ap (flat_map labels_in) e_args in
     let f : truths ≡ flat_map truths_in u.args = e_truths ∙ ap (flat_map truths_in) e_args in

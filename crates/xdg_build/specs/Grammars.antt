@@ -30,10 +30,10 @@ abbrev pub is_used : Table → ℕ → Bool
 is_used table k = list_any (λ used. used == k) table.used
 
 -- the place of a number in a list, and the list's length where it doesn't stand there
-abbrev pub place_in : List ℕ → ℕ → ℕ
-place_in [] k = 0
-place_in (used ∷ more) k = cond (used == k) 0 (suc (place_in more k))
+abbrev pub place_of_used : List ℕ → ℕ → ℕ
+place_of_used [] k = 0
+place_of_used (used ∷ more) k = cond (used == k) 0 (suc (place_of_used more k))
 
 -- the place of a dimension among the used ones, by its place among all
 abbrev pub used_place : Table → ℕ → ℕ
-used_place table k = place_in table.used k
+used_place table k = place_of_used table.used k

@@ -1,5 +1,5 @@
 -- What is compiled of the records of a grammar already.
-use Rattle.std.specs.Prelude.{ℕ, List, [], get_or, flat_map}
+use Rattle.std.specs.Prelude.{ℕ, List, get_or, flat_map}
 use Rattle.std.specs.List.{AllZip}
 use Rattle.xdg_problem.specs.declared.parts.Feat.{Feat}
 use Rattle.xdg_principles.specs.declared.building.PrincipleUse.{PrincipleUse}

@@ -19,8 +19,8 @@ pub(crate) fn is_used(used: &[usize], place: usize) -> bool
 
 /// The place of a dimension among the used ones, and how many there are where it isn't used.
 #[tactic(auto, using(crate::proofs::ListTurns::place_here, crate::proofs::ListTurns::place_passed))]
-pub(crate) fn place_in(used: &[usize], place: usize) -> usize
-    ensures place { result ≡ grammars.place_in used.now place }
+pub(crate) fn place_of_used(used: &[usize], place: usize) -> usize
+    ensures place { result ≡ grammars.place_of_used used.now place }
     ensures within { result ≤ length used.now }
 {
     for (at, one) in used.iter().enumerate() {
@@ -33,11 +33,11 @@ pub(crate) fn place_in(used: &[usize], place: usize) -> usize
 
 /// The place among the used ones of the dimension that has the features of a principle with these dimensions.
 pub(crate) fn feature_place(used: &[usize], principle: &Principle, dims: &[usize]) -> usize
-    ensures { result ≡ grammars.place_in used.now (get_or dims.now (rows.feature_dim principle.now) 0) }
+    ensures { result ≡ grammars.place_of_used used.now (get_or dims.now (rows.feature_dim principle.now) 0) }
 {
     match dims.get(feature_dim(principle)) {
-        None => place_in(used, 0),
-        Some(place) => place_in(used, *place),
+        None => place_of_used(used, 0),
+        Some(place) => place_of_used(used, *place),
     }
 }
 
@@ -48,11 +48,11 @@ pub(crate) fn dims_in(
     places: &[usize],
 ) -> Result<List<DimId>, OutOfMemory>
     requires { length used.now ≤ 8 }
-    ensures { IfOk result (λ made. made ≡ map (λ k. record { 0 = grammars.place_in used.now k }) places.now) }
+    ensures { IfOk result (λ made. made ≡ map (λ k. record { 0 = grammars.place_of_used used.now k }) places.now) }
 {
     let mut made = List::new(alloc);
     for place in places {
-        made.push(DimId(place_in(used, *place) as u8))?;
+        made.push(DimId(place_of_used(used, *place) as u8))?;
     }
     Ok(made)
 }

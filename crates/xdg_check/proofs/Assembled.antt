@@ -2,7 +2,7 @@
 use Rattle.std.proofs.lemmas.List.{append-nil, drop_all, take_all, length-map}
 use Rattle.std.proofs.Common.{◌≡◌, ◌++◌, take, drop, length, arith, Some, inl, inr, ℕ, List, [], map, refl, sym, ap, ◌∙◌, subst}
 use Rattle.xdg_base.specs.declared.faults.Fault.{Fault}
-use Rattle.xdg_types.specs.Answers.{None_of}
+use Rattle.xdg_types.specs.Answers.{HasTable, None_of}
 use Rattle.xdg_types.specs.Parts.{Statement}
 use Rattle.xdg_names.specs.First.{Tells as TellsFault}
 use Rattle.xdg_classes.specs.Graph.{CycleOffends}
@@ -14,8 +14,10 @@ use Rattle.xdg_classes.specs.Lent.{class_def}
 use Rattle.xdg_classes.specs.Ordered.{OrdersClasses}
 use Rattle.xdg_classes.specs.declared.lookup.Classes.{Classes}
 use Rattle.xdg_principles.specs.declared.building.PrincipleUse.{PrincipleUse}
-use Rattle.xdg_principles.specs.Made.{ArePrincipleUses}
+use Rattle.xdg_principles.specs.declared.using.Uses.{Uses}
+use Rattle.xdg_principles.specs.Made.{ArePrincipleUses, AreRightUses}
 use Rattle.xdg_principles.specs.Typed.{AreTypedUses}
+use Rattle.xdg_principles.specs.Uses.{AreUsesOf}
 use Rattle.xdg_check.specs.declared.checked.Class.{Class}
 use Rattle.xdg_check.specs.declared.checked.EntryDef.{EntryDef}
 use Rattle.xdg_check.specs.Answers.{NameOffends, ValueOffends, AreClassesOf, AreEntriesOf, IsCheckedOf, Refuses}
@@ -141,3 +143,9 @@ pub written_back : (filled slice old : List Class) (len : ℕ) → len ≡ lengt
 written_back filled slice old len counted lent same =
     let long : length filled ≡ length old = sym (length-map filled bare) ∙ ap length same ∙ length-map slice bare ∙ ap length lent in
     ap (λ xs. take len (filled ++ xs)) (drop_all (length filled) old (omega (arith, long))) ∙ ap (take len) (append-nil filled) ∙ take_all len filled (omega (arith, long, counted))
+
+-- ---- the uses of principles
+
+pub right_uses : (statements : List Statement) (table : Table) (uses : Uses) → AreUsesOf statements uses → HasTable statements table → None_of (NameOffends statements table) → None_of (ValueOffends statements table)
+    → AreRightUses statements table uses
+right_uses statements table uses are has named valued = record { found = are; has = has; names = λ f h. named f (inr h); arguments = λ f h. valued f (inr h) }

@@ -8,6 +8,7 @@ ghost use Rattle.xdg_names.specs.First.{Tells as TellsFault};
 ghost use Rattle.xdg_types.specs.Answers.{HasTable, None_of};
 ghost use Rattle.xdg_types.specs.Table.{IsTable};
 ghost use Rattle.xdg_packed.specs.Entries.{IsWordPlace};
+ghost use Rattle.xdg_principles.specs.Uses.{AreUsesOf};
 ghost use Rattle.xdg_check.specs.Answers.{NameOffends, ValueOffends, IsCheckedOf, Tells, IsAnswer};
 ghost use Rattle.xdg_check.specs.Checked.{Parts};
 ghost use Rattle.xdg_check.specs.Only.{Gives};
@@ -23,18 +24,21 @@ use xdg_ast::{Grammar, Statement};
 use xdg_base::{Fault, List, OutOfMemory, Stop};
 use xdg_classes::{Classes, classes};
 use xdg_names::earlier;
+use xdg_principles::{Uses, principle_uses};
 use xdg_types::TypeTable;
 
 /// The first fault of names, in bodies and in uses of principles.
 fn names_wrong(
     alloc: Global,
     statements: &[Statement],
+    uses: &Uses<'_>,
     table: &TypeTable,
 ) -> Result<Option<Fault>, OutOfMemory>
+    requires { AreUsesOf statements.now uses.now }
     ensures { IfOk result (λ found. TellsFault (NameOffends statements.now table.now) found) }
 {
     let in_bodies = xdg_classes::check_names(alloc, statements, table)?;
-    let in_uses = xdg_principles::check_names(alloc, statements)?;
+    let in_uses = xdg_principles::check_names(alloc, statements, uses)?;
     Ok(earlier(in_bodies, in_uses))
 }
 
@@ -42,15 +46,17 @@ fn names_wrong(
 fn values_wrong<'a>(
     alloc: Global,
     statements: &'a [Statement],
+    uses: &Uses<'_>,
     table: &'a TypeTable,
     classes: &Classes<'a>,
 ) -> Result<Option<Fault>, OutOfMemory>
+    requires uses { AreUsesOf statements.now uses.now }
     requires named { None_of (NameOffends statements.now table.now) }
     requires ordered { OrdersClasses statements.now classes.now }
     ensures { IfOk result (λ found. TellsFault (ValueOffends statements.now table.now) found) }
 {
     let in_bodies = xdg_classes::check_values(alloc, statements, table, classes)?;
-    let in_uses = xdg_principles::check_arguments(alloc, statements, table)?;
+    let in_uses = xdg_principles::check_arguments(alloc, uses, table)?;
     Ok(earlier(in_bodies, in_uses))
 }
 
@@ -58,10 +64,12 @@ fn values_wrong<'a>(
 fn assemble(
     alloc: Global,
     statements: &[Statement],
+    uses: &Uses<'_>,
     table: TypeTable,
     words: (usize, usize),
     classes: &Classes<'_>,
 ) -> Result<Checked, OutOfMemory>
+    requires uses { AreUsesOf statements.now uses.now }
     requires table { HasTable statements.now table }
     requires types { IsTable table }
     requires named { None_of (NameOffends statements.now table) }
@@ -75,7 +83,7 @@ fn assemble(
     if !small {
         return Err(OutOfMemory);
     }
-    let principles = xdg_principles::uses(alloc, statements, &table)?;
+    let principles = xdg_principles::uses(alloc, uses, &table)?;
     let mut made = make_classes(alloc, classes)?;
     let names = index_names(alloc, made.as_slice())?;
     fill_counts(&names, made.as_mut_slice(), classes.order());
@@ -96,26 +104,34 @@ fn assemble(
 fn ordered(
     alloc: Global,
     statements: &[Statement],
+    uses: &Uses<'_>,
     table: TypeTable,
     classes: &Classes<'_>,
 ) -> Result<Checked, Stop>
+    requires uses { AreUsesOf statements.now uses.now }
     requires table { HasTable statements.now table }
     requires named { None_of (NameOffends statements.now table) }
     requires ordered { OrdersClasses statements.now classes.now }
     ensures tells { Tells statements.now table result }
     ensures within { IfOk result (λ _. default_bytes (d.classes statements.now) statements.now ≤ most_bytes) }
 {
-    match values_wrong(alloc, statements, &table, classes)? {
+    match values_wrong(alloc, statements, uses, &table, classes)? {
         Some(fault) => Err(Stop::Fault(fault)),
         None => match place_of_words(&table) {
             Err(fault) => Err(Stop::Fault(fault)),
-            Ok(words) => Ok(assemble(alloc, statements, table, words, classes)?),
+            Ok(words) => Ok(assemble(alloc, statements, uses, table, words, classes)?),
         },
     }
 }
 
 /// The passes after that of names, and the checked grammar.
-fn named(alloc: Global, statements: &[Statement], table: TypeTable) -> Result<Checked, Stop>
+fn named(
+    alloc: Global,
+    statements: &[Statement],
+    uses: &Uses<'_>,
+    table: TypeTable,
+) -> Result<Checked, Stop>
+    requires uses { AreUsesOf statements.now uses.now }
     requires table { HasTable statements.now table }
     requires named { None_of (NameOffends statements.now table) }
     ensures tells { Tells statements.now table result }
@@ -123,7 +139,7 @@ fn named(alloc: Global, statements: &[Statement], table: TypeTable) -> Result<Ch
 {
     match classes(alloc, statements) {
         Err(stop) => Err(stop),
-        Ok(classes) => ordered(alloc, statements, table, &classes),
+        Ok(classes) => ordered(alloc, statements, uses, table, &classes),
     }
 }
 
@@ -137,9 +153,10 @@ fn check_statements(
     ensures tells { Tells statements.now table result }
     ensures within { IfOk result (λ _. default_bytes (d.classes statements.now) statements.now ≤ most_bytes) }
 {
-    match names_wrong(alloc, statements, &table)? {
+    let uses = principle_uses(alloc, statements)?;
+    match names_wrong(alloc, statements, &uses, &table)? {
         Some(fault) => Err(Stop::Fault(fault)),
-        None => named(alloc, statements, table),
+        None => named(alloc, statements, &uses, table),
     }
 }
 

@@ -17,7 +17,7 @@ use Rattle.xdg_corpus.specs.declared.group.Sentence.{Sentence}
 use Rattle.xdg_corpus.specs.declared.group.Sentence.TheVariants as sentences
 use Rattle.xdg_inputs.specs.Meanings.{Meaning}
 use Rattle.xdg_inputs.specs.Sentences.{AcceptsWords, RejectsWords, StopsWords}
-use Rattle.xdg_inputs.specs.Places.{place_in}
+use Rattle.xdg_inputs.specs.Places.{line_column}
 use Rattle.xdg_inputs.specs.Refusals.{refusal_of}
 use Rattle.xdg_inputs.specs.declared.refusals.Refusal.{Refusal}
 use Rattle.xdg_inputs.specs.declared.refusals.Refusal.TheVariants as refusals
@@ -77,7 +77,7 @@ module _ (m : Meaning) (options : CorpusOptions) where
       subst (λ js. AllZip (StandsFor m options js) (taken ++ line ∷ []) new.sentences.items) (sym jobs) (subst (AllZip (StandsFor m options (jobs_old ++ job ∷ [])) (taken ++ line ∷ [])) (sym said) more)
 
   -- a line that is refused
-  pub line_refused : (taken : List (List ℕ)) (line : List ℕ) (old new : Group) (f : Fault) (place : LineColumn) → RejectsWords m options.segment line f → place ≡ place_in line f
+  pub line_refused : (taken : List (List ℕ)) (line : List ℕ) (old new : Group) (f : Fault) (place : LineColumn) → RejectsWords m options.segment line f → place ≡ line_column line f
       → new.sentences.items ≡ old.sentences.items ++ sentences.Refused f place ∷ [] → new.jobs.items ≡ old.jobs.items → HasLines m options taken old → HasLines m options (taken ++ line ∷ []) new
   line_refused taken line old new f place rejects at said jobs has =
       let more = zip_more (StandsFor m options old.jobs.items) taken old.sentences.items line (sentences.Refused f place) has (rejects, at) in
@@ -85,11 +85,11 @@ module _ (m : Meaning) (options : CorpusOptions) where
 
   -- the refusal of a line
   pub words_refused : (line : List ℕ) (stop : Stop) (refusal : Refusal) (f : Fault) (place : LineColumn) → StopsWords m options.segment line stop → refusal ≡ refusal_of line stop → refusal ≡ refusals.Text f place
-      → RejectsWords m options.segment line f × (place ≡ place_in line f)
+      → RejectsWords m options.segment line f × (place ≡ line_column line f)
   words_refused line (stops.Fault g) refusal f place stopped is text = (
-    (let same : g ≡ f = let e : refusals.Text g (place_in line g) ≡ refusals.Text f place = sym is ∙ text in cc in subst (RejectsWords m options.segment line) same stopped),
-    (let same : g ≡ f = let e : refusals.Text g (place_in line g) ≡ refusals.Text f place = sym is ∙ text in cc in
-        let there : place_in line g ≡ place = let e : refusals.Text g (place_in line g) ≡ refusals.Text f place = sym is ∙ text in cc in sym there ∙ ap (place_in line) same),
+    (let same : g ≡ f = let e : refusals.Text g (line_column line g) ≡ refusals.Text f place = sym is ∙ text in cc in subst (RejectsWords m options.segment line) same stopped),
+    (let same : g ≡ f = let e : refusals.Text g (line_column line g) ≡ refusals.Text f place = sym is ∙ text in cc in
+        let there : line_column line g ≡ place = let e : refusals.Text g (line_column line g) ≡ refusals.Text f place = sym is ∙ text in cc in sym there ∙ ap (line_column line) same),
   )
   words_refused line stops.OutOfMemory refusal f place stopped is text = absurd (let e : refusals.Memory ≡ refusals.Text f place = sym is ∙ text in cc)
 
@@ -100,7 +100,7 @@ module _ (m : Meaning) (options : CorpusOptions) where
   asked_added (Ok done) line old new job asks said jobs = λ taken has. line_asked taken line old new job asks said jobs has
   asked_added (Err e) line old new job asks said jobs = tt
 
-  pub refused_added : {T E : Type 0} (result : Result T E) (line : List ℕ) (old new : Group) (f : Fault) (place : LineColumn) → RejectsWords m options.segment line f → place ≡ place_in line f
+  pub refused_added : {T E : Type 0} (result : Result T E) (line : List ℕ) (old new : Group) (f : Fault) (place : LineColumn) → RejectsWords m options.segment line f → place ≡ line_column line f
       → OnOk result (new.sentences.items ≡ old.sentences.items ++ sentences.Refused f place ∷ []) → OnOk result (new.jobs.items ≡ old.jobs.items)
       → OnOk result ((taken : List (List ℕ)) → HasLines m options taken old → HasLines m options (taken ++ line ∷ []) new)
   refused_added (Ok done) line old new f place rejects at said jobs = λ taken has. line_refused taken line old new f place rejects at said jobs has

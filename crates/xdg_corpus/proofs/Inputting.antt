@@ -5,7 +5,7 @@ use Rattle.std.specs.Str.{IsValidUpTo}
 use Rattle.xdg_base.specs.declared.faults.Cause.TheVariants as causes
 use Rattle.xdg_base.specs.declared.faults.Fault.{Fault}
 use Rattle.xdg_corpus.specs.Inputs.{HasText, IsBadCorpus, IsNoCorpus, corpus_limit, no_text, too_long}
-use Rattle.xdg_inputs.specs.Places.{place_in}
+use Rattle.xdg_inputs.specs.Places.{line_column}
 use Rattle.xdg_inputs.specs.Refusals.{RejectsAt}
 use Rattle.xdg_inputs.specs.Stages.{Accepts, Rejects}
 use Rattle.xdg_facts.proofs.Texts.{one_place}
@@ -30,5 +30,5 @@ rejected : (input : List ℕ) (f : Fault) → IsNoCorpus input f → Rejects (Li
 rejected input f bad = record { is = (refl, bad); one = λ t h q. (q.0, one_fault input f h bad q.1); never = λ b h. text_or_not input b f h bad }
 
 pub text_rejected : (input : List ℕ) (at : ℕ) → length input ≤ corpus_limit → (IsUtf8 input → ⊥) → IsValidUpTo input at
-    → RejectsAt (List ℕ) (IsBadCorpus input) (HasText input) (fault causes.BadUtf8 at 0) (place_in input (fault causes.BadUtf8 at 0))
+    → RejectsAt (List ℕ) (IsBadCorpus input) (HasText input) (fault causes.BadUtf8 at 0) (line_column input (fault causes.BadUtf8 at 0))
 text_rejected input at within ill valid = record { text = input; rejects = rejected input (fault causes.BadUtf8 at 0) (no_text at within ill valid refl); place_is = refl }

@@ -13,7 +13,7 @@ use Rattle.xdg_corpus.specs.declared.group.Sentence.{Sentence}
 use Rattle.xdg_corpus.specs.declared.group.Sentence.TheVariants as sentences
 use Rattle.xdg_inputs.specs.Meanings.{Meaning}
 use Rattle.xdg_inputs.specs.Sentences.{RejectsWords}
-use Rattle.xdg_inputs.specs.Places.{place_in}
+use Rattle.xdg_inputs.specs.Places.{line_column}
 use Rattle.xdg_split.specs.Answers.{IsAnswer}
 use Rattle.xdg_split.specs.Asked.{Asked, asked}
 use Rattle.xdg_split.specs.declared.answer.Answer.{Answer}
@@ -35,11 +35,11 @@ one_joined First Later first later one other = record {
 module _ (m : Meaning) (options : CorpusOptions) where
   -- ---- a line
 
-  line_refused : (line : List ℕ) (f : Fault) → RejectsWords m options.segment line f → IsOneText (LineText m options line) (fault_text f (place_in line f))
+  line_refused : (line : List ℕ) (f : Fault) → RejectsWords m options.segment line f → IsOneText (LineText m options line) (fault_text f (line_column line f))
   line_refused line f rejects = record { is = refused f rejects.is refl; only = same }
     where
-      same : (other : List ℕ) → LineText m options line other → other ≡ fault_text f (place_in line f)
-      same other (refused g bad e) = e ∙ ap (λ z. fault_text z (place_in line z)) (rejects.one g bad)
+      same : (other : List ℕ) → LineText m options line other → other ≡ fault_text f (line_column line f)
+      same other (refused g bad e) = e ∙ ap (λ z. fault_text z (line_column line z)) (rejects.one g bad)
       same other (searched parts ending has prints) = absurd (rejects.never parts has)
 
   line_searched : (line : List ℕ) (job : Asked) (answer : Answer) → AsksFor m options line job → IsAnswer job answer → IsOneText (LineText m options line) answer.bytes

@@ -4,7 +4,7 @@ use Rattle.std.specs.List.{AllZip}
 use Rattle.xdg_command.specs.declared.commands.CorpusOptions.{CorpusOptions}
 use Rattle.xdg_inputs.specs.Meanings.{Meaning}
 use Rattle.xdg_inputs.specs.Sentences.{AcceptsWords, RejectsWords}
-use Rattle.xdg_inputs.specs.Places.{place_in}
+use Rattle.xdg_inputs.specs.Places.{line_column}
 use Rattle.xdg_problem.specs.declared.parts.Parts.{Parts}
 use Rattle.xdg_split.specs.Asked.{Asked, asked}
 use Rattle.xdg_split.specs.declared.answer.Answer.{Answer}
@@ -23,7 +23,7 @@ pub record AsksFor (m : Meaning) (options : CorpusOptions) (sentence : List ℕ)
 
 -- what stands for a line among the jobs of its group: its fault, or the place of its job
 abbrev pub StandsFor : Meaning → CorpusOptions → List Asked → List ℕ → Sentence → Type 0
-StandsFor m options jobs line (sentences.Refused f place) = RejectsWords m options.segment line f × (place ≡ place_in line f)
+StandsFor m options jobs line (sentences.Refused f place) = RejectsWords m options.segment line f × (place ≡ line_column line f)
 StandsFor m options jobs line (sentences.Job place) = (job : Asked) × (slice_get jobs place ≡ Some job) × AsksFor m options line job
 
 -- the group has these lines

@@ -8,14 +8,14 @@ use Rattle.xdg_command.specs.declared.commands.CorpusOptions.{CorpusOptions}
 use Rattle.xdg_inputs.specs.Meanings.{Meaning}
 use Rattle.xdg_inputs.specs.Sentences.{HasWords, IsBadWords}
 use Rattle.xdg_facts.specs.declared.Ending.{Ending}
-use Rattle.xdg_inputs.specs.Places.{place_in}
+use Rattle.xdg_inputs.specs.Places.{line_column}
 use Rattle.xdg_problem.specs.declared.parts.Parts.{Parts}
 use Rattle.xdg_text.specs.Lines.{fault_text, line}
 
 -- The text of a line alone. Its words are refused, and it is their fault line, with the place within the line; or it is what the search
 -- of its problem prints in text 1, from the beginning and with a budget of its own.
 pub data LineText (m : Meaning) (options : CorpusOptions) (sentence text : List ℕ) : Type 0 where
-  refused : (f : Fault) → IsBadWords m options.segment sentence f → text ≡ fault_text f (place_in sentence f) → LineText m options sentence text
+  refused : (f : Fault) → IsBadWords m options.segment sentence f → text ≡ fault_text f (line_column sentence f) → LineText m options sentence text
   searched : (parts : Parts) (ending : Ending) → HasWords m options.segment sentence parts → Prints ending forms.One options.budget options.first parts [] text
       → LineText m options sentence text
 

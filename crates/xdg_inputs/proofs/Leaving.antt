@@ -5,7 +5,7 @@ use Rattle.xdg_base.specs.declared.faults.Fault.{Fault}
 use Rattle.xdg_io.proofs.Written.{appends_nothing}
 use Rattle.xdg_io.specs.Held.{Appends, AppendsFront}
 use Rattle.xdg_text.specs.Lines.{fault_text}
-use Rattle.xdg_inputs.specs.Places.{place_in}
+use Rattle.xdg_inputs.specs.Places.{line_column}
 use Rattle.xdg_inputs.specs.Refusals.{Stops, Refuses}
 use Rattle.xdg_inputs.specs.Runs.{Ends, Leaves, LeavesFront}
 use Rattle.xdg_inputs.specs.Stages.{Behind, refused, accepted, Accepts, Rejects}
@@ -71,16 +71,16 @@ module _ (A : Type 0) (bad : Status) (Refused : List ℕ → Fault → Type 0) (
 
   -- ---- a step that rejects
 
-  only_refused : (text : List ℕ) (f : Fault) → Rejects A Refused Has text f → IsOnly (Behind A bad Refused Has next) bad (fault_text f (place_in text f))
+  only_refused : (text : List ℕ) (f : Fault) → Rejects A Refused Has text f → IsOnly (Behind A bad Refused Has next) bad (fault_text f (line_column text f))
   only_refused text f r = record {
     is = refused text f r.is refl refl;
     only = λ other more o. same other more o;
   }
     where
-      same : (other : Status) (more : List ℕ) → Behind A bad Refused Has next other more → (bad ≡ other) × (fault_text f (place_in text f) ≡ more)
+      same : (other : Status) (more : List ℕ) → Behind A bad Refused Has next other more → (bad ≡ other) × (fault_text f (line_column text f) ≡ more)
       same other more (refused t g q s l) =
           let both = r.one t g q in
-          (sym s, ap (λ z. fault_text z (place_in text z)) (sym both.1) ∙ ap (λ z. fault_text g (place_in z g)) (sym both.0) ∙ sym l)
+          (sym s, ap (λ z. fault_text z (line_column text z)) (sym both.1) ∙ ap (λ z. fault_text g (line_column z g)) (sym both.0) ∙ sym l)
       same other more (accepted b h n) = absurd (r.never b h)
 
   -- why a step came to nothing is the outcome, unless a device or memory failed; `build` is the identity for a status of refusals
@@ -91,8 +91,8 @@ module _ (A : Type 0) (bad : Status) (Refused : List ℕ → Fault → Type 0) (
   stopped_leaves Told before after result (refusals.Text f p) old new told build s (inl r) =
       let at = s told in
       subst (λ z. Leaves (Behind A bad Refused Has next) z old new) (sym r.0)
-      (build (ends_of (Behind A bad Refused Has next) bad (fault_text f (place_in at.text f)) old new (only_refused at.text f at.rejects) (subst (λ z. Appends old new (fault_text f z)) at.place_is r.1)))
+      (build (ends_of (Behind A bad Refused Has next) bad (fault_text f (line_column at.text f)) old new (only_refused at.text f at.rejects) (subst (λ z. Appends old new (fault_text f z)) at.place_is r.1)))
   stopped_leaves Told before after result (refusals.Text f p) old new told build s (inr r) =
       let at = s told in
       subst (λ z. Leaves (Behind A bad Refused Has next) z old new) (sym r.0)
-      (front_of (Behind A bad Refused Has next) bad (fault_text f (place_in at.text f)) old new (only_refused at.text f at.rejects) (subst (λ z. AppendsFront old new (fault_text f z)) at.place_is r.1))
+      (front_of (Behind A bad Refused Has next) bad (fault_text f (line_column at.text f)) old new (only_refused at.text f at.rejects) (subst (λ z. AppendsFront old new (fault_text f z)) at.place_is r.1))

@@ -17,7 +17,7 @@ use Rattle.xdg_io.specs.Rose.{Rose}
 use Rattle.xdg_problem.specs.declared.parts.Parts.{Parts}
 use Rattle.xdg_linear.specs.Segments.{words_in}
 use Rattle.xdg_inputs.specs.Grammars.{with_words}
-use Rattle.xdg_inputs.specs.Places.{place_in}
+use Rattle.xdg_inputs.specs.Places.{line_column}
 use Rattle.xdg_inputs.specs.Refusals.{RejectsAt, Stops, refusal_of}
 use Rattle.xdg_inputs.specs.Sentences.{IsBadWords, HasWords, AcceptsWords, RejectsWords, StopsWords, IsNoSentence, too_long, no_text, no_words, IsSentence, IsBadSentence, HasProblem, sentence_limit}
 use Rattle.xdg_inputs.specs.Stages.{Accepts, Rejects}
@@ -88,7 +88,7 @@ module _ (made : Expanded) (right : HasRightLexicon made) (segment : Bool) (inpu
   }
 
   pub no_text_rejected : (at : ℕ) → length input ≤ sentence_limit → (IsUtf8 input → ⊥) → IsValidUpTo input at
-      → RejectsAt Parts (IsBadSentence (meaning_of made) segment input) (HasProblem (meaning_of made) segment input) (fault causes.BadUtf8 at 0) (place_in input (fault causes.BadUtf8 at 0))
+      → RejectsAt Parts (IsBadSentence (meaning_of made) segment input) (HasProblem (meaning_of made) segment input) (fault causes.BadUtf8 at 0) (line_column input (fault causes.BadUtf8 at 0))
   no_text_rejected at within ill valid = record { text = input; rejects = sentence_rejected (fault causes.BadUtf8 at 0) (no_text at within ill valid refl); place_is = refl }
 
   pub long_rejected : sentence_limit < length input

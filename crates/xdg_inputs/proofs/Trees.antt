@@ -9,7 +9,7 @@ use Rattle.xdg_ast.specs.declared.grammar.Grammar.{Grammar}
 use Rattle.xdg_ast.specs.Derives.{Reads}
 use Rattle.xdg_inputs.specs.GrammarTexts.{IsUnreadable, IsReadAs, ReadsAs, TellsTree}
 use Rattle.xdg_io.specs.Files.{HasFile}
-use Rattle.xdg_inputs.specs.Places.{place_in}
+use Rattle.xdg_inputs.specs.Places.{line_column}
 use Rattle.xdg_inputs.specs.Refusals.{Stops, refusal_of}
 use Rattle.xdg_inputs.specs.Stages.{Accepts, Rejects}
 use Rattle.xdg_inputs.specs.GrammarFiles.{ReadText, HasTree, HasBadText, IsBadText, too_long, unreadable, grammar_limit}
@@ -24,7 +24,7 @@ pub same_text : (files : List ℕ → Option (List ℕ)) (name s t : List ℕ) �
 same_text files name s t p q = let r : Some s ≡ Some t = sym p ∙ q in cc
 
 -- the first byte of a text is its first line and column
-pub first_byte : (text : List ℕ) (f : Fault) → f.at ≡ 0 → record { line = 1; column = 1 } ≡ place_in text f
+pub first_byte : (text : List ℕ) (f : Fault) → f.at ≡ 0 → record { line = 1; column = 1 } ≡ line_column text f
 first_byte text f e = ap (λ n. record { line = line_of text n; column = column_of text n }) (sym e)
 
 -- ---- a text that is read

@@ -5,5 +5,5 @@ use Rattle.xdg_base.specs.declared.places.LineColumn.{LineColumn}
 use Rattle.xdg_base.specs.Places.{line_of, column_of}
 
 -- the line and the column of a fault
-abbrev pub place_in : List ℕ → Fault → LineColumn
-place_in text refused = record { line = line_of text refused.at; column = column_of text refused.at }
+abbrev pub line_column : List ℕ → Fault → LineColumn
+line_column text refused = record { line = line_of text refused.at; column = column_of text refused.at }

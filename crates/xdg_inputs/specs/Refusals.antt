@@ -7,7 +7,7 @@ use Rattle.xdg_base.specs.declared.places.LineColumn.{LineColumn}
 use Rattle.xdg_io.specs.Held.{Appends, AppendsFront}
 use Rattle.xdg_io.specs.Rose.{Rose}
 use Rattle.xdg_text.specs.Lines.{fault_text}
-use Rattle.xdg_inputs.specs.Places.{place_in}
+use Rattle.xdg_inputs.specs.Places.{line_column}
 use Rattle.xdg_inputs.specs.Stages.{Rejects}
 use Rattle.xdg_inputs.specs.declared.refusals.Refusal.{Refusal}
 use Rattle.xdg_inputs.specs.declared.refusals.Refusal.TheVariants as refusals
@@ -18,7 +18,7 @@ use Rattle.xdg_inputs.specs.declared.status.Status.TheVariants as statuses
 pub record RejectsAt (A : Type 0) (Refused : List ℕ → Fault → Type 0) (Has : A → Type 0) (f : Fault) (place : LineColumn) : Type 0 where
   pub text : List ℕ
   pub rejects : Rejects A Refused Has text f
-  pub place_is : place ≡ place_in text f
+  pub place_is : place ≡ line_column text f
 
 -- Why a step came to nothing: the device's count rose, or memory was wanting, or the step rejects a text, where the devices tell
 -- what they hold.
@@ -36,5 +36,5 @@ Refuses result status (refusals.Text refused place) old new =
 
 -- the refusal of a text for what stopped a call
 abbrev pub refusal_of : List ℕ → Stop → Refusal
-refusal_of text (stops.Fault f) = refusals.Text f (place_in text f)
+refusal_of text (stops.Fault f) = refusals.Text f (line_column text f)
 refusal_of text stops.OutOfMemory = refusals.Memory

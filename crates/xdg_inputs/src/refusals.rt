@@ -2,7 +2,7 @@
 
 ghost use Rattle.std.specs.Prelude.{◌≡◌, ◌≢◌, ◌≤◌, ◌<◌, ◌⊎◌, ◌^◌, length};
 ghost use Rattle.xdg_io.specs.Rose.{Rose};
-ghost use Rattle.xdg_inputs.specs.Places.{place_in};
+ghost use Rattle.xdg_inputs.specs.Places.{line_column};
 ghost use Rattle.xdg_build.specs.Refusals.{fault};
 ghost use Rattle.xdg_inputs.specs.Refusals.{Refuses, refusal_of};
 
@@ -25,7 +25,7 @@ pub enum Refusal {
 /// The line and the column of a place in a text, or of its end where the text is shorter.
 fn place_within(text: &[u8], at: u32) -> LineColumn
     requires { length text.now < 2 ^ 32 }
-    ensures { let refused = fault Cause.BadUtf8 at 0 in result ≡ place_in text.now refused }
+    ensures { let refused = fault Cause.BadUtf8 at 0 in result ≡ line_column text.now refused }
 {
     if at as usize <= text.len() {
         place(text, at)
@@ -37,7 +37,7 @@ fn place_within(text: &[u8], at: u32) -> LineColumn
 /// The refusal of a text for a fault.
 pub fn refused_in(text: &[u8], fault: Fault) -> Refusal
     requires { length text.now < 2 ^ 32 }
-    ensures { result ≡ Refusal.Text fault (place_in text.now fault) }
+    ensures { result ≡ Refusal.Text fault (line_column text.now fault) }
 {
     Refusal::Text(fault, place_within(text, fault.at))
 }
@@ -46,7 +46,7 @@ pub fn refused_in(text: &[u8], fault: Fault) -> Refusal
 pub fn no_text(input: &[u8], at: usize) -> Refusal
     requires within { at ≤ length input.now }
     requires small { length input.now < 2 ^ 32 }
-    ensures { let refused = fault Cause.BadUtf8 at 0 in result ≡ Refusal.Text refused (place_in input.now refused) }
+    ensures { let refused = fault Cause.BadUtf8 at 0 in result ≡ Refusal.Text refused (line_column input.now refused) }
 {
     let fault = Fault::at(Cause::BadUtf8, at as u32);
     refused_in(input, fault)

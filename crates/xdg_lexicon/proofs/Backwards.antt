@@ -1,14 +1,15 @@
 -- Partial entries joined from their last records to their first.
 use Rattle.std.proofs.Common.{◌≡◌, ℕ, zero, suc, ◌<◌, ◌+◌, List, [], ◌∷◌, ◌++◌, length, get_or, reverse, refl, ap, sym, ◌∙◌, arith, subst}
 use Rattle.std.proofs.Math.Seq.{get_or-append_seam}
-use Rattle.std.proofs.lemmas.List.{length-append, length-reverse, get_or_append_left, get_or_default, reverse-append}
-use Rattle.std.specs.Prelude.{Option, Some, MatchOption}
+use Rattle.std.proofs.lemmas.List.{length-append, length-reverse, get_or_append_left, reverse-append}
+use Rattle.std.proofs.lemmas.Option.{slice_get_read, slice_get_within}
+use Rattle.std.specs.Prelude.{Option, None, MatchOption}
 use Rattle.xdg_domain.specs.Joined.{fields_in}
 use Rattle.xdg_domain.specs.Joins.{SaysBoth, JoinsField, OnSome, ClashesField}
 use Rattle.xdg_domain.specs.declared.types.Ty.{Ty}
 use Rattle.xdg_types.specs.declared.table.DimType.{DimType}
-use Rattle.xdg_lexicon.specs.Partial.{Record, Partial, said_of, IsRecord, IsPartial, PartialsJoin}
-use Rattle.xdg_lexicon.proofs.Dims.{JoinsAt, within_partial, joined_here}
+use Rattle.xdg_lexicon.specs.Partial.{Record, Partial, said_of, IsRecord, IsPartial, PartialsJoin, PartialsClash}
+use Rattle.xdg_lexicon.proofs.Dims.{JoinsAt}
 
 -- Of two partial entries these records are left, and Q holds of those that are made of the ones behind them, the last first.
 pub record BackSoFar (Q : ℕ → Record → Type 0) (bound : ℕ) (a b one other made : Partial) : Type 0 where
@@ -49,22 +50,25 @@ module _ (Q : ℕ → Record → Type 0) (bound : ℕ) (a b one other made rest 
         here zero h = (let e : length rest ≡ length rest + zero = omega arith in subst (λ n. Q n m) e q)
         here (suc i) h = (let l = longer in let e : length one + i ≡ length rest + suc i = omega (arith, l) in subst (λ n. Q n (said_of (reverse made) i)) e (s.each i (omega (arith, h))))
 
--- what is said of a dimension by two of which these two records are the last
-module _ (dims : List DimType) (a b : Partial) (k : ℕ) (d : DimType) (mine theirs : Record) (fs : List (List ℕ × Ty)) (within : k < length dims) (is : d ≡ get_or dims k d) (types : fs ≡ d.fields) where
-  stands : (p : Partial) (x : Record) → x ≡ said_of p k → IsPartial dims p → x ≡ get_or p k x
-  stands p x here right = here ∙ sym (get_or_default p k x [] (within_partial dims p k within right))
-
-  pub joined_back : IsPartial dims a → IsPartial dims b → mine ≡ said_of a k → theirs ≡ said_of b k → (told : Option Record) (m : Record) → told ≡ Some m
-      → MatchOption told (OnSome (ClashesField (fields_in fs)) mine theirs) (λ n. SaysBoth (JoinsField (fields_in fs)) mine theirs n × IsRecord (fields_in fs) n) → JoinsAt dims a b k m
-  joined_back ra rb one other told m some h =
-      joined_here dims a b k d mine theirs mine theirs fs within is ra rb (stands a mine one ra) (stands b theirs other rb) refl refl types m
-      (subst (λ t. MatchOption t (OnSome (ClashesField (fields_in fs)) mine theirs) (λ n. SaysBoth (JoinsField (fields_in fs)) mine theirs n × IsRecord (fields_in fs) n)) some h)
+-- two records that clash are what two partial entries say of the dimension at their place
+pub clashed_back : (dims : List DimType) (a b : Partial) (k : ℕ) (d : DimType) (mine theirs : Record) (fs : List (List ℕ × Ty)) → k < length dims → d ≡ get_or dims k d → fs ≡ d.fields → mine ≡ said_of a k → theirs ≡ said_of b k
+    → (told : Option Record) → told ≡ None
+    → MatchOption told (OnSome (ClashesField (fields_in fs)) mine theirs) (λ n. SaysBoth (JoinsField (fields_in fs)) mine theirs n × IsRecord (fields_in fs) n) → PartialsClash dims a b
+clashed_back dims a b k d mine theirs fs within is types one other told none h =
+    let Clash = λ (l : List (List ℕ × Ty)) (x y : Record). OnSome (ClashesField (fields_in l)) x y in
+    let clash : Clash fs mine theirs = subst (λ t. MatchOption t (OnSome (ClashesField (fields_in fs)) mine theirs) (λ n. SaysBoth (JoinsField (fields_in fs)) mine theirs n × IsRecord (fields_in fs) n)) none h in
+    record {
+      at = k;
+      dim = d;
+      is = slice_get_read dims (length dims) k d refl within is;
+      clash = subst (λ l. Clash l (said_of a k) (said_of b k)) types (subst (λ x. Clash fs x (said_of b k)) one (subst (λ y. Clash fs mine y) other clash));
+    }
 
 -- nothing is left
 pub back_done : (dims : List DimType) (a b one other made rest whole : Partial) → one ≡ [] → rest ≡ [] → whole ≡ rest ++ reverse made → BackSoFar (JoinsAt dims a b) (length dims) a b one other made → PartialsJoin dims a b whole × IsPartial dims whole
 back_done dims a b one other made rest whole none nothing is s = subst (λ p. PartialsJoin dims a b p × IsPartial dims p) (sym (is ∙ ap (λ l. l ++ reverse made) nothing)) (
-  record { count = long; each = λ k dim at. (joins k at.0 dim at).0 },
-  record { count = long; each = λ k dim at. (joins k at.0 dim at).1 },
+  record { count = long; each = λ k dim at. (joins k (slice_get_within dims k dim at) dim at).0 },
+  record { count = long; each = λ k dim at. (joins k (slice_get_within dims k dim at) dim at).1 },
 )
   where
     made_long : length made ≡ length dims

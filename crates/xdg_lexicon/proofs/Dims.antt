@@ -2,16 +2,18 @@
 use Rattle.std.proofs.Common.{◌≡◌, ℕ, zero, suc, ◌<◌, ◌≤◌, ◌+◌, List, [], ◌∷◌, ◌++◌, length, get_or, ap, sym, ◌∙◌, arith, inl, inr, subst}
 use Rattle.std.proofs.Math.Seq.{get_or-append_seam}
 use Rattle.std.proofs.lemmas.Bool.{cases_eq}
-use Rattle.std.proofs.lemmas.List.{length-append, length-map, get_or_append_left, get_or_default, get_or-map}
+use Rattle.std.proofs.lemmas.List.{length-append, length-map, get_or_append_left, get_or-map}
+use Rattle.std.specs.Prelude.{Option, Some, MatchOption}
+use Rattle.std.proofs.lemmas.Option.{get_or_from_slice_get, slice_get_within}
 use Rattle.xdg_domain.specs.Joined.{fields_in}
-use Rattle.xdg_domain.specs.Joins.{SaysBoth, JoinsField}
+use Rattle.xdg_domain.specs.Joins.{SaysBoth, JoinsField, OnSome, ClashesField}
 use Rattle.xdg_domain.specs.Shapes.{AreTypes}
 use Rattle.xdg_domain.specs.declared.types.Ty.{Ty}
 use Rattle.xdg_types.specs.Table.{typed, AreFeatures, KeepsDim, KeepDims}
 use Rattle.xdg_types.specs.declared.table.DimType.{DimType}
 use Rattle.xdg_terms.specs.Forms.{Bindings}
 use Rattle.xdg_classes.specs.Bodies.{Pairs}
-use Rattle.xdg_lexicon.specs.Partial.{Record, Partial, features, IsDim, said_of, IsRecord, IsPartial, nothing, SaysRecord, ReadsDim}
+use Rattle.xdg_lexicon.specs.Partial.{Record, Partial, features, IsDim, said_of, IsRecord, IsPartial, nothing, PartialsJoin, SaysRecord, ReadsDim}
 
 -- ---- lists made one by one
 
@@ -38,7 +40,7 @@ module _ (Q : ℕ → Record → Type 0) where
 -- at a place there is one dimension
 
 pub one_dim : (dims : List DimType) (k : ℕ) (d dim : DimType) → d ≡ get_or dims k d → IsDim dims k dim → dim ≡ d
-one_dim dims k d dim is at = sym at.1 ∙ get_or_default dims k dim d at.0 ∙ sym is
+one_dim dims k d dim is at = sym (get_or_from_slice_get dims k dim d at) ∙ sym is
 
 pub keeps_at : (dims : List DimType) (k : ℕ) (d : DimType) → k < length dims → d ≡ get_or dims k d → KeepDims dims → KeepsDim d
 keeps_at [] k d within is h = absurd (omega (arith, within))
@@ -54,7 +56,7 @@ types_of (f ∷ fs) h = (h.0, types_of fs h.1)
 pub nothing_partial : (dims : List DimType) → IsPartial dims (nothing dims)
 nothing_partial dims = record {
   count = length-map dims (λ dim. []);
-  each = λ k dim at. subst (IsRecord (features dim)) (sym (get_or-map (λ (d : DimType). []) dims k dim [] at.0)) (tt, tt);
+  each = λ k dim at. subst (IsRecord (features dim)) (sym (get_or-map (λ (d : DimType). []) dims k dim [] (slice_get_within dims k dim at))) (tt, tt);
 }
 
 -- ---- joins
@@ -65,19 +67,14 @@ JoinsAt dims a b k m = (dim : DimType) → IsDim dims k dim → SaysBoth (JoinsF
 pub within_partial : (dims : List DimType) (p : Partial) (k : ℕ) → k < length dims → IsPartial dims p → k < length p
 within_partial dims p k within right = (let long = right.count in omega (arith, within, long))
 
-module _ (dims : List DimType) (a b : Partial) (k : ℕ) (d : DimType) (x y mine theirs : Record) (fs : List (List ℕ × Ty)) (within : k < length dims) (is : d ≡ get_or dims k d) (ra : IsPartial dims a) (rb : IsPartial dims b)
-    (here : x ≡ get_or a k x) (there : y ≡ get_or b k y) (one : mine ≡ x) (other : theirs ≡ y) (types : fs ≡ d.fields) where
-  mine_is : mine ≡ said_of a k
-  mine_is = one ∙ here ∙ get_or_default a k x [] (within_partial dims a k within ra)
-
-  theirs_is : theirs ≡ said_of b k
-  theirs_is = other ∙ there ∙ get_or_default b k y [] (within_partial dims b k within rb)
-
-  pub joined_here : (m : Record) → SaysBoth (JoinsField (fields_in fs)) mine theirs m × IsRecord (fields_in fs) m → JoinsAt dims a b k m
-  joined_here m h dim at =
-      let e : fs ≡ dim.fields = types ∙ ap (λ (z : DimType). z.fields) (sym (one_dim dims k d dim is at)) in
-      subst (λ l. SaysBoth (JoinsField (fields_in l)) (said_of a k) (said_of b k) m × IsRecord (fields_in l) m) e
-      (subst (λ z. SaysBoth (JoinsField (fields_in fs)) z (said_of b k) m × IsRecord (fields_in fs) m) mine_is (subst (λ z. SaysBoth (JoinsField (fields_in fs)) mine z m × IsRecord (fields_in fs) m) theirs_is h))
+-- what two records say together is what is said of the dimension at their place
+pub joined_here : (dims : List DimType) (a b : Partial) (k : ℕ) (d : DimType) (mine theirs : Record) (fs : List (List ℕ × Ty)) → d ≡ get_or dims k d → fs ≡ d.fields → mine ≡ said_of a k → theirs ≡ said_of b k
+    → (told : Option Record) (m : Record) → told ≡ Some m
+    → MatchOption told (OnSome (ClashesField (fields_in fs)) mine theirs) (λ n. SaysBoth (JoinsField (fields_in fs)) mine theirs n × IsRecord (fields_in fs) n) → JoinsAt dims a b k m
+joined_here dims a b k d mine theirs fs is types one other told m some h dim at =
+    let Both = λ (l : List (List ℕ × Ty)) (x y : Record). SaysBoth (JoinsField (fields_in l)) x y m × IsRecord (fields_in l) m in
+    let both : Both fs mine theirs = subst (λ t. MatchOption t (OnSome (ClashesField (fields_in fs)) mine theirs) (λ n. SaysBoth (JoinsField (fields_in fs)) mine theirs n × IsRecord (fields_in fs) n)) some h in
+    subst (λ l. Both l (said_of a k) (said_of b k)) (types ∙ ap (λ (z : DimType). z.fields) (sym (one_dim dims k d dim is at))) (subst (λ x. Both fs x (said_of b k)) one (subst (λ y. Both fs mine y) other both))
 
 -- ---- entries that are read
 
@@ -87,15 +84,28 @@ ReadsAt dims bs name pairs k m = (dim : DimType) → IsDim dims k dim → ReadsD
 pub read_here : (dims : List DimType) (bs : Bindings) (name : List ℕ) (pairs : Pairs) (k : ℕ) (d : DimType) (m : Record) → d ≡ get_or dims k d → ReadsDim d bs name pairs m → ReadsAt dims bs name pairs k m
 read_here dims bs name pairs k d m is h dim at = subst (λ z. ReadsDim z bs name pairs m) (sym (one_dim dims k d dim is at)) h
 
-module _ (dims : List DimType) (bs : Bindings) (name : List ℕ) (pairs : Pairs) (bound : ℕ) (made : Partial) (low : length dims ≤ bound) (high : bound ≤ length dims) (s : SoFar (ReadsAt dims bs name pairs) bound made) where
-  long : length made ≡ length dims
-  long = (let n = s.count in omega (arith, low, high, n))
+-- ---- all dimensions
 
-  at_dim : (k : ℕ) (dim : DimType) → IsDim dims k dim → ReadsDim dim bs name pairs (said_of made k)
-  at_dim k dim at = s.each k (let w = at.0 in omega (arith, w, low)) dim at
+module _ (dims : List DimType) (bound : ℕ) (made : Partial) (low : length dims ≤ bound) (high : bound ≤ length dims) where
+  module _ (Q : ℕ → Record → Type 0) (s : SoFar Q bound made) where
+    long : length made ≡ length dims
+    long = (let n = s.count in omega (arith, low, high, n))
 
-  pub read_says : SaysRecord dims bs name pairs made
-  read_says = record { count = long; said = λ k dim at. (at_dim k dim at).said; unsaid = λ k dim at. (at_dim k dim at).unsaid }
+    at_dim : (k : ℕ) (dim : DimType) → IsDim dims k dim → Q k (said_of made k)
+    at_dim k dim at = s.each k (let w = slice_get_within dims k dim at in omega (arith, w, low))
 
-  pub read_right : IsPartial dims made
-  read_right = record { count = long; each = λ k dim at. (at_dim k dim at).right }
+  pub joins_all : (a b : Partial) → SoFar (JoinsAt dims a b) bound made → PartialsJoin dims a b made × IsPartial dims made
+  joins_all a b s = (
+    record { count = long (JoinsAt dims a b) s; each = λ k dim at. (at_dim (JoinsAt dims a b) s k dim at dim at).0 },
+    record { count = long (JoinsAt dims a b) s; each = λ k dim at. (at_dim (JoinsAt dims a b) s k dim at dim at).1 },
+  )
+
+  module _ (bs : Bindings) (name : List ℕ) (pairs : Pairs) (s : SoFar (ReadsAt dims bs name pairs) bound made) where
+    reads : (k : ℕ) (dim : DimType) → IsDim dims k dim → ReadsDim dim bs name pairs (said_of made k)
+    reads k dim at = at_dim (ReadsAt dims bs name pairs) s k dim at dim at
+
+    pub read_says : SaysRecord dims bs name pairs made
+    read_says = record { count = long (ReadsAt dims bs name pairs) s; said = λ k dim at. (reads k dim at).said; unsaid = λ k dim at. (reads k dim at).unsaid }
+
+    pub read_right : IsPartial dims made
+    read_right = record { count = long (ReadsAt dims bs name pairs) s; each = λ k dim at. (reads k dim at).right }

@@ -1,11 +1,10 @@
 -- Two partial entries have one join at most, and none where they clash.
 use Rattle.std.proofs.Common.{◌≡◌, ℕ, suc, ◌<◌, List, [], ◌∷◌, ◌++◌, length, get_or, refl, ap₂, sym, ◌∙◌, arith, inl, inr, ◌⊎◌}
-use Rattle.std.proofs.lemmas.Option.{get_or_from_slice_get}
 use Rattle.xdg_domain.specs.Joins.{JoinsField, ClashesField}
 use Rattle.xdg_domain.proofs.Keyed.{says_unique, says_exclusive}
 use Rattle.xdg_types.specs.declared.table.DimType.{DimType}
 use Rattle.xdg_lexicon.specs.Denotes.{JoinsEach, no_other, clashes, joins, JoinsAll, no_first, first_then}
-use Rattle.xdg_lexicon.specs.Partial.{Partial, features, IsDim, said_of, PartialsJoin, PartialsClash}
+use Rattle.xdg_lexicon.specs.Partial.{Partial, features, said_of, PartialsJoin, PartialsClash}
 use Rattle.xdg_domain.proofs.JoinLaws.{unique_field, apart_field}
 use Rattle.xdg_facts.proofs.Lists.{some_at}
 
@@ -18,13 +17,9 @@ same_items d [] (y ∷ b) e h = absurd (omega (arith, e))
 same_items d (x ∷ a) [] e h = absurd (omega (arith, e))
 same_items d (x ∷ a) (y ∷ b) e h = ap₂ (λ z l. z ∷ l) (h 0 (omega arith)) (same_items d a b (omega (arith, e)) (λ k i. h (suc k) (omega (arith, i))))
 
--- a dimension stands at each place
-pub dim_at : (dims : List DimType) (k : ℕ) → k < length dims → (dim : DimType) × IsDim dims k dim
-dim_at dims k h = (let s = some_at dims k h in (s.0, (h, get_or_from_slice_get dims k s.0 s.0 s.1)))
-
 pub one_join : (dims : List DimType) (a b c d : Partial) → PartialsJoin dims a b c → PartialsJoin dims a b d → c ≡ d
 one_join dims a b c d h k = same_items [] c d (h.count ∙ sym k.count) (λ i within.
-    let at = dim_at dims i (let long = h.count in omega (arith, within, long)) in
+    let at = some_at dims i (let long = h.count in omega (arith, within, long)) in
     says_unique (JoinsField (features at.0)) (unique_field (features at.0)) (said_of a i) (said_of b i) (said_of c i) (said_of d i) (h.each i at.0 at.1) (k.each i at.0 at.1))
 
 pub join_apart : (dims : List DimType) (a b c : Partial) → PartialsJoin dims a b c → PartialsClash dims a b → ⊥

@@ -12,7 +12,7 @@ use Rattle.xdg_lexicon.specs.Partial.{Partial}
 use Rattle.xdg_lexicon.specs.Denotes.{Denotes}
 use Rattle.xdg_packed.specs.Entries.{IsWordPlace, count_of}
 use Rattle.xdg_lexicon.specs.Sources.{Source, HasNumber}
-use Rattle.xdg_lexicon.specs.Lexicon.{whole, AreWhole, Adds, SoFar, nothing_yet, IsWithin, IsCounted, IsExpanded, Expands, ExpandsAll, no_more, one_more, IsTooMany, alone, together, IsCrowded, OffendsAt, many_uses, many_combos, unsaid, many_entries, many_of_word, Refuses, reaching}
+use Rattle.xdg_lexicon.specs.Lexicon.{whole, AreWhole, Adds, SoFar, nothing_yet, IsWithinLimits, IsCounted, IsExpanded, Expands, ExpandsAll, no_more, one_more, IsTooMany, alone, together, IsCrowded, OffendsAt, many_uses, many_combos, unsaid, many_entries, many_of_word, Refuses, reaching}
 use Rattle.xdg_lexicon.specs.Steps.{Once, AllOnce, OnceCounted}
 use Rattle.xdg_lexicon.specs.Answers.{IsAnswer, Gives}
 use Rattle.xdg_lexicon.proofs.Adding.{same_added, same_whole, none_lacks}
@@ -35,7 +35,7 @@ same_too_many cause at before n f g (alone many is) (together few much says) = a
 same_too_many cause at before n f g (together few much is) (alone many says) = absurd (omega (arith, many, few))
 same_too_many cause at before n f g (together few many is) (together less much says) = is ∙ sym says
 
-pub not_within : (cause : Cause) (at before n : ℕ) (f : Fault) → IsTooMany cause at before n f → IsWithin before n → ⊥
+pub not_within : (cause : Cause) (at before n : ℕ) (f : Fault) → IsTooMany cause at before n f → IsWithinLimits before n → ⊥
 not_within cause at before n f (alone many is) within = omega (arith, many, within.0)
 not_within cause at before n f (together few many is) within = omega (arith, many, within.1)
 
@@ -72,11 +72,11 @@ module _ (source : Source) (definite : IsDefinite source) where
         let made = same_whole source.table x.members x.made y.made x.whole_each (subst (λ l. AreWhole source.table l y.made) (sym ms) y.whole_each) in
         same_added before.entries x.made all others x.added (subst (λ l. Adds before.entries l others) (sym made) y.added)
 
-    few_uses : (cause : Cause) (at n u : ℕ) (f : Fault) → HasNumber uses source.classes b n → IsTooMany cause at before.uses n f → HasNumber uses source.classes b u → IsWithin before.uses u → ⊥
-    few_uses cause at n u f has many one within = not_within cause at before.uses n f many (subst (IsWithin before.uses) (definite.uses_once b u n one has) within)
+    few_uses : (cause : Cause) (at n u : ℕ) (f : Fault) → HasNumber uses source.classes b n → IsTooMany cause at before.uses n f → HasNumber uses source.classes b u → IsWithinLimits before.uses u → ⊥
+    few_uses cause at n u f has many one within = not_within cause at before.uses n f many (subst (IsWithinLimits before.uses) (definite.uses_once b u n one has) within)
 
-    few_combos : (cause : Cause) (at n u : ℕ) (f : Fault) → HasNumber combos source.classes b n → IsTooMany cause at before.combos n f → HasNumber combos source.classes b u → IsWithin before.combos u → ⊥
-    few_combos cause at n u f has many one within = not_within cause at before.combos n f many (subst (IsWithin before.combos) (definite.combos_once b u n one has) within)
+    few_combos : (cause : Cause) (at n u : ℕ) (f : Fault) → HasNumber combos source.classes b n → IsTooMany cause at before.combos n f → HasNumber combos source.classes b u → IsWithinLimits before.combos u → ⊥
+    few_combos cause at n u f has many one within = not_within cause at before.combos n f many (subst (IsWithinLimits before.combos) (definite.combos_once b u n one has) within)
 
     none_unsaid : (all : List Entry) (ms : List Partial) (p : Partial) → Once source b → IsExpanded source before b all → Denotes source.table.dims source.classes [] b ms → In ms p → whole source.table p ≡ None → ⊥
     none_unsaid all ms p once x denotes stands none =

@@ -1,7 +1,7 @@
 -- What is whole is an entry of the grammar.
 use Rattle.std.proofs.Common.{◌≡◌, ℕ, zero, suc, ◌+◌, ◌<◌, ◌≤◌, List, [], ◌∷◌, ◌++◌, length, get_or, Option, None, Some, refl, sym, ap, ◌∙◌, subst, arith, drop}
 use Rattle.std.specs.Prelude.{slice_get}
-use Rattle.std.proofs.lemmas.Option.{slice_get_within, get_or_from_slice_get, slice_get_read}
+use Rattle.std.proofs.lemmas.Option.{slice_get_read}
 use Rattle.std.proofs.lemmas.List.{at_drop_more, drop_all, append_assoc, append-nil}
 use Rattle.xdg_domain.specs.declared.types.Ty.{Ty}
 use Rattle.xdg_domain.specs.declared.values.Value.TheVariants as v
@@ -16,7 +16,7 @@ use Rattle.xdg_packed.proofs.Laws.{record_said, filled_right}
 use Rattle.xdg_types.specs.declared.table.DimType.{DimType}
 use Rattle.xdg_types.specs.Table.{Table, IsTable, KeepsDim, KeepDims, ArePlaces, AreFeatures, typed, firsts}
 use Rattle.xdg_packed.specs.Lexicon.{Record, Entry}
-use Rattle.xdg_lexicon.specs.Partial.{Partial, IsPartial, IsRecord, IsDim, said_of}
+use Rattle.xdg_lexicon.specs.Partial.{Partial, IsPartial, IsRecord, said_of}
 use Rattle.xdg_packed.specs.Entries.{IsWhole, IsEntry, record_type}
 use Rattle.xdg_lexicon.specs.Lexicon.{whole_record, record_then, records_of, whole}
 use Rattle.xdg_facts.proofs.Lists.{any_default}
@@ -94,9 +94,6 @@ record_at dims p (j ∷ ks) entry (suc d) k e at =
     let t = taken (whole_record (slice_get dims j) (said_of p j)) (records_of dims p ks) entry e in
     record_at dims p ks t.rest d k t.more at ∙ ap (λ (l : Entry). Some (get_or l (suc d) [])) (sym t.parts)
 
-pub dim_at : (dims : List DimType) (k : ℕ) (dim : DimType) → slice_get dims k ≡ Some dim → IsDim dims k dim
-dim_at dims k dim is = (slice_get_within dims k dim is, get_or_from_slice_get dims k dim dim is)
-
 -- what a partial entry comes to is an entry
 pub whole_right : (table : Table) (p : Partial) (entry : Entry) → IsTable table → IsPartial table.dims p → whole table p ≡ Some entry → IsEntry table entry
 whole_right table p entry is partial made = record {
@@ -105,7 +102,7 @@ whole_right table p entry is partial made = record {
       let at = record_at table.dims p table.used entry d used.0 made used.1.0 in
       let found = some_record (slice_get table.dims used.0) (said_of p used.0) (get_or entry d []) at in
       let same : found.0 ≡ dim = some_same (slice_get table.dims used.0) found.0 dim found.1.0 used.1.1 in
-      let right = subst (λ fs. IsRecord fs (said_of p used.0)) (same_features dim.fields) (partial.each used.0 dim (dim_at table.dims used.0 dim used.1.1)) in
+      let right = subst (λ fs. IsRecord fs (said_of p used.0)) (same_features dim.fields) (partial.each used.0 dim used.1.1) in
       record_is_whole dim (said_of p used.0) (get_or entry d []) (keeps_at table.dims used.0 dim used.1.1 is.dims) right
       (subst (λ (x : DimType). filled_fields 0 (fields_of (typed x.fields)) (said_of p used.0) ≡ Some (get_or entry d [])) same found.1.1);
 }
@@ -183,7 +180,7 @@ module _ (table : Table) (p : Partial) (dims : List DimType) (used : List ℕ) (
 
   both_here : KeysRise 0 said × AreSaid 0 (fields_of (typed fs)) said
   both_here =
-      let right = subst (λ l. IsRecord l (said_of p k)) (same_features d.fields) (partial.each k d (dim_at table.dims k d dim_here)) in
+      let right = subst (λ l. IsRecord l (said_of p k)) (same_features d.fields) (partial.each k d dim_here) in
       said_right (fields_of (typed fs)) said (subst (λ l. IsRecord (fields_of (typed l)) said) (sym fs_is) (subst (IsRecord (fields_of (typed d.fields))) (sym said_here) right))
 
   pub rises_here : KeysRise 0 said

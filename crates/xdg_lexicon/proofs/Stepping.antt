@@ -16,7 +16,7 @@ use Rattle.xdg_check.specs.Counts.{Counting, Agrees, uses, combos, capped}
 use Rattle.xdg_lexicon.specs.Partial.{Partial}
 use Rattle.xdg_lexicon.specs.Denotes.{Denotes}
 use Rattle.xdg_lexicon.specs.Sources.{Source, source_of, HasNumber}
-use Rattle.xdg_lexicon.specs.Lexicon.{Adds, SoFar, nothing_yet, IsWithin, IsExpanded, Expands, ExpandsAll, no_more, one_more, AreFewEach, IsTooMany, many_uses, many_combos, unsaid, many_entries, many_of_word, Refuses}
+use Rattle.xdg_lexicon.specs.Lexicon.{Adds, SoFar, nothing_yet, IsWithinLimits, IsExpanded, Expands, ExpandsAll, no_more, one_more, AreFewEach, IsTooMany, many_uses, many_combos, unsaid, many_entries, many_of_word, Refuses}
 use Rattle.xdg_lexicon.specs.Steps.{one_of, AddsMembers, KeepsLimits, Once, AllOnce, CountsOne, AddsOne, ExpandsOne}
 use Rattle.xdg_lexicon.proofs.Bounds.{words_once}
 use Rattle.xdg_lexicon.proofs.Numbers.{number_once, has_number, alike_uses, alike_combos}
@@ -27,7 +27,7 @@ use Rattle.xdg_lexicon.proofs.Only.{IsDefinite, not_within, only_expanded, only_
 
 -- what is told of a sum: with which numbers it goes
 abbrev pub Sums : Cause → ℕ → ℕ → ℕ → Result ℕ Stop → Type 0
-Sums cause at before here (Ok sum) = (n : ℕ) → here ≡ capped n → IsWithin before n × (sum ≡ before + n)
+Sums cause at before here (Ok sum) = (n : ℕ) → here ≡ capped n → IsWithinLimits before n × (sum ≡ before + n)
 Sums cause at before here (Err stop) = (n : ℕ) → here ≡ capped n → (f : Fault) × ((stop ≡ stops.Fault f) × IsTooMany cause at before n f)
 
 module _ (parts : Parts) (is : IsChecked parts) where
@@ -64,7 +64,7 @@ module _ (parts : Parts) (is : IsChecked parts) where
           let many = subst (λ m. IsTooMany causes.TooManyUses def.at m some_uses told.0) (sym same) told.1.1 in
           subst (λ s. CountsOne (source_of parts) before (one_of def) (Err s)) (sym told.1.0) (
             many_uses some_uses has_uses many,
-            λ c. not_within causes.TooManyUses def.at before.uses some_uses told.0 many (subst (IsWithin before.uses) (definite.uses_once (body def.body.kind) c.uses_of some_uses c.has_uses has_uses) c.few_uses),
+            λ c. not_within causes.TooManyUses def.at before.uses some_uses told.0 many (subst (IsWithinLimits before.uses) (definite.uses_once (body def.body.kind) c.uses_of some_uses c.has_uses has_uses) c.few_uses),
           )
 
       module _ (there : ℕ) (combos_there : (names : Counting) → Agrees combos parts.classes names → there ≡ capped (combos names (body def.body.kind))) where
@@ -75,11 +75,11 @@ module _ (parts : Parts) (is : IsChecked parts) where
         pub combos_refused : (n m sum : ℕ) (stop : Stop) → before.uses ≡ n → before.combos ≡ m → Sums causes.TooManyUses def.at n here (Ok sum) → Sums causes.TooManyEntries def.at m there (Err stop) → CountsOne (source_of parts) before (one_of def) (Err stop)
         combos_refused n m sum stop same alike sums refused =
             let told = refused some_combos there_is in
-            let within = subst (λ k. IsWithin k some_uses) (sym same) (sums some_uses here_is).0 in
+            let within = subst (λ k. IsWithinLimits k some_uses) (sym same) (sums some_uses here_is).0 in
             let many = subst (λ k. IsTooMany causes.TooManyEntries def.at k some_combos told.0) (sym alike) told.1.1 in
             subst (λ s. CountsOne (source_of parts) before (one_of def) (Err s)) (sym told.1.0) (
               many_combos some_uses some_combos has_uses within has_combos many,
-              λ c. not_within causes.TooManyEntries def.at before.combos some_combos told.0 many (subst (IsWithin before.combos) (definite.combos_once (body def.body.kind) c.combos_of some_combos c.has_combos has_combos) c.few_combos),
+              λ c. not_within causes.TooManyEntries def.at before.combos some_combos told.0 many (subst (IsWithinLimits before.combos) (definite.combos_once (body def.body.kind) c.combos_of some_combos c.has_combos has_combos) c.few_combos),
             )
 
         pub both_counted : (n m sum total : ℕ) → before.uses ≡ n → before.combos ≡ m → Sums causes.TooManyUses def.at n here (Ok sum) → Sums causes.TooManyEntries def.at m there (Ok total) → CountsOne (source_of parts) before (one_of def) (Ok (sum, total))
@@ -89,10 +89,10 @@ module _ (parts : Parts) (is : IsChecked parts) where
               record {
                 uses_of = some_uses;
                 has_uses = has_uses;
-                few_uses = subst (λ k. IsWithin k some_uses) (sym same) first.0;
+                few_uses = subst (λ k. IsWithinLimits k some_uses) (sym same) first.0;
                 combos_of = some_combos;
                 has_combos = has_combos;
-                few_combos = subst (λ k. IsWithin k some_combos) (sym alike) second.0;
+                few_combos = subst (λ k. IsWithinLimits k some_combos) (sym alike) second.0;
               },
               (first.1 ∙ ap (λ k. k + some_uses) (sym same), second.1 ∙ ap (λ k. k + some_combos) (sym alike)),
             )

@@ -60,17 +60,17 @@ abbrev pub nothing_yet : SoFar
 nothing_yet = record { uses = 0; combos = 0; entries = [] }
 
 -- a number of one body, and the sum with those before it, are within the limits
-abbrev pub IsWithin : ℕ → ℕ → Type 0
-IsWithin before n = (n ≤ 65536) × (before + n ≤ 1048576)
+abbrev pub IsWithinLimits : ℕ → ℕ → Type 0
+IsWithinLimits before n = (n ≤ 65536) × (before + n ≤ 1048576)
 
 -- the body has so many uses of classes and combinations, both within the limits
 pub record IsCounted (source : Source) (before : SoFar) (b : Body) : Type 0 where
   pub uses_of : ℕ
   pub has_uses : HasNumber uses source.classes b uses_of
-  pub few_uses : IsWithin before.uses uses_of
+  pub few_uses : IsWithinLimits before.uses uses_of
   pub combos_of : ℕ
   pub has_combos : HasNumber combos source.classes b combos_of
-  pub few_combos : IsWithin before.combos combos_of
+  pub few_combos : IsWithinLimits before.combos combos_of
 
 -- the members of the body, each whole, and the lexicon with them
 pub record IsExpanded (source : Source) (before : SoFar) (b : Body) (all : List Entry) : Type 0 where
@@ -129,7 +129,7 @@ pub data OffendsAt (source : Source) (before : SoFar) (one : ℕ × Body) (f : F
   -- too many unfolded uses of classes
   many_uses : (n : ℕ) → HasNumber uses source.classes one.1 n → IsTooMany causes.TooManyUses one.0 before.uses n f → OffendsAt source before one f
   -- too many combinations
-  many_combos : (u n : ℕ) → HasNumber uses source.classes one.1 u → IsWithin before.uses u → HasNumber combos source.classes one.1 n
+  many_combos : (u n : ℕ) → HasNumber uses source.classes one.1 u → IsWithinLimits before.uses u → HasNumber combos source.classes one.1 n
       → IsTooMany causes.TooManyEntries one.0 before.combos n f → OffendsAt source before one f
   -- a member that leaves a plain feature of a used dimension unsaid
   unsaid : (ms : List Partial) (p : Partial) → IsCounted source before one.1 → Denotes source.table.dims source.classes [] one.1 ms → In ms p

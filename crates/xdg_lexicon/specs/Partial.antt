@@ -1,5 +1,5 @@
 -- Partial entries: what is said of the features of each dimension.
-use Rattle.std.specs.Prelude.{◌≡◌, ℕ, ◌<◌, List, [], ◌∷◌, length, map, get_or}
+use Rattle.std.specs.Prelude.{◌≡◌, ℕ, List, [], ◌∷◌, length, map, get_or, slice_get, Some}
 use Rattle.xdg_ast.specs.declared.names.Name.{Name}
 use Rattle.xdg_domain.specs.Joined.{fields_in}
 use Rattle.xdg_domain.specs.Joins.{SaysBoth, JoinsField, OnSome, ClashesField}
@@ -25,7 +25,7 @@ features dim = fields_in dim.fields
 
 -- the dimension with that place
 abbrev pub IsDim : List DimType → ℕ → DimType → Type 0
-IsDim dims k dim = (k < length dims) × (get_or dims k dim ≡ dim)
+IsDim dims k dim = slice_get dims k ≡ Some dim
 
 -- what is said of the dimension with that place
 abbrev pub said_of : Partial → ℕ → Record

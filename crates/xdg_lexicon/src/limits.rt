@@ -4,7 +4,7 @@ ghost use Rattle.std.specs.Prelude.{◌≡◌, ◌+◌, ◌≤◌, ℕ, IfOk, If
 ghost use Rattle.xdg_base.specs.declared.faults.Fault as faults;
 ghost use Rattle.xdg_base.specs.declared.faults.Stop.TheVariants as stops;
 ghost use Rattle.xdg_check.specs.Counts.{capped};
-ghost use Rattle.xdg_lexicon.specs.Lexicon.{IsWithin, IsTooMany};
+ghost use Rattle.xdg_lexicon.specs.Lexicon.{IsWithinLimits, IsTooMany};
 
 use xdg_base::{Cause, Fault, Stop};
 
@@ -28,7 +28,7 @@ pub(crate) fn passed(cause: Cause, at: u32, reached: u64) -> Stop
 /// limits is passed.
 pub(crate) fn sum_within(cause: Cause, at: u32, before: u64, count: u64) -> Result<u64, Stop>
     requires { before ≤ 1048576 }
-    ensures within { IfOk result (λ sum. (n : ℕ) → count ≡ capped n → IsWithin before n × (sum ≡ before + n)) }
+    ensures within { IfOk result (λ sum. (n : ℕ) → count ≡ capped n → IsWithinLimits before n × (sum ≡ before + n)) }
     ensures many { IfErr result (λ stop. (n : ℕ) → count ≡ capped n → (f : faults.Fault) × ((stop ≡ stops.Fault f) × IsTooMany cause at before n f)) }
 {
     if count > MOST_OF_ONE {

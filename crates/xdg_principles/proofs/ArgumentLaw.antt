@@ -1,6 +1,7 @@
 -- The offences of arguments that the pass lists are those of the rows.
 use Rattle.std.proofs.Common.{◌≡◌, inl, inr, false, List, [], ◌++◌, Option, None, Some, refl, sym, subst}
 use Rattle.std.specs.List.{flat_map}
+use Rattle.std.specs.Prelude.{Result, Ok, Err, IfOk}
 use Rattle.xdg_base.specs.Faults.{fault_at}
 use Rattle.xdg_base.specs.declared.faults.Cause.TheVariants as causes
 use Rattle.xdg_base.specs.declared.faults.Fault.{Fault}
@@ -180,5 +181,9 @@ module _ (statements : List Statement) (table : Table) where
       (use_complete dims q.0 (named q.0.name.text) h.0 f (flat_map_in arguments_in (setting dims q.0) k.0 h.0 q.1.1 k.1.1) h.1.1)
 
   -- the first of the list is the first offence
-  pub arguments_tell : Tells (ArgumentOffends statements table) (first (argument_faults statements dims))
+  arguments_tell : Tells (ArgumentOffends statements table) (first (argument_faults statements dims))
   arguments_tell = tells_as (In (argument_faults statements dims)) (ArgumentOffends statements table) sound complete (first (argument_faults statements dims)) (first-tells (argument_faults statements dims))
+
+  pub arguments_first : {E : Type 0} (result : Result (Option Fault) E) → IfOk result (λ found. found ≡ first (argument_faults statements dims)) → IfOk result (Tells (ArgumentOffends statements table))
+  arguments_first (Ok found) is = subst (Tells (ArgumentOffends statements table)) (sym is) arguments_tell
+  arguments_first (Err error) is = tt

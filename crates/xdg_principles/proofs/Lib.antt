@@ -1,6 +1,7 @@
 pub mod ArgumentLaw
 pub mod Compared
 pub mod Forms
+pub mod Found
 pub mod Lookups
 pub mod MemberPlaces
 pub mod NameLaw

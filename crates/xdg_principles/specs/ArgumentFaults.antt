@@ -19,8 +19,7 @@ use Rattle.xdg_problem.specs.declared.forms.Wanted.TheVariants as a
 use Rattle.xdg_problem.specs.declared.forms.Parameter.{Parameter}
 use Rattle.xdg_problem.specs.declared.parts.Principle.{Principle}
 use Rattle.xdg_problem.specs.Forms.{parameters, told}
-use Rattle.xdg_problem.specs.Names.{named}
-use Rattle.xdg_principles.specs.Uses.{Use, principle_uses}
+use Rattle.xdg_principles.specs.Uses.{Use, principle_uses, with_principle}
 use Rattle.xdg_principles.specs.Settings.{Setting, Called, setting_of, labels, member_type, term_in, constant_in, listed_in, called_in}
 use Rattle.xdg_principles.specs.Wanted.{is_wanted}
 use Rattle.xdg_principles.specs.Arguments.{has_form, truths}
@@ -62,8 +61,11 @@ abbrev pub known_faults : List DimType → Use → Option Principle → List Fau
 known_faults dims one None = []
 known_faults dims one (Some principle) = setting_faults (setting_of dims one principle)
 
+abbrev pub found_faults : List DimType → Use × Option Principle → List Fault
+found_faults dims found = known_faults dims found.0 found.1
+
 abbrev pub use_faults : List DimType → Use → List Fault
-use_faults dims one = known_faults dims one (named one.name.text)
+use_faults dims one = found_faults dims (with_principle one)
 
 -- all of them
 abbrev pub argument_faults : List Statement → List DimType → List Fault

@@ -5,6 +5,7 @@ use Rattle.xdg_names.specs.Texts.{place_of}
 use Rattle.xdg_terms.specs.Forms.{Term, constant_of}
 use Rattle.xdg_terms.specs.Means.{truth_text}
 use Rattle.xdg_types.specs.declared.table.DimType.{DimType}
+use Rattle.xdg_types.specs.Answers.{HasTable, None_of}
 use Rattle.xdg_types.specs.Parts.{Statement, dim_names}
 use Rattle.xdg_types.specs.Table.{Table}
 use Rattle.xdg_principles.specs.declared.building.Arg.{Arg}
@@ -20,9 +21,12 @@ use Rattle.xdg_problem.specs.declared.parts.Principle.{Principle}
 use Rattle.xdg_problem.specs.declared.parts.Principle.TheVariants as principles
 use Rattle.xdg_problem.specs.Forms.{dims_in, form_of, parameters}
 use Rattle.xdg_problem.specs.Names.{named}
+use Rattle.xdg_principles.specs.declared.using.Uses.{Uses}
+use Rattle.xdg_principles.specs.Arguments.{ArgumentOffends}
+use Rattle.xdg_principles.specs.Names.{PrincipleNameOffends}
 use Rattle.xdg_principles.specs.Settings.{Setting, Called, setting_of, dim_texts, dim_place, labels, member_place}
 use Rattle.xdg_principles.specs.Settings.{term_in, constant_in, listed_in, list_of, called_in}
-use Rattle.xdg_principles.specs.Uses.{Use, principle_uses}
+use Rattle.xdg_principles.specs.Uses.{Use, principle_uses, with_principle, AreUsesOf}
 use Rattle.xdg_ast.specs.Texts.{texts}
 
 -- ---- what a table of types has to be
@@ -91,6 +95,13 @@ AreUses dims _ _ = ⊥
 abbrev pub ArePrincipleUses : List Statement → Table → List PrincipleUse → Type 0
 ArePrincipleUses statements table made = AreUses table.dims (principle_uses statements) made
 
+-- The uses are those of statements whose uses of principles have no fault, and the table is that of their types.
+pub record AreRightUses (statements : List Statement) (table : Table) (uses : Uses) : Type 0 where
+  pub found : AreUsesOf statements uses
+  pub has : HasTable statements table
+  pub names : None_of (PrincipleNameOffends statements)
+  pub arguments : None_of (ArgumentOffends statements table)
+
 -- ---- the same as a function, which gives 0 for what isn't there, and the principle graph
 
 abbrev pub or_zero : Option ℕ → ℕ
@@ -135,5 +146,8 @@ built_with dims one (Some principle) =
       at = one.name.span.start;
     }
 
+abbrev pub built_found : List DimType → Use × Option Principle → PrincipleUse
+built_found dims found = built_with dims found.0 found.1
+
 abbrev pub built : List DimType → Use → PrincipleUse
-built dims one = built_with dims one (named one.name.text)
+built dims one = built_found dims (with_principle one)

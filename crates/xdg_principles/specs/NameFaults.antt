@@ -11,8 +11,7 @@ use Rattle.xdg_problem.specs.declared.forms.Form.{Form}
 use Rattle.xdg_principles.specs.Names.{dim_keys, arg_keys, required_keys}
 use Rattle.xdg_problem.specs.declared.parts.Principle.{Principle}
 use Rattle.xdg_problem.specs.Forms.{form_of}
-use Rattle.xdg_problem.specs.Names.{named}
-use Rattle.xdg_principles.specs.Uses.{Use, principle_uses, values}
+use Rattle.xdg_principles.specs.Uses.{Use, principle_uses, values, with_principle}
 use Rattle.xdg_ast.specs.Texts.{texts}
 
 -- a name that isn't one of these keys
@@ -46,10 +45,14 @@ again one = repeats [] (keys one.dims) ++ repeats [] (keys one.args)
 abbrev pub unused : List (List ℕ) → Use → List Fault
 unused used one = if has_text used one.within.text then flat_map (unknown used) (values one.dims) else []
 
+-- in one use, where this is the principle
+abbrev pub found_faults : List (List ℕ) → List (List ℕ) → Use × Option Principle → List Fault
+found_faults defined used found =
+    again found.0 ++ ((flat_map (unknown defined) (values found.0.dims) ++ unused used found.0) ++ principle_faults found.0 found.1)
+
 -- in one use
 abbrev pub use_faults : List (List ℕ) → List (List ℕ) → Use → List Fault
-use_faults defined used one =
-    again one ++ ((flat_map (unknown defined) (values one.dims) ++ unused used one) ++ principle_faults one (named one.name.text))
+use_faults defined used one = found_faults defined used (with_principle one)
 
 -- all of them
 abbrev pub name_faults : List Statement → List Fault

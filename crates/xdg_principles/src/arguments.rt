@@ -1,27 +1,28 @@
 //! The pass over the arguments in the uses of principles.
 
-ghost use Rattle.std.specs.Prelude.{◌≡◌, [], ◌∷◌, map, flat_map, ◌++◌, IfOk};
+ghost use Rattle.std.specs.Prelude.{◌≡◌, List, [], ◌∷◌, map, flat_map, ◌++◌, IfOk};
 ghost use Rattle.xdg_base.specs.declared.faults.Cause.TheVariants as causes;
 ghost use Rattle.xdg_names.specs.First.{first, Tells};
 ghost use Rattle.xdg_names.specs.Texts.{has_text};
 ghost use Rattle.xdg_types.specs.NameFaults.{repeats};
+ghost use Rattle.xdg_types.specs.Parts.{Statement};
 ghost use Rattle.xdg_principles.specs.ArgumentFaults as spec;
 ghost use Rattle.xdg_principles.specs.Arguments as rules;
 ghost use Rattle.xdg_principles.specs.Lent.{Knows, IsReady, as_setting};
 ghost use Rattle.xdg_problem.specs.Forms.{told};
 ghost use Rattle.xdg_problem.specs.declared.forms.Wanted.TheVariants as wanted;
 ghost use Rattle.xdg_principles.specs.Settings.{term_in, called_in, member_type};
-ghost use Rattle.xdg_principles.specs.Uses.{seen};
+ghost use Rattle.xdg_principles.specs.Uses.{seen, told as told_use, AreUsesOf};
 
 use crate::fitting::is_wanted;
 use crate::lookup::{Lookup, index_names};
 use crate::settings::{SettingRef, is_list};
-use crate::using::{UseRef, principle_uses};
+use crate::using::{FoundUse, Uses};
 use std::alloc::Global;
-use xdg_ast::{Name, Statement, Term};
+use xdg_ast::{Name, Term};
 use xdg_base::{Cause, Fault, OutOfMemory, Text};
 use xdg_names::{earlier, has_text};
-use xdg_problem::{Parameter, Sort, Typing, Wanted, Which, form_of, principle_named};
+use xdg_problem::{Parameter, Sort, Typing, Wanted, Which, form_of};
 use xdg_terms::constant;
 use xdg_types::{DimType, TypeTable, names_again};
 
@@ -43,27 +44,26 @@ use xdg_types::{DimType, TypeTable, names_again};
 /// # Errors
 ///
 /// Want of memory.
-#[tactic(auto, using(crate::proofs::ArgumentLaw::arguments_tell))]
 pub fn check_arguments(
     alloc: Global,
-    statements: &[Statement],
+    uses: &Uses<'_>,
     table: &TypeTable,
 ) -> Result<Option<Fault>, OutOfMemory>
-    ensures { IfOk result (λ found. Tells (rules.ArgumentOffends statements.now table.now) found) }
+    ensures { (statements : List Statement) → AreUsesOf statements uses.now
+        → IfOk result (λ found. Tells (rules.ArgumentOffends statements table.now) found) }
 {
-    arguments_wrong(alloc, statements, table)
+    arguments_wrong(alloc, uses, table)
 }
 
 fn arguments_wrong(
     alloc: Global,
-    statements: &[Statement],
+    uses: &Uses<'_>,
     table: &TypeTable,
 ) -> Result<Option<Fault>, OutOfMemory>
-    ensures { IfOk result (λ found. found ≡ first (spec.argument_faults statements.now table.now.dims)) }
+    ensures { IfOk result (λ found. found ≡ first (flat_map (spec.found_faults table.now.dims) (map told_use uses.now.found))) }
 {
     let lookup = index_names(alloc, table)?;
-    let uses = principle_uses(alloc, statements)?;
-    check_uses(alloc, &lookup, table.dims(), uses.as_slice())
+    check_uses(alloc, &lookup, table.dims(), uses.found.as_slice())
 }
 
 /// In all uses.
@@ -71,10 +71,10 @@ fn check_uses<'a>(
     alloc: Global,
     lookup: &'a Lookup,
     dims: &'a [DimType],
-    uses: &[UseRef<'a>],
+    uses: &[FoundUse<'a>],
 ) -> Result<Option<Fault>, OutOfMemory>
     requires { Knows dims.now lookup.now }
-    ensures { IfOk result (λ found. found ≡ first (flat_map (spec.use_faults dims.now) (map seen uses.now))) }
+    ensures { IfOk result (λ found. found ≡ first (flat_map (spec.found_faults dims.now) (map told_use uses.now))) }
 {
     let mut found = None;
     for one in uses {
@@ -88,19 +88,19 @@ fn check_use<'a>(
     alloc: Global,
     lookup: &'a Lookup,
     dims: &'a [DimType],
-    one: &UseRef<'a>,
+    one: &FoundUse<'a>,
 ) -> Result<Option<Fault>, OutOfMemory>
     requires { Knows dims.now lookup.now }
-    ensures { IfOk result (λ found. found ≡ first (spec.use_faults dims.now (seen one.now))) }
+    ensures { IfOk result (λ found. found ≡ first (spec.known_faults dims.now (seen one.now.written) one.now.principle)) }
 {
-    match principle_named(one.name.text.as_str()) {
+    match &one.principle {
         None => Ok(None),
         Some(principle) => {
             let setting = SettingRef {
                 lookup,
                 dims,
-                one: *one,
-                form: form_of(&principle),
+                one: one.written,
+                form: form_of(principle),
             };
             check_setting(alloc, &setting)
         }

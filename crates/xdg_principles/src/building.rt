@@ -1,24 +1,22 @@
 //! The uses of principles with what they name, by number.
 
-ghost use Rattle.std.specs.Prelude.{◌≡◌, ◌≤◌, ◌++◌, length, map, IfOk};
-ghost use Rattle.xdg_types.specs.Answers.{HasTable, None_of};
+ghost use Rattle.std.specs.Prelude.{◌≡◌, ◌≤◌, ◌++◌, List, length, map, IfOk};
+ghost use Rattle.xdg_types.specs.Parts.{Statement};
 ghost use Rattle.xdg_types.specs.Table.{IsTable};
-ghost use Rattle.xdg_principles.specs.Arguments.{ArgumentOffends};
 ghost use Rattle.xdg_principles.specs.Lent.{Knows, IsReady, as_setting};
 ghost use Rattle.xdg_principles.specs.Made as spec;
-ghost use Rattle.xdg_principles.specs.Names.{PrincipleNameOffends};
 ghost use Rattle.xdg_problem.specs.Forms.{told, parameters};
 ghost use Rattle.xdg_principles.specs.Settings.{constant_in};
 ghost use Rattle.xdg_principles.specs.Typed.{AreTypedUses};
-ghost use Rattle.xdg_principles.specs.Uses.{seen, principle_uses};
+ghost use Rattle.xdg_principles.specs.Uses.{seen, told as told_use};
 
 use crate::lookup::{Lookup, index_names};
 use crate::settings::SettingRef;
-use crate::using::{UseRef, principle_uses};
+use crate::using::{FoundUse, Uses};
 use std::alloc::Global;
-use xdg_ast::{Name, Statement};
+use xdg_ast::Name;
 use xdg_base::{List, OutOfMemory, Text};
-use xdg_problem::{Dims, Parameter, Principle, Sort, Wanted, Which, form_of, principle_named};
+use xdg_problem::{Dims, Parameter, Principle, Sort, Wanted, Which, form_of};
 use xdg_types::{DimType, TypeTable};
 
 /// A use of a principle, with its dimensions and arguments by number, in the order of the table of principles.
@@ -57,39 +55,36 @@ pub enum Arg {
 /// Want of memory.
 pub fn uses(
     alloc: Global,
-    statements: &[Statement],
+    uses: &Uses<'_>,
     table: &TypeTable,
 ) -> Result<List<PrincipleUse>, OutOfMemory>
-    requires table { HasTable statements.now table.now }
-    requires names { None_of (PrincipleNameOffends statements.now) }
-    requires arguments { None_of (ArgumentOffends statements.now table.now) }
-    ensures meant { IfOk result (λ made. spec.ArePrincipleUses statements.now table.now made) }
-    ensures typed { IfOk result (AreTypedUses table.now) }
+    ensures meant { (statements : List Statement) → spec.AreRightUses statements table.now uses.now
+        → IfOk result (λ made. spec.ArePrincipleUses statements table.now made) }
+    ensures typed { (statements : List Statement) → spec.AreRightUses statements table.now uses.now → IfOk result (AreTypedUses table.now) }
 {
-    built_uses(alloc, statements, table)
+    built_uses(alloc, uses, table)
 }
 
 fn built_uses(
     alloc: Global,
-    statements: &[Statement],
+    uses: &Uses<'_>,
     table: &TypeTable,
 ) -> Result<List<PrincipleUse>, OutOfMemory>
-    ensures same { IfOk result (λ made. made ≡ map (spec.built table.now.dims) (principle_uses statements.now)) }
+    ensures same { IfOk result (λ made. made ≡ map (spec.built_found table.now.dims) (map told_use uses.now.found)) }
     ensures keeps { IfOk result (λ _. IsTable table.now) }
 {
     let lookup = index_names(alloc, table)?;
-    let uses = principle_uses(alloc, statements)?;
-    build_all(alloc, &lookup, table.dims(), uses.as_slice())
+    build_all(alloc, &lookup, table.dims(), uses.found.as_slice())
 }
 
 fn build_all<'a>(
     alloc: Global,
     lookup: &'a Lookup,
     dims: &'a [DimType],
-    uses: &[UseRef<'a>],
+    uses: &[FoundUse<'a>],
 ) -> Result<List<PrincipleUse>, OutOfMemory>
     requires { Knows dims.now lookup.now }
-    ensures { IfOk result (λ made. made ≡ map (spec.built dims.now) (map seen uses.now)) }
+    ensures { IfOk result (λ made. made ≡ map (spec.built_found dims.now) (map told_use uses.now)) }
 {
     let mut made = List::new(alloc);
     for one in uses {
@@ -103,14 +98,14 @@ fn build<'a>(
     alloc: Global,
     lookup: &'a Lookup,
     dims: &'a [DimType],
-    one: &UseRef<'a>,
+    one: &FoundUse<'a>,
 ) -> Result<PrincipleUse, OutOfMemory>
     requires { Knows dims.now lookup.now }
-    ensures { IfOk result (λ made. made ≡ spec.built dims.now (seen one.now)) }
+    ensures { IfOk result (λ made. made ≡ spec.built_with dims.now (seen one.now.written) one.now.principle) }
 {
-    let home = or_zero(lookup.dims.find(one.within.text.as_str()));
-    let at = one.name.span.start;
-    match principle_named(one.name.text.as_str()) {
+    let home = or_zero(lookup.dims.find(one.written.within.text.as_str()));
+    let at = one.written.name.span.start;
+    match &one.principle {
         None => Ok(PrincipleUse {
             principle: Principle::Graph,
             home,
@@ -122,11 +117,11 @@ fn build<'a>(
             let setting = SettingRef {
                 lookup,
                 dims,
-                one: *one,
-                form: form_of(&principle),
+                one: one.written,
+                form: form_of(principle),
             };
             Ok(PrincipleUse {
-                principle,
+                principle: principle.copy(alloc)?,
                 home,
                 dims: places(alloc, &setting)?,
                 args: args(alloc, &setting)?,

@@ -13,3 +13,4 @@ mod using;
 pub use arguments::check_arguments;
 pub use building::{Arg, PrincipleUse, uses};
 pub use names::check_names;
+pub use using::{Uses, principle_uses};

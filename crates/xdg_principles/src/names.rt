@@ -10,19 +10,19 @@ ghost use Rattle.xdg_types.specs.Parts.{dim_names, used_name, used_names, keys};
 ghost use Rattle.xdg_principles.specs.Names.{PrincipleNameOffends, dim_keys, arg_keys, required_key, required_keys};
 ghost use Rattle.xdg_principles.specs.NameFaults as spec;
 ghost use Rattle.xdg_problem.specs.Forms.{dim_key, dims_in, told, key_text};
-ghost use Rattle.xdg_problem.specs.Names.{named};
-ghost use Rattle.xdg_principles.specs.Uses.{seen};
+ghost use Rattle.xdg_principles.specs.Uses.{seen, told as told_use, AreUsesOf};
 
 use crate::keys::{has_key, unknown_among};
-use crate::using::{UseRef, principle_uses};
+use crate::using::{FoundUse, UseRef, Uses};
 use std::alloc::Global;
 use xdg_ast::{Name, Pair, Statement, StatementKind, Term};
 use xdg_base::{Cause, Fault, OutOfMemory};
 use xdg_names::{Index, earlier};
-use xdg_problem::{Dims, Form, Parameter, Preset, Which, form_of, principle_named};
+use xdg_problem::{Dims, Form, Parameter, Preset, Principle, Which, form_of};
 use xdg_types::{keys_again, repeated};
 
 /// The first fault of the names in the uses of principles, in dimensions that are used and in others, if there is one.
+/// The uses are those of the statements.
 ///
 /// - `UnknownPrinciple` (36) at the name of a principle that there isn't.
 /// - `Twice` (31) at the second of a dimension's or an argument's key in one use.
@@ -36,19 +36,28 @@ use xdg_types::{keys_again, repeated};
 ///
 /// Want of memory.
 #[tactic(auto, using(crate::proofs::NameLaw::names_tell))]
-pub fn check_names(alloc: Global, statements: &[Statement]) -> Result<Option<Fault>, OutOfMemory>
+pub fn check_names(
+    alloc: Global,
+    statements: &[Statement],
+    uses: &Uses<'_>,
+) -> Result<Option<Fault>, OutOfMemory>
+    requires { AreUsesOf statements.now uses.now }
     ensures { IfOk result (λ found. Tells (PrincipleNameOffends statements.now) found) }
 {
-    names_wrong(alloc, statements)
+    names_wrong(alloc, statements, uses)
 }
 
-fn names_wrong(alloc: Global, statements: &[Statement]) -> Result<Option<Fault>, OutOfMemory>
+fn names_wrong(
+    alloc: Global,
+    statements: &[Statement],
+    uses: &Uses<'_>,
+) -> Result<Option<Fault>, OutOfMemory>
+    requires { AreUsesOf statements.now uses.now }
     ensures { IfOk result (λ found. found ≡ first (spec.name_faults statements.now)) }
 {
     let defined = defined_dims(alloc, statements)?;
     let used = used_dims(alloc, statements)?;
-    let uses = principle_uses(alloc, statements)?;
-    check_uses(alloc, &defined, &used, uses.as_slice())
+    check_uses(alloc, &defined, &used, uses.found.as_slice())
 }
 
 /// The different names of the dimensions, in the order of the text.
@@ -96,9 +105,9 @@ fn check_uses<'a>(
     alloc: Global,
     defined: &Index,
     used: &Index,
-    uses: &[UseRef<'a>],
+    uses: &[FoundUse<'a>],
 ) -> Result<Option<Fault>, OutOfMemory>
-    ensures { IfOk result (λ found. found ≡ first (flat_map (spec.use_faults defined.now used.now) (map seen uses.now))) }
+    ensures { IfOk result (λ found. found ≡ first (flat_map (spec.found_faults defined.now used.now) (map told_use uses.now))) }
 {
     let mut found = None;
     for one in uses {
@@ -113,14 +122,19 @@ fn check_use<'a>(
     alloc: Global,
     defined: &Index,
     used: &Index,
-    one: &UseRef<'a>,
+    one: &FoundUse<'a>,
 ) -> Result<Option<Fault>, OutOfMemory>
-    ensures { IfOk result (λ found. found ≡ first (spec.use_faults defined.now used.now (seen one.now))) }
+    ensures { IfOk result (λ found. found ≡ first (spec.found_faults defined.now used.now (told_use one.now))) }
 {
-    let again = earlier(keys_again(alloc, one.dims)?, keys_again(alloc, one.args)?);
-    let unknown = unknown_among(defined, one.dims);
-    let dims = earlier(unknown, unused_dims(used, one));
-    Ok(earlier(again, earlier(dims, check_principle(one))))
+    let written = &one.written;
+    let again = earlier(
+        keys_again(alloc, written.dims)?,
+        keys_again(alloc, written.args)?,
+    );
+    let unknown = unknown_among(defined, written.dims);
+    let dims = earlier(unknown, unused_dims(used, written));
+    let foreign = check_principle(written, &one.principle);
+    Ok(earlier(again, earlier(dims, foreign)))
 }
 
 /// The first dimension that isn't used, where the use stands in one that is used.
@@ -134,15 +148,15 @@ fn unused_dims<'a>(used: &Index, one: &UseRef<'a>) -> Option<Fault>
     }
 }
 
-/// What the principle that is named hasn't, or lacks.
+/// What the principle that is named, if there is one, hasn't or lacks.
 #[tactic(auto, using(xdg_names::proofs::First::first_append))]
-fn check_principle<'a>(one: &UseRef<'a>) -> Option<Fault>
-    ensures { result ≡ first (spec.principle_faults (seen one.now) (named one.now.name.now.text)) }
+fn check_principle<'a>(one: &UseRef<'a>, principle: &Option<Principle>) -> Option<Fault>
+    ensures { result ≡ first (spec.principle_faults (seen one.now) principle.now) }
 {
-    match principle_named(one.name.text.as_str()) {
+    match principle {
         None => Some(Fault::at(Cause::UnknownPrinciple, one.name.span.start)),
         Some(principle) => {
-            let form = form_of(&principle);
+            let form = form_of(principle);
             earlier(foreign_keys(form, one), left_out(form, one))
         }
     }

@@ -1,4 +1,4 @@
-use Rattle.std.proofs.Common.{◌≡◌, ◌<◌, ◌++◌, length, map, filter, [], ◌∷◌, ap, sym, ◌∙◌, subst}
+use Rattle.std.proofs.Common.{◌<◌, ◌++◌, map, filter, [], ◌∷◌, ap, sym, ◌∙◌, subst}
 use Rattle.xdg_build.specs.Grammars.{grammar_of, is_used}
 use Rattle.xdg_build.specs.Groups.{group_of}
 use Rattle.xdg_build.specs.Known.{IsKnownFor}

@@ -12,4 +12,5 @@ check_values-requires-clause-named c = λ f h. c.requires.named f (inl h)
 pub returns : goal.returns
 returns c =
     subst (Tells (a.ValueOffends c.args.statements.now c.args.table.now)) (sym c.earlier.ensures)
-    (tells_both (ValueOffends c.args.statements.now c.args.table.now) (ArgumentOffends c.args.statements.now c.args.table.now) c.in_ok-in_bodies.in_bodies c.in_ok-in_uses.in_uses c.in_ok-in_bodies.ensures c.in_ok-in_uses.ensures)
+    (tells_both (ValueOffends c.args.statements.now c.args.table.now) (ArgumentOffends c.args.statements.now c.args.table.now) c.in_ok-in_bodies.in_bodies c.in_ok-in_uses.in_uses c.in_ok-in_bodies.ensures
+    (c.in_ok-in_uses.ensures c.args.statements.now c.requires.uses))
