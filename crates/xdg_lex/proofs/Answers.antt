@@ -10,6 +10,7 @@ use Rattle.xdg_base.specs.declared.faults.Stop.{Stop}
 use Rattle.xdg_base.specs.declared.faults.Stop.TheVariants as stops
 use Rattle.xdg_ast.specs.declared.token.Token.{Token}
 use Rattle.xdg_lex.specs.Lexed.{Lexed, lexed, lexed_characters, Gives}
+use Rattle.xdg_ast.specs.Lexemes.{lexemes_of}
 use Rattle.xdg_lex.specs.Offends.{IsRefused, no_text, no_tokens, IsAnswer, Tells}
 use Rattle.xdg_lex.proofs.Sound as sound
 use Rattle.xdg_lex.proofs.Complete.{tokens_read, offences_read}
@@ -21,8 +22,14 @@ answer_read bytes (Ok tokens) (u, spelled) = all_characters bytes u ∙ tokens_r
 answer_read bytes (Err fault) (no_text at none valid) = not_all_characters bytes at none (sym (utf8_valid_len-IsValidUpTo bytes at valid))
 answer_read bytes (Err fault) (no_tokens why u offends) = all_characters bytes u ∙ offences_read 0 (chars bytes) fault offends 0 [] refl
 
-pub only_answer : (bytes : List ℕ) (answer : Lexed) (result : Result (List Token) Stop) → IsAnswer bytes answer → Gives (lexed bytes) result → Gives answer result
-only_answer bytes answer result is gives = subst (λ a. Gives a result) (answer_read bytes answer is) gives
+-- a text has one answer
+pub one_answer : (bytes : List ℕ) (one other : Lexed) → IsAnswer bytes one → IsAnswer bytes other → one ≡ other
+one_answer bytes one other a b = sym (answer_read bytes one a) ∙ answer_read bytes other b
+
+pub only_answer : (bytes : List ℕ) (answer : Lexed) (result : Result (List Token) Stop) → IsAnswer bytes answer → Tells bytes result → Gives answer result
+only_answer bytes answer (Ok tokens) is tells = one_answer bytes answer (Ok (lexemes_of tokens)) is tells
+only_answer bytes answer (Err (stops.Fault fault)) is tells = one_answer bytes answer (Err fault) is tells
+only_answer bytes answer (Err stops.OutOfMemory) is tells = tt
 
 -- what is read is right
 pub text_answered : (bytes : List ℕ) (result : Result (List Token) Stop) → IsUtf8 bytes → Gives (lexed_characters (chars bytes)) result → Tells bytes result
@@ -35,7 +42,3 @@ answered bytes text result e u gives = text_answered bytes result u (subst (λ t
 
 pub no_text_answered : (bytes : List ℕ) (fault : Fault) (at : ℕ) → (IsUtf8 bytes → ⊥) → IsValidUpTo bytes at → fault_at causes.BadUtf8 at ≡ fault → Tells bytes (Err (stops.Fault fault))
 no_text_answered bytes fault at none valid e = subst (IsRefused bytes) e (no_text at none valid)
-
--- a text has one answer
-pub one_answer : (bytes : List ℕ) (one other : Lexed) → IsAnswer bytes one → IsAnswer bytes other → one ≡ other
-one_answer bytes one other a b = sym (answer_read bytes one a) ∙ answer_read bytes other b

@@ -1,60 +1,36 @@
 -- The content of a quoted text is at most its bytes.
-use Rattle.std.proofs.Common.{◌≡◌, ℕ, ◌+◌, ◌-◌, ◌*◌, ◌≤◌, ◌==◌, ◌||◌, if◌then◌else◌, Option, Some, None, Result, Ok, Err, refl, subst, arith}
-use Rattle.std.specs.Prelude.{nat_le, unwrap_or}
+use Rattle.std.proofs.Common.{◌≡◌, ℕ, ◌+◌, ◌-◌, ◌*◌, ◌≤◌, ◌==◌, ◌||◌, Option, Some, None, Result, Ok, Err, refl, subst, arith}
+use Rattle.std.specs.Prelude.{nat_le}
 use Rattle.std.specs.Char.{is_whitespace, is_ascii_digit, len_utf8}
 use Rattle.std.proofs.lemmas.Bool.{cond_both}
 use Rattle.std.proofs.lemmas.Str.{len_utf8_bounds}
-use Rattle.xdg_base.specs.Faults.{fault_at}
 use Rattle.xdg_base.specs.declared.faults.Fault.{Fault}
-use Rattle.xdg_base.specs.declared.faults.Cause.TheVariants as causes
 use Rattle.xdg_ast.specs.declared.token.Kind.{Kind}
-use Rattle.xdg_lex.specs.declared.pieces.Inside.{Inside}
 use Rattle.xdg_lex.specs.declared.pieces.Mode.{Mode}
 use Rattle.xdg_lex.specs.declared.pieces.Mode.TheVariants as in_
 use Rattle.xdg_lex.specs.declared.pieces.Turn.{Turn}
-use Rattle.xdg_lex.specs.declared.pieces.Turn.TheVariants as turns
 use Rattle.xdg_base.specs.Spelling.{begins_name, continues_name}
 use Rattle.xdg_ast.specs.Kinds.{sign_of}
-use Rattle.xdg_lex.specs.Pieces.{goes_on, digit_goes_on, quoted_goes_on, escape_goes_on, comment_goes_on, begins, sign_begins, counted, counted_after, inside}
+use Rattle.xdg_lex.specs.Pieces.{goes_on, digit_goes_on, quoted_goes_on, escape_goes_on, begins, sign_begins, counted, counted_after}
 
 abbrev Within : ℕ → Turn → Type 0
 Within place turn = counted_after turn ≤ place
 
-digit_within : (value at c place : ℕ) → Within place (digit_goes_on value at c)
-unfolding digit_goes_on
-digit_within value at c place =
-    cond_both (is_ascii_digit c) (if nat_le (value * 10 + (c - 48)) 4294967295 then turns.GoesOn (in_.Number (value * 10 + (c - 48))) else turns.Refused (fault_at causes.BadChar at)) turns.Ends (Within place)
-    (λ _. cond_both (nat_le (value * 10 + (c - 48)) 4294967295) (turns.GoesOn (in_.Number (value * 10 + (c - 48)))) (turns.Refused (fault_at causes.BadChar at)) (Within place) (λ _. omega arith) (λ _. omega arith))
-    (λ _. omega arith)
-
-quoted_within : (read : Inside) (at c : ℕ) → read.content ≤ at → Within (at + len_utf8 c) (quoted_goes_on read at c)
-unfolding quoted_goes_on
-quoted_within read at c h =
-    cond_both (c == 34) (turns.GoesOn (in_.Closed read)) (if c == 92 then turns.GoesOn (in_.Escape read at) else turns.GoesOn (in_.Quoted (inside (read.content + len_utf8 c) read.wrong))) (Within (at + len_utf8 c))
-    (λ _. omega (arith, h))
-    (λ _. cond_both (c == 92) (turns.GoesOn (in_.Escape read at)) (turns.GoesOn (in_.Quoted (inside (read.content + len_utf8 c) read.wrong))) (Within (at + len_utf8 c)) (λ _. omega (arith, h, len_utf8_bounds c)) (λ _. omega (arith, h)))
-
-escape_within : (read : Inside) (backslash at c : ℕ) → read.content + 1 ≤ at → Within (at + len_utf8 c) (escape_goes_on read backslash c)
-unfolding escape_goes_on
-escape_within read backslash at c h =
-    cond_both (c == 34 || c == 92) (turns.GoesOn (in_.Quoted (inside (read.content + 1) read.wrong))) (turns.GoesOn (in_.Quoted (inside (read.content + 1 + len_utf8 c) (Some (unwrap_or read.wrong backslash))))) (Within (at + len_utf8 c))
-    (λ _. omega (arith, h)) (λ _. omega (arith, h))
-
 pub goes_on_within : (mode : Mode) (at c : ℕ) → counted mode ≤ at → counted_after (goes_on mode at c) ≤ at + len_utf8 c
-unfolding goes_on
-goes_on_within in_.Between at c h = omega arith
-goes_on_within in_.Name at c h = cond_both (continues_name c) (turns.GoesOn in_.Name) turns.Ends (Within (at + len_utf8 c)) (λ _. omega arith) (λ _. omega arith)
-goes_on_within (in_.Number value) at c h = digit_within value at c (at + len_utf8 c)
-goes_on_within (in_.Quoted read) at c h = quoted_within read at c h
-goes_on_within (in_.Escape read backslash) at c h = escape_within read backslash at c h
-goes_on_within (in_.Closed read) at c h = omega arith
-goes_on_within (in_.Sign sign) at c h = omega arith
-goes_on_within in_.LineComment at c h = cond_both (c == 10) in_.Between in_.LineComment (λ m. counted m ≤ at + len_utf8 c) (λ _. omega arith) (λ _. omega arith)
-goes_on_within in_.Slash at c h = cond_both (c == 42) (turns.GoesOn in_.Comment) turns.Ends (Within (at + len_utf8 c)) (λ _. omega arith) (λ _. omega arith)
-goes_on_within in_.Comment at c h = cond_both (c == 42) in_.CommentStar in_.Comment (λ m. counted m ≤ at + len_utf8 c) (λ _. omega arith) (λ _. omega arith)
+unfolding goes_on digit_goes_on quoted_goes_on escape_goes_on
+goes_on_within in_.Name at c h = cond_both (continues_name c) _ _ (Within (at + len_utf8 c)) (λ _. omega arith) (λ _. omega arith)
+goes_on_within (in_.Number value) at c h =
+    cond_both (is_ascii_digit c) _ _ (Within (at + len_utf8 c)) (λ _. cond_both (nat_le (value * 10 + (c - 48)) 4294967295) _ _ (Within (at + len_utf8 c)) (λ _. omega arith) (λ _. omega arith)) (λ _. omega arith)
+goes_on_within (in_.Quoted read) at c h =
+    cond_both (c == 34) _ _ (Within (at + len_utf8 c)) (λ _. omega (arith, h))
+    (λ _. cond_both (c == 92) _ _ (Within (at + len_utf8 c)) (λ _. omega (arith, h, len_utf8_bounds c)) (λ _. omega (arith, h)))
+goes_on_within (in_.Escape read backslash) at c h = cond_both (c == 34 || c == 92) _ _ (Within (at + len_utf8 c)) (λ _. omega (arith, h)) (λ _. omega (arith, h))
+goes_on_within in_.LineComment at c h = cond_both (c == 10) _ _ (λ m. counted m ≤ at + len_utf8 c) (λ _. omega arith) (λ _. omega arith)
+goes_on_within in_.Slash at c h = cond_both (c == 42) _ _ (Within (at + len_utf8 c)) (λ _. omega arith) (λ _. omega arith)
+goes_on_within in_.Comment at c h = cond_both (c == 42) _ _ (λ m. counted m ≤ at + len_utf8 c) (λ _. omega arith) (λ _. omega arith)
 goes_on_within in_.CommentStar at c h =
-    cond_both (c == 47) in_.Between (comment_goes_on c) (λ m. counted m ≤ at + len_utf8 c) (λ _. omega arith)
-    (λ _. cond_both (c == 42) in_.CommentStar in_.Comment (λ m. counted m ≤ at + len_utf8 c) (λ _. omega arith) (λ _. omega arith))
+    cond_both (c == 47) _ _ (λ m. counted m ≤ at + len_utf8 c) (λ _. omega arith) (λ _. cond_both (c == 42) _ _ (λ m. counted m ≤ at + len_utf8 c) (λ _. omega arith) (λ _. omega arith))
+goes_on_within mode at c h = omega arith
 
 -- nothing was read inside a quoted text that begins
 abbrev BeginsWithNothing : Result Mode Fault → Type 0

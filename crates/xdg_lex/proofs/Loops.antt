@@ -1,6 +1,6 @@
 -- The reading of one piece, whatever is behind it.
 use Rattle.std.proofs.Common.{◌≡◌, ℕ, ◌+◌, ◌-◌, ◌*◌, ◌<◌, ◌≤◌, ◌==◌, Bool, true, false, Option, Some, None, Ok, Err, List, [], ◌∷◌, ◌++◌, length, refl, sym, ◌∙◌, ap, arith, append_assoc, append-nil, length-append}
-use Rattle.std.specs.Prelude.{if◌then◌else◌, nat_le, unwrap_or}
+use Rattle.std.specs.Prelude.{Result, if◌then◌else◌, nat_le, unwrap_or}
 use Rattle.std.specs.Char.{is_ascii_digit, len_utf8, encode_utf8}
 use Rattle.std.specs.Str.{encode_utf8_all}
 use Rattle.std.proofs.lemmas.Bool.{cond-true, cond-false, le-leb, lt-leb, or_parts}
@@ -13,9 +13,9 @@ use Rattle.xdg_lex.specs.declared.pieces.Mode.TheVariants as in_
 use Rattle.xdg_lex.specs.declared.pieces.Turn.TheVariants as turns
 use Rattle.xdg_base.specs.Spelling.{continues_name, is_escaped}
 use Rattle.xdg_lex.specs.Pieces.{goes_on, digit_goes_on, quoted_goes_on, escape_goes_on, begins, ends, inside}
-use Rattle.xdg_lex.specs.Lexed.{Lexed, run, ended, begun, turned}
+use Rattle.xdg_lex.specs.Lexed.{Lexed, run, ended, begun}
 use Rattle.xdg_ast.specs.Tokenizes.{size_of, EachPasses, StopsBefore, HasNoClose, IsInside, nothing, plain, escaped, stray, value_after, greatest_number, is_slash, is_no_line_feed}
-use Rattle.xdg_lex.proofs.Steps.{run-nil, run-cons, before_none}
+use Rattle.xdg_lex.proofs.Steps.{run-nil, from_there, step, before_none}
 use Rattle.xdg_facts.proofs.Truths.{from_not}
 
 -- what characters that begin at a place give
@@ -23,51 +23,34 @@ abbrev pub Reads : ℕ → List ℕ → Lexed → Type 0
 Reads at cs all = (start : ℕ) (text : List ℕ) → start + length text ≡ at → run start text in_.Between cs ≡ all
 
 pub goes_step : (start : ℕ) (text : List ℕ) (mode next : Mode) (c : ℕ) (cs : List ℕ) → goes_on mode (start + length text) c ≡ turns.GoesOn next → run start text mode (c ∷ cs) ≡ run start (text ++ encode_utf8 c) next cs
-goes_step start text mode next c cs goes =
-    run-cons start text mode c cs
-    ∙ ap (λ t. turned t (λ next. run start (text ++ encode_utf8 c) next cs) (ended (ends mode start (length text)) start text (begun (begins (start + length text) c) (λ next. run (start + length text) (encode_utf8 c) next cs)))) goes
+goes_step start text mode next c cs goes = step start text mode (start + length text) c cs (turns.GoesOn next) refl goes
 
-ends_step : (start : ℕ) (text : List ℕ) (mode : Mode) (c : ℕ) (cs : List ℕ) → goes_on mode (start + length text) c ≡ turns.Ends
-    → run start text mode (c ∷ cs) ≡ ended (ends mode start (length text)) start text (begun (begins (start + length text) c) (λ next. run (start + length text) (encode_utf8 c) next cs))
-ends_step start text mode c cs over =
-    run-cons start text mode c cs
-    ∙ ap (λ t. turned t (λ next. run start (text ++ encode_utf8 c) next cs) (ended (ends mode start (length text)) start text (begun (begins (start + length text) c) (λ next. run (start + length text) (encode_utf8 c) next cs)))) over
-
-between_goes : (at c : ℕ) → goes_on in_.Between at c ≡ turns.Ends
-unfolding goes_on
-between_goes at c = refl
-
-between_ends : (start bytes : ℕ) → ends in_.Between start bytes ≡ Ok None
-unfolding ends
-between_ends start bytes = refl
-
-pub between_step : (start : ℕ) (text : List ℕ) (at c : ℕ) (cs : List ℕ) → start + length text ≡ at → run start text in_.Between (c ∷ cs) ≡ begun (begins at c) (λ next. run at (encode_utf8 c) next cs)
-between_step start text at c cs place =
-    ends_step start text in_.Between c cs (between_goes (start + length text) c)
-    ∙ ap (λ o. ended o start text (begun (begins (start + length text) c) (λ next. run (start + length text) (encode_utf8 c) next cs))) (between_ends start (length text))
-    ∙ before_none (begun (begins (start + length text) c) (λ next. run (start + length text) (encode_utf8 c) next cs))
-    ∙ ap (λ p. begun (begins p c) (λ next. run p (encode_utf8 c) next cs)) place
+pub between_step : (start : ℕ) (text : List ℕ) (at c : ℕ) (cs : List ℕ) (begun_as : Result Mode Fault) → at ≡ start + length text → begins at c ≡ begun_as
+    → run start text in_.Between (c ∷ cs) ≡ begun begun_as (λ next. run at (encode_utf8 c) next cs)
+unfolding goes_on ends
+between_step start text at c cs begun_as place is = step start text in_.Between at c cs turns.Ends place refl ∙ before_none (from_there at c cs) ∙ ap (λ b. begun b (λ next. run at (encode_utf8 c) next cs)) is
 
 pub between_end : (start : ℕ) (text : List ℕ) → run start text in_.Between [] ≡ Ok []
-between_end start text = run-nil start text in_.Between ∙ ap (λ o. ended o start text (Ok [])) (between_ends start (length text))
+unfolding ends
+between_end start text = run-nil start text in_.Between
 
 -- a piece that the character behind it does not belong to
 abbrev pub EndsAt : Mode → ℕ → List ℕ → Type 0
-EndsAt mode at [] = Unit {0}
-EndsAt mode at (c ∷ cs) = goes_on mode at c ≡ turns.Ends
+EndsAt mode at behind = (c : ℕ) (cs : List ℕ) → behind ≡ c ∷ cs → goes_on mode at c ≡ turns.Ends
 
 pub passes : (start : ℕ) (text : List ℕ) (mode : Mode) (behind : List ℕ) (all : Lexed) → EndsAt mode (start + length text) behind → Reads (start + length text) behind all
     → run start text mode behind ≡ ended (ends mode start (length text)) start text all
 passes start text mode [] all over reads =
     run-nil start text mode ∙ ap (ended (ends mode start (length text)) start text) (sym (between_end (start + length text) []) ∙ reads (start + length text) [] (omega arith))
 passes start text mode (c ∷ cs) all over reads =
-    ends_step start text mode c cs over
-    ∙ ap (ended (ends mode start (length text)) start text) (sym (between_step (start + length text) [] (start + length text) c cs (omega arith)) ∙ reads (start + length text) [] (omega arith))
+    step start text mode (start + length text) c cs turns.Ends refl (over c cs refl)
+    ∙ ap (ended (ends mode start (length text)) start text) (sym (between_step (start + length text) [] (start + length text) c cs _ (omega arith) refl) ∙ reads (start + length text) [] (omega arith))
 
 -- what ends wrongly, whatever is behind it
 pub fails : (start : ℕ) (text : List ℕ) (mode : Mode) (behind : List ℕ) (fault : Fault) → EndsAt mode (start + length text) behind → ends mode start (length text) ≡ Err fault → run start text mode behind ≡ Err fault
 fails start text mode [] fault over wrong = run-nil start text mode ∙ ap (λ o. ended o start text (Ok [])) wrong
-fails start text mode (c ∷ cs) fault over wrong = ends_step start text mode c cs over ∙ ap (λ o. ended o start text (begun (begins (start + length text) c) (λ next. run (start + length text) (encode_utf8 c) next cs))) wrong
+fails start text mode (c ∷ cs) fault over wrong =
+    step start text mode (start + length text) c cs turns.Ends refl (over c cs refl) ∙ ap (λ o. ended o start text (from_there (start + length text) c cs)) wrong
 
 -- a piece that goes on alike with each character that passes a test
 pub each_goes : (mode : Mode) (test : ℕ → Bool) → ((at c : ℕ) → test c ≡ true → goes_on mode at c ≡ turns.GoesOn mode)
@@ -82,32 +65,9 @@ pub name_goes : (at c : ℕ) → continues_name c ≡ true → goes_on in_.Name 
 unfolding goes_on
 name_goes at c t = cond-true (continues_name c) _ _ t
 
-pub name_stops : (at : ℕ) (behind : List ℕ) → StopsBefore continues_name behind → EndsAt in_.Name at behind
-unfolding goes_on
-name_stops at [] stops = tt
-name_stops at (c ∷ cs) stops = cond-false (continues_name c) _ _ stops
-
-pub number_stops : (value at : ℕ) (behind : List ℕ) → StopsBefore is_ascii_digit behind → EndsAt (in_.Number value) at behind
-unfolding goes_on digit_goes_on
-number_stops value at [] stops = tt
-number_stops value at (c ∷ cs) stops = cond-false (is_ascii_digit c) _ _ stops
-
-pub slash_stops : (at : ℕ) (behind : List ℕ) → StopsBefore (λ c. c == 42) behind → EndsAt in_.Slash at behind
-unfolding goes_on
-slash_stops at [] stops = tt
-slash_stops at (c ∷ cs) stops = cond-false (c == 42) _ _ stops
-
-pub slash_goes : (at : ℕ) → goes_on in_.Slash at 42 ≡ turns.GoesOn in_.Comment
-unfolding goes_on
-slash_goes at = refl
-
 pub line_goes : (at c : ℕ) → is_no_line_feed c ≡ true → goes_on in_.LineComment at c ≡ turns.GoesOn in_.LineComment
 unfolding goes_on
 line_goes at c t = ap turns.GoesOn (cond-false (c == 10) _ _ (from_not (c == 10) t))
-
-pub line_feed_goes : (at : ℕ) → goes_on in_.LineComment at 10 ≡ turns.GoesOn in_.Between
-unfolding goes_on
-line_feed_goes at = refl
 
 digit_goes : (value at c : ℕ) → is_ascii_digit c ≡ true → value * 10 + (c - 48) ≤ greatest_number → goes_on (in_.Number value) at c ≡ turns.GoesOn (in_.Number (value * 10 + (c - 48)))
 unfolding goes_on digit_goes_on
@@ -140,15 +100,12 @@ unfolding goes_on
 comment_goes true at c apart = ap turns.GoesOn (cond-false (c == 47) _ _ (apart refl))
 comment_goes false at c apart = refl
 
-star_closes : (at : ℕ) → goes_on in_.CommentStar at 47 ≡ turns.GoesOn in_.Between
-unfolding goes_on
-star_closes at = refl
-
 pub close_goes : (star : Bool) (start at : ℕ) (text body behind : List ℕ) (all : Lexed) → (star ≡ true → StopsBefore is_slash (body ++ 42 ∷ [])) → HasNoClose (body ++ 42 ∷ [])
     → (start + length text) + size_of (body ++ 42 ∷ 47 ∷ []) ≡ at → Reads at behind all → run start text (commented star) (body ++ 42 ∷ 47 ∷ behind) ≡ all
+unfolding goes_on
 close_goes star start at text [] behind all apart none place reads =
     goes_step start text (commented star) (commented true) 42 (47 ∷ behind) (comment_goes star (start + length text) 42 (λ _. refl))
-    ∙ goes_step start (text ++ encode_utf8 42) in_.CommentStar in_.Between 47 behind (star_closes (start + length (text ++ encode_utf8 42)))
+    ∙ goes_step start (text ++ encode_utf8 42) in_.CommentStar in_.Between 47 behind refl
     ∙ reads start ((text ++ encode_utf8 42) ++ encode_utf8 47)
     (omega (arith, place, length-append (text ++ encode_utf8 42) (encode_utf8 47), length-append text (encode_utf8 42), length-append (encode_utf8 42) (encode_utf8_all (47 ∷ [])), length-append (encode_utf8 47) []))
 close_goes star start at text (c ∷ body) behind all apart none place reads =
@@ -156,13 +113,10 @@ close_goes star start at text (c ∷ body) behind all apart none place reads =
     ∙ close_goes (c == 42) start at (text ++ encode_utf8 c) body behind all none.0 none.1
     (omega (arith, place, length-append text (encode_utf8 c), length-append (encode_utf8 c) (encode_utf8_all (body ++ 42 ∷ 47 ∷ [])))) reads
 
-comment_open : (star : Bool) (start bytes : ℕ) → ends (commented star) start bytes ≡ Err (fault_at causes.OpenText start)
-unfolding ends
-comment_open true start bytes = refl
-comment_open false start bytes = refl
-
 pub open_goes : (star : Bool) (start : ℕ) (text body : List ℕ) → (star ≡ true → StopsBefore is_slash body) → HasNoClose body → run start text (commented star) body ≡ Err (fault_at causes.OpenText start)
-open_goes star start text [] apart none = run-nil start text (commented star) ∙ ap (λ o. ended o start text (Ok [])) (comment_open star start (length text))
+unfolding ends
+open_goes true start text [] apart none = run-nil start text in_.CommentStar
+open_goes false start text [] apart none = run-nil start text in_.Comment
 open_goes star start text (c ∷ body) apart none =
     goes_step start text (commented star) (commented (c == 42)) c body (comment_goes star (start + length text) c apart)
     ∙ open_goes (c == 42) start (text ++ encode_utf8 c) body none.0 none.1
@@ -172,14 +126,6 @@ unfolding goes_on quoted_goes_on
 plain_goes at content wrong c f =
     let parts = or_parts (c == 34) (c == 92) f in
     cond-false (c == 34) _ _ parts.0 ∙ cond-false (c == 92) _ _ parts.1
-
-pub backslash_goes : (at content : ℕ) (wrong : Option ℕ) → goes_on (in_.Quoted (inside content wrong)) at 92 ≡ turns.GoesOn (in_.Escape (inside content wrong) at)
-unfolding goes_on quoted_goes_on
-backslash_goes at content wrong = refl
-
-pub quote_goes : (at content : ℕ) (wrong : Option ℕ) → goes_on (in_.Quoted (inside content wrong)) at 34 ≡ turns.GoesOn (in_.Closed (inside content wrong))
-unfolding goes_on quoted_goes_on
-quote_goes at content wrong = refl
 
 escaped_goes : (at content backslash : ℕ) (wrong : Option ℕ) (c : ℕ) → is_escaped c ≡ true → goes_on (in_.Escape (inside content wrong) backslash) at c ≡ turns.GoesOn (in_.Quoted (inside (content + 1) wrong))
 unfolding goes_on escape_goes_on
@@ -201,6 +147,7 @@ two_more text cs c =
 
 pub inside_goes : (place start : ℕ) (text cs : List ℕ) (content : ℕ) (wrong : Option ℕ) (behind : List ℕ) → IsInside place cs content wrong → start + length text ≡ place
     → run start text (in_.Quoted (inside 0 None)) (cs ++ behind) ≡ run start (text ++ encode_utf8_all cs) (in_.Quoted (inside content wrong)) behind
+unfolding goes_on quoted_goes_on
 inside_goes place start text cs content wrong behind nothing at = ap (λ t. run start t (in_.Quoted (inside 0 None)) behind) (sym (append-nil text))
 inside_goes place start text all content wrong behind (plain cs before_it wrong_before c is f) at =
     ap (run start text (in_.Quoted (inside 0 None))) (append_assoc cs (c ∷ []) behind)
@@ -210,14 +157,14 @@ inside_goes place start text all content wrong behind (plain cs before_it wrong_
 inside_goes place start text all content wrong behind (escaped cs before_it wrong_before c is t) at =
     ap (run start text (in_.Quoted (inside 0 None))) (append_assoc cs (92 ∷ c ∷ []) behind)
     ∙ inside_goes place start text cs before_it wrong_before (92 ∷ c ∷ behind) is at
-    ∙ goes_step start (text ++ encode_utf8_all cs) _ _ 92 (c ∷ behind) (backslash_goes (start + length (text ++ encode_utf8_all cs)) before_it wrong_before)
+    ∙ goes_step start (text ++ encode_utf8_all cs) _ _ 92 (c ∷ behind) refl
     ∙ goes_step start ((text ++ encode_utf8_all cs) ++ encode_utf8 92) _ _ c behind (escaped_goes (start + length ((text ++ encode_utf8_all cs) ++ encode_utf8 92)) before_it (start + length (text ++ encode_utf8_all cs)) wrong_before c t)
     ∙ ap (λ l. run start l (in_.Quoted (inside (before_it + 1) wrong_before)) behind) (two_more text cs c)
 inside_goes place start text all content wrong behind (stray cs before_it wrong_before c is f) at =
     let here : start + length (text ++ encode_utf8_all cs) ≡ place + size_of cs = omega (arith, at, length-append text (encode_utf8_all cs)) in
     ap (run start text (in_.Quoted (inside 0 None))) (append_assoc cs (92 ∷ c ∷ []) behind)
     ∙ inside_goes place start text cs before_it wrong_before (92 ∷ c ∷ behind) is at
-    ∙ goes_step start (text ++ encode_utf8_all cs) _ _ 92 (c ∷ behind) (backslash_goes (start + length (text ++ encode_utf8_all cs)) before_it wrong_before)
+    ∙ goes_step start (text ++ encode_utf8_all cs) _ _ 92 (c ∷ behind) refl
     ∙ goes_step start ((text ++ encode_utf8_all cs) ++ encode_utf8 92) _ _ c behind (stray_goes (start + length ((text ++ encode_utf8_all cs) ++ encode_utf8 92)) before_it (start + length (text ++ encode_utf8_all cs)) wrong_before c f)
     ∙ ap (λ p. run start (((text ++ encode_utf8_all cs) ++ encode_utf8 92) ++ encode_utf8 c) (in_.Quoted (inside (before_it + 1 + len_utf8 c) (Some (unwrap_or wrong_before p)))) behind) here
     ∙ ap (λ l. run start l (in_.Quoted (inside (before_it + 1 + len_utf8 c) (Some (unwrap_or wrong_before (place + size_of cs))))) behind) (two_more text cs c)

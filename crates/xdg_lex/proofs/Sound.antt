@@ -1,5 +1,5 @@
 -- What the reading of a text gives is what the relations say.
-use Rattle.std.proofs.Common.{◌≡◌, ℕ, ◌+◌, ◌≤◌, Option, Some, None, Ok, Err, List, [], ◌∷◌, ◌++◌, length, refl, sym, ◌∙◌, ap, subst, arith, append_assoc, append-nil}
+use Rattle.std.proofs.Common.{rules, ◌≡◌, ℕ, ◌+◌, ◌≤◌, Option, Some, None, Ok, Err, List, [], ◌∷◌, ◌++◌, length, refl, sym, ◌∙◌, ap, subst, arith, append_assoc, append-nil}
 use Rattle.std.specs.Prelude.{Result, nat_le}
 use Rattle.std.specs.Char.{encode_utf8}
 use Rattle.std.specs.Str.{encode_utf8_all}
@@ -20,7 +20,6 @@ use Rattle.xdg_lex.specs.Lexed.{Lexed, run, lexed_characters, before, ended, beg
 use Rattle.xdg_ast.specs.Lexemes.{lexeme}
 use Rattle.xdg_ast.specs.Tokenizes.{size_of, HasNoClose, IsGap, IsInside, IsToken, name, number, quoted, sign, Tokenizes, finished, last_comment, gap, token}
 use Rattle.xdg_lex.specs.Offends.{IsOffence, no_comment, open_text, open_escape, open_comment, long_name, long_text, stray_backslash, Offends, here, past_gap, past_token}
-use Rattle.xdg_lex.proofs.Steps.{run-nil, run-cons}
 use Rattle.xdg_lex.proofs.Pending.{Pending, at_start, in_gap, in_name, in_number, in_quoted, in_escape, in_closed, in_sign, in_line, in_slash, in_comment, in_star, EndsBefore, Turns, turns_rightly, Begins, begins_rightly}
 use Rattle.xdg_lex.proofs.Signs.{sign_refined}
 
@@ -88,19 +87,9 @@ ends_rightly start mode piece behind rest (in_comment body well) stops last tell
 ends_rightly start mode piece behind rest (in_star body well) stops last tells = to_the_end start (47 ∷ 42 ∷ body ++ 42 ∷ []) behind _ stops (open_comment (body ++ 42 ∷ []) (well [] ((λ _. tt), tt)))
 
 -- nothing is behind the last piece
-ends_at_end : (start : ℕ) (mode : Mode) (piece : List ℕ) → Pending start mode piece → EndsBefore mode []
-ends_at_end start mode piece at_start = tt
-ends_at_end start mode piece (in_gap space is) = tt
-ends_at_end start mode piece (in_name c body b each) = tt
-ends_at_end start mode piece (in_number c body b each small) = tt
-ends_at_end start mode piece (in_quoted cs content wrong is) = refl
-ends_at_end start mode piece (in_escape cs content wrong is) = refl
-ends_at_end start mode piece (in_closed cs content wrong is) = tt
-ends_at_end start mode piece (in_sign c kind is) = tt
-ends_at_end start mode piece (in_line body each) = refl
-ends_at_end start mode piece in_slash = tt
-ends_at_end start mode piece (in_comment body well) = refl
-ends_at_end start mode piece (in_star body well) = refl
+ends_at_end : (mode : Mode) → EndsBefore mode []
+ends_at_end in_.Between = tt
+ends_at_end mode = search rules
 
 abbrev Sound : List ℕ → Type 0
 Sound cs = (start : ℕ) (mode : Mode) (piece : List ℕ) → Pending start mode piece → Tells start (piece ++ cs) (run start (encode_utf8_all piece) mode cs)
@@ -124,12 +113,9 @@ turned_sound start mode piece c cs sound pending turns.Ends is =
 turned_sound start mode piece c cs sound pending (turns.Refused fault) is = here start (piece ++ c ∷ cs) fault is
 
 pub sound : (cs : List ℕ) → Sound cs
-sound [] start mode piece pending =
-    subst (Tells start (piece ++ [])) (sym (run-nil start (encode_utf8_all piece) mode))
-    (ends_rightly start mode piece [] (Ok []) pending (ends_at_end start mode piece pending) (λ _. refl) (finished (start + size_of piece)))
-sound (c ∷ cs) start mode piece pending =
-    subst (Tells start (piece ++ c ∷ cs)) (sym (run-cons start (encode_utf8_all piece) mode c cs))
-    (turned_sound start mode piece c cs (sound cs) pending (goes_on mode (start + size_of piece) c) (turns_rightly start mode piece (start + size_of piece) c cs refl pending))
+unfolding run
+sound [] start mode piece pending = ends_rightly start mode piece [] (Ok []) pending (ends_at_end mode) (λ _. refl) (finished (start + size_of piece))
+sound (c ∷ cs) start mode piece pending = turned_sound start mode piece c cs (sound cs) pending (goes_on mode (start + size_of piece) c) (turns_rightly start mode piece (start + size_of piece) c cs refl pending)
 
 pub lexed_tells : (cs : List ℕ) → Tells 0 cs (lexed_characters cs)
 lexed_tells cs = sound cs 0 in_.Between [] at_start

@@ -1,7 +1,7 @@
 //! The tokens of a text.
 
 ghost use Rattle.std.specs.Prelude.{◌≡◌, ◌≤◌, ◌<◌, ◌+◌, ◌-◌, ◌^◌, length, chars, IfOk, IfErr};
-ghost use Rattle.xdg_lex.specs.Lexed.{Lexed, lexed, lexed_characters, Gives, Adds};
+ghost use Rattle.xdg_lex.specs.Lexed.{Lexed, lexed_characters, Gives, Adds};
 ghost use Rattle.xdg_ast.specs.Lexemes.{lexemes_of};
 ghost use Rattle.xdg_lex.specs.Spans.{StandFrom};
 ghost use Rattle.xdg_lex.specs.Offends.{Tells, IsAnswer, StandsWithin};
@@ -68,8 +68,7 @@ fn read<'a>(alloc: Global, text: &'a str) -> Result<List<Token<'a>>, Stop>
 /// The tokens of bytes, if they are a text.
 fn read_bytes<'a>(alloc: Global, bytes: &'a [u8]) -> Result<List<Token<'a>>, Stop>
     requires { length bytes.now < 2 ^ 32 }
-    ensures reads { Gives (lexed bytes.now) result }
-    ensures tells { Tells bytes.now result }
+    ensures { Tells bytes.now result }
 {
     match str::from_utf8(bytes) {
         Ok(text) => read(alloc, text),

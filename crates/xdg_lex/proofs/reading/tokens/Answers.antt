@@ -3,14 +3,11 @@ use Rattle.xdg_lex.proofs.Spans.{stand}
 use Rattle.xdg_lex.proofs.Within.{stands_within}
 use Rattle.xdg_lex.proofs.reading.tokens.Goals as goal
 
-pub returns-clause-tells : goal.returns-clause-tells
-returns-clause-tells c = c.read_bytes.ensures.tells
-
 pub returns-clause-only : goal.returns-clause-only
-returns-clause-only c answer is = only_answer _ answer _ is c.read_bytes.ensures.reads
+returns-clause-only c answer is = only_answer _ answer _ is c.read_bytes.ensures
 
 pub returns-clause-stand : goal.returns-clause-stand
-returns-clause-stand c = stand _ _ c.read_bytes.ensures.tells
+returns-clause-stand c = stand _ _ c.read_bytes.ensures
 
 pub returns-clause-within : goal.returns-clause-within
-returns-clause-within c = stands_within _ _ c.read_bytes.ensures.tells
+returns-clause-within c = stands_within _ _ c.read_bytes.ensures
