@@ -1,10 +1,8 @@
 //! What is wrong with what an atom names.
 
 ghost use Rattle.std.specs.Prelude.{◌≡◌};
-ghost use Rattle.xdg_base.specs.declared.faults.Cause.TheVariants as causes;
 ghost use Rattle.xdg_domain.specs.Shapes.{shape};
 ghost use Rattle.xdg_names.specs.First.{first};
-ghost use Rattle.xdg_terms.specs.Faults.{missing};
 ghost use Rattle.xdg_formula.specs.Formulas as spec;
 ghost use Rattle.xdg_formula.specs.Tables.{used_dims};
 
@@ -13,20 +11,8 @@ use std::alloc::Global;
 use xdg_ast::{Name, Params, Term};
 use xdg_base::{Cause, Fault, Text};
 use xdg_domain::Ty;
-use xdg_names::has_text;
-use xdg_terms::check_open;
+use xdg_terms::{check_constant, check_open};
 use xdg_types::TypeTable;
-
-/// A label that isn't one of these.
-#[tactic(auto, unfolding(xdg_terms::specs::Faults::missing))]
-fn check_label(labels: &[Text], label: &Name) -> Option<Fault>
-    ensures { result ≡ first (missing causes.NotMember labels.now label.now) }
-{
-    if has_text(labels, label.text.as_str()) {
-        return None;
-    }
-    Some(Fault::at(Cause::NotMember, label.span.start))
-}
 
 /// The dimension of an edge, and its label.
 pub(crate) fn check_edge(types: &TypeTable, dim: &Name, label: &Name) -> Option<Fault>
@@ -34,7 +20,7 @@ pub(crate) fn check_edge(types: &TypeTable, dim: &Name, label: &Name) -> Option<
 {
     match dim_named(types, dim.text.as_str()) {
         None => Some(Fault::at(Cause::UnknownName, dim.span.start)),
-        Some(found) => check_label(found.labels.as_slice(), label),
+        Some(found) => check_constant(found.labels.as_slice(), label),
     }
 }
 

@@ -24,6 +24,7 @@ pub use checking::{check, check_open};
 pub use closing::close;
 pub use copying::{copy_name, copy_term};
 pub use forms::Bindings;
+pub use members::check_constant;
 pub use parts::{constant, names};
 pub use stray::check_stray;
 pub use values::value;

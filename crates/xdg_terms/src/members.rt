@@ -23,7 +23,7 @@ pub(crate) fn wrong_kind(term: &Term) -> Option<Fault>
 
 /// A constant that is not one of the domain's.
 #[tactic(auto, unfolding(crate::specs::Faults::missing))]
-pub(crate) fn check_constant(texts: &[Text], name: &Name) -> Option<Fault>
+pub fn check_constant(texts: &[Text], name: &Name) -> Option<Fault>
     ensures { result ≡ first (spec.missing causes.NotMember texts.now name.now) }
 {
     if has_text(texts, name.text.as_str()) {
