@@ -1,5 +1,5 @@
 -- The values of attributes that a test looks at stand among those of the sentence.
-use Rattle.std.proofs.Common.{◌≡◌, ℕ, ◌<◌, ◌≤◌, ◌+◌, ◌*◌, zero, suc, List, [], ◌∷◌, length, take, map, sym, subst, arith, length-append}
+use Rattle.std.proofs.Common.{◌≡◌, ℕ, ◌<◌, ◌≤◌, ◌+◌, ◌*◌, zero, suc, List, [], ◌∷◌, length, take, map, sym, subst, arith, length-append, rules}
 use Rattle.std.specs.Prelude.{All, slice_index_or}
 use Rattle.std.specs.List.{flat_map}
 use Rattle.std.proofs.lemmas.List.Elements.{All-nil, All-cons}
@@ -40,10 +40,8 @@ attr_within parts dim node attr d v a =
 
 -- a principle that takes an attribute takes a dimension
 attr_dim : (principle : Principle) (argument : ℕ) → argument < attr_arguments principle → 0 < dim_arguments principle
-attr_dim principles.Graph argument l = omega arith
-attr_dim (principles.Rule formula) argument l = absurd (omega (arith, l))
-attr_dim (principles.Bound costs bound) argument l = absurd (omega (arith, l))
-attr_dim principle argument l = omega arith
+attr_dim principles.Graph argument l = omega (arith, l)
+attr_dim principle argument l = omega (arith, l)
 
 -- the first dimension of a principle use is one of the sentence, where its principle takes one
 pub first_dim_within : (parts : Parts) (group : Group) → IsGroup parts group → 0 < dim_arguments group.principle → first_dim group < length parts.dims
@@ -75,21 +73,11 @@ module _ (parts : Parts) (group : Group) (is : IsGroup parts group) where
   one place here = All-cons IsWithin place [] here none
 
   pub each_within : (principle : Principle) → group.principle ≡ principle → Each group.truths (nodes parts) (label_count parts (first_dim group)) AreWithin principle
-  each_within principles.Graph same = tt
-  each_within principles.Entries same = tt
-  each_within principles.Tree same = (λ v a k b. none, λ k a. none, none)
-  each_within principles.Dag same = (λ k a. none, λ e. none, λ e u a v b. none)
-  each_within principles.Valency same = (λ v a l b k c. none, λ v a l b k c. none)
   each_within principles.Order same = (
     λ e u a. one _ (takes principles.Order 0 same (omega arith) u a),
     λ e u a. one _ (takes principles.Order 0 same (omega arith) u a),
   )
-  each_within principles.Projectivity same = λ u a v b. none
   each_within principles.Agr same = λ v a. one _ (takes principles.Agr 0 same (omega arith) v a)
   each_within principles.Agreement same = λ u a l b v c. All-cons IsWithin _ (attr_place parts (first_dim group) v (attr_of group 1) ∷ []) (takes principles.Agreement 0 same (omega arith) u a) (one _ (takes principles.Agreement 1 same (omega arith) v c))
   each_within principles.Government same = λ u a l b v c. one _ (takes principles.Government 0 same (omega arith) v c)
-  each_within principles.Climbing same = λ u a v b. none
-  each_within principles.Barriers same = λ w a v b. none
-  each_within (principles.Rule formula) same = tt
-  each_within (principles.Bound costs bound) same = tt
-  each_within principle same = λ u a l b v c. none
+  each_within principle same = search (rules, none)

@@ -16,10 +16,9 @@ each_alone P none place (members ∷ more) here each = All-cons P (get_or member
 -- two lists of lists whose members have the same lengths have them still
 pub same_lengths : {A B : Type 0} (none : A) (other : B) (place : ℕ) (lists : List (List A)) (others : List (List B)) (v : ℕ) → length lists ≡ length others → length (get_or lists v []) ≡ length (get_or others v []) → length (get_or (first_alone none place lists) v []) ≡ length (get_or (first_alone other place others) v [])
 same_lengths none other place [] [] v long same = refl
-same_lengths none other place [] (ys ∷ others) v long same = absurd (omega (arith, long))
-same_lengths none other place (xs ∷ lists) [] v long same = absurd (omega (arith, long))
 same_lengths none other place (xs ∷ lists) (ys ∷ others) zero long same = refl
 same_lengths none other place (xs ∷ lists) (ys ∷ others) (suc v) long same = same
+same_lengths none other place lists others v long same = absurd (omega (arith, long))
 
 -- the members of each node, of which the first has one alone
 pub members_alone : {A : Type 0} (P : List A → Type 0) (lists : List (List (List A))) (place n v : ℕ) → 0 < n → place < length (get_or lists 0 []) → ((w : ℕ) → w < n → All P (get_or lists w [])) → v < n → All P (get_or (first_alone [] place lists) v [])

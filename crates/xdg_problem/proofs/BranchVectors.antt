@@ -25,17 +25,15 @@ abbrev Begins : List (List EntryNo) → ℕ → List EntryNo → Type 0
 Begins candidates place entries = get_or entries 0 no_entry ≡ get_or (get_or candidates 0 []) place no_entry
 
 entries_down : (candidates : List (List EntryNo)) (place : ℕ) (entries : List EntryNo) → place < length (get_or candidates 0 []) → HasCandidates (first_alone no_entry place candidates) entries → HasCandidates candidates entries × Begins candidates place entries
-entries_down [] place entries within has = absurd (omega (arith, within))
-entries_down (c ∷ candidates) place [] within has = absurd has
 entries_down (c ∷ candidates) place (e ∷ entries) within has =
     let is : e ≡ get_or c place no_entry = only_member (get_or c place no_entry) e has.0 in
     ((subst (Contains c) (sym is) (Contains-get_or c place no_entry within), has.1), is)
+entries_down candidates place entries within has = absurd (grind arith)
 
 entries_up : (candidates : List (List EntryNo)) (place : ℕ) (entries : List EntryNo) → HasCandidates candidates entries → Begins candidates place entries → HasCandidates (first_alone no_entry place candidates) entries
 entries_up [] place [] has begins = tt
-entries_up [] place (e ∷ entries) has begins = absurd has
-entries_up (c ∷ candidates) place [] has begins = absurd has
 entries_up (c ∷ candidates) place (e ∷ entries) has begins = (subst (Contains (get_or c place no_entry ∷ [])) (sym begins) (contains_head (get_or c place no_entry) []), has.1)
+entries_up candidates place entries has begins = absurd has
 
 -- the places of the entries differ in the first alone
 pub record EntriesDiffer (candidates : List (List EntryNo)) (place : ℕ) (entries : List EntryNo) : Type 0 where
@@ -47,8 +45,6 @@ alone_first : (x e : EntryNo) → Contains (x ∷ []) e → place_among (x ∷ [
 alone_first x e c = let l = place_within (x ∷ []) e c in omega (arith, l)
 
 entries_differ : (candidates : List (List EntryNo)) (place : ℕ) (entries : List EntryNo) → AllPairs EntryBefore (get_or candidates 0 []) → place < length (get_or candidates 0 []) → HasCandidates (first_alone no_entry place candidates) entries → EntriesDiffer candidates place entries
-entries_differ [] place entries rising within has = absurd (omega (arith, within))
-entries_differ (c ∷ candidates) place [] rising within has = absurd has
 entries_differ (c ∷ candidates) place (e ∷ entries) rising within has =
     let is : e ≡ get_or c place no_entry = only_member (get_or c place no_entry) e has.0 in
     let at : place_among c e ≡ place = ap (place_among c) is ∙ place_back c place no_entry (ordered_from_pairs EntryBefore c rising) within in
@@ -57,6 +53,7 @@ entries_differ (c ∷ candidates) place (e ∷ entries) rising within has =
       whole = ap (λ n. n ∷ entry_places candidates entries) at;
       branch = ap (λ n. n ∷ entry_places candidates entries) (alone_first (get_or c place no_entry) e has.0);
     }
+entries_differ candidates place entries rising within has = absurd (grind arith)
 
 -- vectors whose first numbers are the same are ordered by what follows, whatever these are
 pub less_behind : (n m : ℕ) (x y : List ℕ) → Less (n ∷ x) (n ∷ y) → Less (m ∷ x) (m ∷ y)

@@ -1,7 +1,7 @@
 -- The lists of the solutions of all branches, one after another, are the list of the solutions of the problem.
 use Rattle.std.proofs.Common.{◌≡◌, ℕ, ◌<◌, ◌≤◌, ◌+◌, inl, List, [], ◌∷◌, ◌++◌, length, get_or, zero, suc, sym, subst, arith}
 use Rattle.std.specs.Prelude.{All, Contains}
-use Rattle.std.proofs.lemmas.List.Elements.{All-nil, All-head, All-tail, All-append, All-weaker}
+use Rattle.std.proofs.lemmas.List.Elements.{All-nil, All-head, All-tail, All-append, All-weaker, Contains-append_left, Contains-append_right}
 use Rattle.xdg_base.specs.declared.ids.EntryNo.{EntryNo}
 use Rattle.xdg_facts.specs.Order.{Less}
 use Rattle.xdg_problem.specs.declared.analysis.Analysis.{Analysis}
@@ -15,13 +15,11 @@ use Rattle.xdg_problem.specs.Vectors.{place_among}
 use Rattle.xdg_problem.proofs.BranchVectors.{less_behind}
 use Rattle.xdg_problem.proofs.BranchSolutions.{branch_laws}
 use Rattle.xdg_problem.proofs.EntryPlaces.{entry_back, place_within}
-use Rattle.xdg_problem.proofs.Ordered.{contains_left, contains_right}
 
 -- the place of an entry among the candidates of the first node
 entry_place : (candidates : List (List EntryNo)) (entries : List EntryNo) → 0 < length candidates → HasCandidates candidates entries → (place : ℕ) × (place < length (get_or candidates 0 [])) × (get_or entries 0 no_entry ≡ get_or (get_or candidates 0 []) place no_entry)
-entry_place [] entries some has = absurd (omega (arith, some))
-entry_place (c ∷ candidates) [] some has = absurd has
 entry_place (c ∷ candidates) (e ∷ entries) some has = (place_among c e, place_within c e has.0, sym (entry_back c e no_entry has.0))
+entry_place candidates entries some has = absurd (grind arith)
 
 module _ (parts : Parts) (is : IsProblem parts) where
   abbrev count : ℕ
@@ -86,10 +84,10 @@ module _ (parts : Parts) (is : IsProblem parts) where
   has_each place (list ∷ lists) long are zero less a s begins =
       let within : place < count = omega (arith, long) in
       let same : place + 0 ≡ place = omega arith in
-      contains_left list (joined lists) a (has_all place within list are.0 a s (subst (λ p. BeginsAt parts p a) same begins))
+      Contains-append_left list (joined lists) a (has_all place within list are.0 a s (subst (λ p. BeginsAt parts p a) same begins))
   has_each place (list ∷ lists) long are (suc k) less a s begins =
       let same : place + suc k ≡ suc place + k = omega arith in
-      contains_right list (joined lists) a (has_each (suc place) lists (omega (arith, long)) are.1 k (omega (arith, less)) a s (subst (λ p. BeginsAt parts p a) same begins))
+      Contains-append_right list (joined lists) a (has_each (suc place) lists (omega (arith, long)) are.1 k (omega (arith, less)) a s (subst (λ p. BeginsAt parts p a) same begins))
 
   pub branches_join : BranchesJoin parts
   branches_join lists long are = record {

@@ -1,6 +1,7 @@
 -- The analysis of a whole vector is that of whatever continues it.
 use Rattle.std.proofs.Common.{◌≡◌, ℕ, ◌≤◌, ◌-◌, cond, List, [], ◌∷◌, ◌++◌, length, take, drop, refl, ap, ◌∙◌, arith, zero, suc, length-drop}
 use Rattle.std.specs.Prelude.{◌==◌, slice_index_or}
+use Rattle.std.proofs.lemmas.List.{take-append-le}
 use Rattle.xdg_base.specs.declared.ids.EntryNo.{EntryNo}
 use Rattle.xdg_problem.specs.declared.analysis.Edge.{Edge}
 use Rattle.xdg_problem.specs.declared.parts.Parts.{Parts}
@@ -19,11 +20,6 @@ entries_same [] p t long = refl
 entries_same (one ∷ more) [] t long = absurd (omega (arith, long))
 entries_same (one ∷ more) (x ∷ p) t long = ap (λ es. slice_index_or one x (record { 0 = 0 }) ∷ es) (entries_same more p t (omega (arith, long)))
 
-take_same : (n : ℕ) (p t : List ℕ) → n ≤ length p → take n (p ++ t) ≡ take n p
-take_same zero p t long = refl
-take_same (suc n) [] t long = absurd (omega (arith, long))
-take_same (suc n) (x ∷ p) t long = ap (λ xs. x ∷ xs) (take_same n p t (omega (arith, long)))
-
 pub chosen_whole : (edges : List Edge) (p t : List ℕ) → length edges ≤ length p → chosen edges (p ++ t) ≡ chosen edges p
 chosen_whole [] p t long = refl
 chosen_whole (e ∷ edges) [] t long = absurd (omega (arith, long))
@@ -37,7 +33,7 @@ analysis_same parts p t long =
     let f = first_place parts in
     let all = length_shape parts in
     let entries = entries_same parts.candidates p t (omega (arith, long, all)) in
-    let attrs : take m (drop c (p ++ t)) ≡ take m (drop c p) = ap (take m) (drop_joined c p t) ∙ take_same m (drop c p) (drop (c - length p) t) (omega (arith, long, all, length-drop c p)) in
+    let attrs : take m (drop c (p ++ t)) ≡ take m (drop c p) = ap (take m) (drop_joined c p t) ∙ take-append-le m (drop c p) (drop (c - length p) t) (omega (arith, long, all, length-drop c p)) in
     let edges : edges_in parts (p ++ t) ≡ edges_in parts p = ap (chosen (places parts)) (drop_joined f p t) ∙ chosen_whole (places parts) (drop f p) (drop (f - length p) t) (omega (arith, long, all, length-drop f p)) in
     ap (λ es. record { entries = es; attrs = take m (drop c (p ++ t)); edges = edges_in parts (p ++ t) }) entries
     ∙ (ap (λ vs. record { entries = entries_at parts.candidates p; attrs = vs; edges = edges_in parts (p ++ t) }) attrs

@@ -1,9 +1,9 @@
 -- The tests of each principle, written out.
-use Rattle.std.proofs.Common.{◌≡◌, ℕ, ◌<◌, Bool, true, false, List, Option, Some, None, refl, sym, subst}
+use Rattle.std.proofs.Common.{◌≡◌, ℕ, ◌<◌, Bool, true, false, List, Option, Some, None, sym, subst, rules}
 use Rattle.xdg_problem.specs.declared.parts.Linking.{Linking}
 use Rattle.xdg_problem.specs.declared.parts.Principle.{Principle}
 use Rattle.xdg_problem.specs.declared.parts.Principle.TheVariants as principles
-use Rattle.xdg_problem.specs.Principles.{linking_of, way_in}
+use Rattle.xdg_problem.specs.Principles.{linking_of}
 use Rattle.xdg_problem.specs.Arguments.{truth_of}
 use Rattle.xdg_problem.specs.Tests.{Test, IsTestOf, out_count, in_count, one_mother, no_cycle, one_root, one_label, ordered_daughters, ordered_yields, projective, allowed_value, agreeing, governed, climbing, not_blocked, linked, unlinked, entry_node}
 
@@ -47,21 +47,7 @@ module _ (truths : List Bool) (n labels : ℕ) (Q : Test → Type 0) where
 
   pub tested_each : (principle : Principle) → Tested principle → Each principle
   tested_each principles.Graph t = tt
-  tested_each principles.Entries t = tt
-  tested_each principles.Tree t = (λ v a k b. t (one_mother v k) (a, b), λ k a. t (no_cycle k) a, t one_root tt)
-  tested_each principles.Dag t = (λ k a. t (no_cycle k) a, λ e. t one_root e, λ e u a v b. t (one_label u v) (e, a, b))
-  tested_each principles.Valency t = (λ v a l b k c. t (out_count v l k) (a, b, c), λ v a l b k c. t (in_count v l k) (a, b, c))
-  tested_each principles.Order t = (λ e u a. t (ordered_daughters u) (e, a), λ e u a. t (ordered_yields u) (e, a))
-  tested_each principles.Projectivity t = λ u a v b. t (projective u v) (a, b)
-  tested_each principles.Agr t = λ v a. t (allowed_value v) a
-  tested_each principles.Agreement t = λ u a l b v c. t (agreeing u l v) (a, b, c)
-  tested_each principles.Government t = λ u a l b v c. t (governed u l v) (a, b, c)
-  tested_each principles.Climbing t = λ u a v b. t (climbing u v) (a, b)
-  tested_each principles.Barriers t = λ w a v b. t (not_blocked w v) (a, b)
-  tested_each principles.LinkingNotDaughter t = λ u a l b v c. t (unlinked u l v) (a, b, c)
-  tested_each (principles.Rule formula) t = tt
-  tested_each (principles.Bound costs bound) t = tt
-  tested_each principle t = λ u a l b v c. t (linked (way_in (linking_of principle)) u l v) (refl, (a, b, c))
+  tested_each principle t = search (rules, t)
 
   pub each_tested : (principle : Principle) → Each principle → Tested principle
   each_tested principles.Tree each (one_mother v k) is = each.0 v is.0 k is.1
@@ -97,15 +83,4 @@ IsNode n (Some node) = node < n
 
 pub each_node : (truths : List Bool) (n labels : ℕ) (principle : Principle) → Each truths n labels (λ test. IsNode n (entry_node test)) principle
 each_node truths n labels principles.Graph = tt
-each_node truths n labels principles.Entries = tt
-each_node truths n labels principles.Tree = (λ v a k b. tt, λ k a. tt, tt)
-each_node truths n labels principles.Dag = (λ k a. tt, λ e. tt, λ e u a v b. tt)
-each_node truths n labels principles.Valency = (λ v a l b k c. a, λ v a l b k c. a)
-each_node truths n labels principles.Order = (λ e u a. tt, λ e u a. tt)
-each_node truths n labels principles.Projectivity = λ u a v b. tt
-each_node truths n labels principles.Agr = λ v a. a
-each_node truths n labels principles.Climbing = λ u a v b. tt
-each_node truths n labels principles.Barriers = λ w a v b. a
-each_node truths n labels (principles.Rule formula) = tt
-each_node truths n labels (principles.Bound costs bound) = tt
-each_node truths n labels principle = λ u a l b v c. a
+each_node truths n labels principle = search rules

@@ -1,5 +1,5 @@
 -- The comparison of entries is that of their numbers.
-use Rattle.std.proofs.Common.{◌≡◌, ℕ, length, List, [], ◌∷◌, refl, ap, ap₂, arith}
+use Rattle.std.proofs.Common.{◌≡◌, List, [], ◌∷◌, refl, ap₂}
 use Rattle.std.specs.declared.cmp.Ordering.{Ordering}
 use Rattle.std.specs.Ordering.{nat_cmp, ordering_then}
 use Rattle.std.specs.Cmp.Lexicographic.{slice_cmp}
@@ -15,13 +15,8 @@ compare_numbers R h (x ∷ a) (y ∷ b) = ap₂ (λ r s. ordering_then r s) (h x
 
 pub numbers_equal : (a b : List EntryNo) → entry_numbers a ≡ entry_numbers b → a ≡ b
 numbers_equal [] [] e = refl
-numbers_equal [] (y ∷ b) e = absurd (let n = ap length e in omega (arith, n))
-numbers_equal (x ∷ a) [] e = absurd (let n = ap length e in omega (arith, n))
-numbers_equal (x ∷ a) (y ∷ b) e = ap₂ (λ z zs. z ∷ zs) (entry_equal x y (ap first e)) (numbers_equal a b (ap rest e)) where
-  first : List ℕ → ℕ
-  first [] = 0
-  first (n ∷ ns) = n
-
-  rest : List ℕ → List ℕ
-  rest [] = []
-  rest (n ∷ ns) = ns
+numbers_equal (x ∷ a) (y ∷ b) e =
+    let here : x.0 ≡ y.0 = cc in
+    let rest : entry_numbers a ≡ entry_numbers b = cc in
+    ap₂ (λ z zs. z ∷ zs) (entry_equal x y here) (numbers_equal a b rest)
+numbers_equal a b e = absurd cc

@@ -65,24 +65,20 @@ entries_at_are (c ∷ cs) rest (n ∷ ns) f l = (Contains-get_or c n none f.0, e
 
 pub entry_places_fit : (candidates : List (List EntryNo)) (entries : List EntryNo) → HasCandidates candidates entries → Fits (map length candidates) (entry_places candidates entries)
 entry_places_fit [] [] h = tt
-entry_places_fit [] (e ∷ es) h = absurd h
-entry_places_fit (c ∷ cs) [] h = absurd h
 entry_places_fit (c ∷ cs) (e ∷ es) h = (place_within c e h.0, entry_places_fit cs es h.1)
+entry_places_fit cs es h = absurd h
 
 pub length_entry_places : (candidates : List (List EntryNo)) (entries : List EntryNo) → HasCandidates candidates entries → length (entry_places candidates entries) ≡ length candidates
 length_entry_places [] [] h = refl
-length_entry_places [] (e ∷ es) h = absurd h
-length_entry_places (c ∷ cs) [] h = absurd h
 length_entry_places (c ∷ cs) (e ∷ es) h = ap suc (length_entry_places cs es h.1)
+length_entry_places cs es h = absurd h
 
 pub length_entries : (candidates : List (List EntryNo)) (entries : List EntryNo) → HasCandidates candidates entries → length entries ≡ length candidates
 length_entries [] [] h = refl
-length_entries [] (e ∷ es) h = absurd h
-length_entries (c ∷ cs) [] h = absurd h
 length_entries (c ∷ cs) (e ∷ es) h = ap suc (length_entries cs es h.1)
+length_entries cs es h = absurd h
 
 pub entry_places_back : (candidates : List (List EntryNo)) (entries : List EntryNo) (more : List ℕ) → HasCandidates candidates entries → entries_at candidates (entry_places candidates entries ++ more) ≡ entries
 entry_places_back [] [] more h = refl
-entry_places_back [] (e ∷ es) more h = absurd h
-entry_places_back (c ∷ cs) [] more h = absurd h
 entry_places_back (c ∷ cs) (e ∷ es) more h = ap₂ (λ z zs. z ∷ zs) (entry_back c e none h.0) (entry_places_back cs es more h.1)
+entry_places_back cs es more h = absurd h

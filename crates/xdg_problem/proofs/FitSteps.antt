@@ -62,12 +62,10 @@ fits_end shape x k l = subst (λ z. Fits (drop k shape) z) (sym (drop_all k x l)
 
 pub fits_split : (front rest x : List ℕ) (n : ℕ) → length front ≡ n → n ≤ length x → Fits (front ++ rest) x ↔ (Fits front (take n x) × Fits rest (drop n x))
 fits_split [] rest x zero e l = (λ f. (tt, f), λ f. f.1)
-fits_split [] rest x (suc n) e l = absurd (omega arith)
-fits_split (s ∷ front) rest x zero e l = absurd (omega arith)
-fits_split (s ∷ front) rest [] (suc n) e l = absurd (omega arith)
 fits_split (s ∷ front) rest (a ∷ x) (suc n) e l =
     let h = fits_split front rest x n (omega arith) (omega arith) in
     (λ f. ((f.0, (h.0 f.1).0), (h.0 f.1).1), λ f. (f.0.0, h.1 (f.0.1, f.1)))
+fits_split front rest x n e l = absurd (omega arith)
 
 pub node_step : (attrs : List AttrPlan) (x : List ℕ) (k : ℕ) (d : AttrPlan) → k < length attrs → k < length x → get_or x k 0 < length (get_or attrs k d).values → Fits (drop (k + 1) (map (λ (attr : AttrPlan). length attr.values) attrs)) (drop (k + 1) x) ↔ Fits (drop k (map (λ (attr : AttrPlan). length attr.values) attrs)) (drop k x)
 node_step attrs x k d l m n = fits_step (map (λ (attr : AttrPlan). length attr.values) attrs) x k (subst (λ i. k < i) (sym (length-map attrs (λ (attr : AttrPlan). length attr.values))) l) m (subst (λ i. get_or x k 0 < i) (sym (get_or-map (λ (attr : AttrPlan). length attr.values) attrs k d 0 l)) n)
@@ -110,17 +108,11 @@ dim_refused plan n k w x now l e m s f r = f (subst (λ z. Fits (value_counts pl
 
 -- values of dimensions
 
-width_of : (n : ℕ) (plan : DimPlan) → length (flat_map (λ (node : ℕ). value_counts plan) (below n)) ≡ n * length plan.attrs
-width_of n plan = length_attrs_of n plan
-
-abbrev piece : ℕ → DimPlan → List ℕ
-piece n plan = flat_map (λ (node : ℕ). value_counts plan) (below n)
-
 values_head : (plan : DimPlan) (plans : List DimPlan) (n w : ℕ) (x : List ℕ) → w ≡ n * length plan.attrs → w ≤ length x → AreValues n (plan ∷ plans) x ↔ (Fits (flat_map (λ (node : ℕ). value_counts plan) (below n)) (take w x) × AreValues n plans (drop w x))
 values_head plan plans n w x e m =
-    let h = fits_split (flat_map (λ (node : ℕ). value_counts plan) (below n)) (attr_sizes n plans) x w (width_of n plan ∙ sym e) m in
+    let h = fits_split (flat_map (λ (node : ℕ). value_counts plan) (below n)) (attr_sizes n plans) x w (length_attrs_of n plan ∙ sym e) m in
     let p = length-append (flat_map (λ (node : ℕ). value_counts plan) (below n)) (attr_sizes n plans) in
-    let q = width_of n plan in
+    let q = length_attrs_of n plan in
     let d = length-drop w x in
     (λ a. ((h.0 a.1).0, ((let s = a.0 in omega (arith, s, p, q, d)), (h.0 a.1).1)), λ a. ((let s = a.1.0 in omega (arith, s, p, q, d)), h.1 (a.0, a.1.1)))
 
@@ -128,7 +120,7 @@ values_narrow : (plan : DimPlan) (plans : List DimPlan) (n w : ℕ) (x : List �
 values_narrow plan plans n w x e m a =
     let s = a.0 in
     let p = length-append (flat_map (λ (node : ℕ). value_counts plan) (below n)) (attr_sizes n plans) in
-    let q = width_of n plan in
+    let q = length_attrs_of n plan in
     omega (arith, s, p, q)
 
 pub values_short : (dims : List DimPlan) (n w k : ℕ) (d : DimPlan) (x : List ℕ) → k < length dims → w ≡ n * length (get_or dims k d).attrs → length x < w → AreValues n (drop k dims) x → ⊥

@@ -2,7 +2,7 @@
 use Rattle.std.proofs.Common.{◌≡◌, ◌↔◌, ℕ, ◌<◌, zero, suc, List, [], ◌∷◌, ◌++◌, length, map, refl, ◌∙◌}
 use Rattle.std.specs.Prelude.{All, slice_index_or}
 use Rattle.std.proofs.lemmas.List.{length-map}
-use Rattle.std.proofs.lemmas.List.Elements.{All-nil, All-cons, All-append, All-weaker}
+use Rattle.std.proofs.lemmas.List.Elements.{All-map, All-nil, All-append, All-weaker}
 use Rattle.xdg_base.specs.declared.ids.EntryNo.{EntryNo}
 use Rattle.xdg_problem.specs.declared.analysis.Analysis.{Analysis}
 use Rattle.xdg_problem.specs.declared.formula.Formula.{Formula}
@@ -30,17 +30,13 @@ use Rattle.xdg_problem.specs.Arguments.{first_dim, label_count}
 abbrev nothing : EntryNo → List Feat
 nothing entry = []
 
-length_none : (entries : List EntryNo) → length (map nothing entries) ≡ length entries
-length_none entries = length-map entries nothing
-
 none_each : (candidates : List (List EntryNo)) (v : ℕ) → length (slice_index_or (no_features candidates) v []) ≡ length (slice_index_or candidates v [])
 none_each [] v = refl
-none_each (entries ∷ candidates) zero = length_none entries
+none_each (entries ∷ candidates) zero = length-map entries nothing
 none_each (entries ∷ candidates) (suc v) = none_each candidates v
 
 all_none : (entries : List EntryNo) → All (λ features. length features ≡ 0) (map nothing entries)
-all_none [] = All-nil (λ features. length features ≡ 0)
-all_none (entry ∷ entries) = All-cons (λ features. length features ≡ 0) [] (map nothing entries) refl (all_none entries)
+all_none entries = All-map (λ features. length features ≡ 0) nothing entries (λ k d l. refl)
 
 none_at : (candidates : List (List EntryNo)) (v : ℕ) → All (λ features. length features ≡ 0) (slice_index_or (no_features candidates) v [])
 none_at [] v = All-nil (λ features. length features ≡ 0)

@@ -1,5 +1,5 @@
 -- The order of analyses, part by part.
-use Rattle.std.proofs.Common.{◌≡◌, ℕ, ◌<◌, ◌⊎◌, inl, inr, List, [], ◌∷◌, ◌++◌, length, refl, ap, sym, ◌∙◌, arith, subst, suc, map, cond}
+use Rattle.std.proofs.Common.{◌≡◌, ℕ, ◌<◌, ◌⊎◌, inl, inr, List, [], ◌∷◌, ◌++◌, length, refl, ap, sym, ◌∙◌, arith, subst, suc, map, cond, rules}
 use Rattle.std.specs.Prelude.{Contains, ◌↔◌, ◌==◌}
 use Rattle.std.specs.List.{AllByRecursion}
 use Rattle.std.proofs.lemmas.Bool.{ne_eqb, eq-eqb}
@@ -31,11 +31,10 @@ less_behind [] x y l = l
 less_behind (a ∷ front) x y l = inr (refl, less_behind front x y l)
 
 pub less_front : (x y v w : List ℕ) → length x ≡ length y → Less x y → Less (x ++ v) (y ++ w)
-less_front [] [] v w e l = absurd l
 less_front [] (b ∷ y) v w e l = absurd (omega arith)
-less_front (a ∷ x) [] v w e l = absurd l
 less_front (a ∷ x) (b ∷ y) v w e (inl l) = inl l
 less_front (a ∷ x) (b ∷ y) v w e (inr (s, l)) = inr (s, less_front x y v w (omega arith) l)
+less_front x y v w e l = absurd l
 
 -- entries
 
@@ -57,13 +56,9 @@ place_order (x ∷ xs) a b o c d l = elim (contains_cases x xs b d) [
 ]
 
 entries_order : (candidates : List (List EntryNo)) (a b : List EntryNo) → AllByRecursion AreCandidates candidates → HasCandidates candidates a → HasCandidates candidates b → Less (entry_numbers a) (entry_numbers b) → Less (entry_places candidates a) (entry_places candidates b)
-entries_order [] [] [] c h k l = absurd l
-entries_order [] (e ∷ a) b c h k l = absurd h
-entries_order [] a (f ∷ b) c h k l = absurd k
-entries_order (x ∷ xs) [] b c h k l = absurd h
-entries_order (x ∷ xs) (e ∷ a) [] c h k l = absurd k
 entries_order (x ∷ xs) (e ∷ a) (f ∷ b) c h k (inl l) = inl (place_order x e f (ordered_from_pairs EntryBefore x c.0.rising) h.0 k.0 l)
 entries_order (x ∷ xs) (e ∷ a) (f ∷ b) c h k (inr (s, l)) = inr (ap (place_among x) (entry_equal e f s), entries_order xs a b c.1 h.1 k.1 l)
+entries_order candidates a b c h k l = absurd (search rules)
 
 -- edges
 

@@ -65,10 +65,9 @@ all_mapped P Q f (x ∷ xs) same =
 -- ordered
 
 pub ordered_pairs : {X : Type 0} (R : X → X → Type 0) (xs : List X) → Ordered R xs → (i j : ℕ) (d : X) → i < j → j < length xs → R (get_or xs i d) (get_or xs j d)
-ordered_pairs R [] o i j d l m = absurd (omega arith)
-ordered_pairs R (x ∷ xs) o i zero d l m = absurd (omega arith)
 ordered_pairs R (x ∷ xs) o zero (suc j) d l m = each_at (R x) xs j d (omega arith) o.0
 ordered_pairs R (x ∷ xs) o (suc i) (suc j) d l m = ordered_pairs R xs o.1 i j d (omega arith) (omega arith)
+ordered_pairs R xs o i j d l m = absurd (omega arith)
 
 pub ordered_from_pairs : {X : Type 0} (R : X → X → Type 0) (xs : List X) → AllPairs R xs → Ordered R xs
 ordered_from_pairs R [] p = tt
@@ -129,12 +128,6 @@ contains_cases y xs x (suc k, l, e) = inr (k, (let m : suc k < suc (length xs) =
 pub contains_none : {X : Type 0} (x : X) → Contains [] x → ⊥
 contains_none x c = let l : c.0 < 0 = c.1 in omega arith
 
-pub contains_left : {X : Type 0} (xs ys : List X) (x : X) → Contains xs x → Contains (xs ++ ys) x
-contains_left xs ys x c = Contains-append_left xs ys x c
-
-pub contains_right : {X : Type 0} (xs ys : List X) (x : X) → Contains ys x → Contains (xs ++ ys) x
-contains_right xs ys x c = Contains-append_right xs ys x c
-
 pub contains_map : {X Y : Type 0} (f : X → Y) (xs : List X) (x : X) → Contains xs x → Contains (map f xs) (f x)
 contains_map f xs x c =
     let within : c.0 < length xs = c.1 in
@@ -150,8 +143,8 @@ contains_filter test (y ∷ xs) x t c = elim (contains_cases y xs x c) [
 pub contains_flat_map : {X : Type 0} (f : ℕ → List X) (first count i : ℕ) (x : X) → first ≤ i → i < first + count → Contains (f i) x → Contains (flat_map f (numbers_from first count)) x
 contains_flat_map f first zero i x l m c = absurd (omega arith)
 contains_flat_map f first (suc count) i x l m c = elim (cases_eq i first) [
-  | inl e ↦ contains_left (f first) (flat_map f (numbers_from (suc first) count)) x (subst (λ j. Contains (f j) x) e c)
-  | inr n ↦ contains_right (f first) (flat_map f (numbers_from (suc first) count)) x (contains_flat_map f (suc first) count i x (omega (arith, n)) (omega arith) c)
+  | inl e ↦ Contains-append_left (f first) (flat_map f (numbers_from (suc first) count)) x (subst (λ j. Contains (f j) x) e c)
+  | inr n ↦ Contains-append_right (f first) (flat_map f (numbers_from (suc first) count)) x (contains_flat_map f (suc first) count i x (omega (arith, n)) (omega arith) c)
 ]
 
 pub contains_numbers : (first count i : ℕ) → first ≤ i → i < first + count → Contains (numbers_from first count) i

@@ -3,12 +3,13 @@ use Rattle.std.proofs.Common.{◌≡◌, ◌≢◌, ℕ, ◌<◌, ◌≤◌, ◌
 use Rattle.std.specs.Prelude.{AllPairs, Contains, ◌==◌, slice_get, Some}
 use Rattle.std.specs.List.{AllByRecursion, flat_map}
 use Rattle.std.proofs.lemmas.Bool.{ne_eqb, not-true, eqb-false, cases_Bool}
+use Rattle.std.proofs.lemmas.List.Elements.{Contains-append_left, Contains-append_right}
 use Rattle.xdg_problem.specs.declared.analysis.Edge.{Edge}
 use Rattle.xdg_problem.specs.declared.parts.DimPlan.{DimPlan}
 use Rattle.xdg_problem.specs.declared.parts.Parts.{Parts}
 use Rattle.xdg_problem.specs.Places.{below, edge, others, places_out, places_of, places_from, nodes, places}
 use Rattle.xdg_problem.specs.Analyses.{IsPlace, Before}
-use Rattle.xdg_problem.proofs.Ordered.{Ordered, each_weaker, each_append, each_map, each_filter, each_passed, each_both, each_of_all, each_across, each_contained, each_flat_map, ordered_pairs, ordered_append, ordered_map, ordered_filter, ordered_flat_map, numbers_within, numbers_ordered, contains_left, contains_right, contains_map, contains_filter, contains_flat_map, contains_numbers}
+use Rattle.xdg_problem.proofs.Ordered.{Ordered, each_weaker, each_append, each_map, each_filter, each_passed, each_both, each_of_all, each_across, each_contained, each_flat_map, ordered_pairs, ordered_append, ordered_map, ordered_filter, ordered_flat_map, numbers_within, numbers_ordered, contains_map, contains_filter, contains_flat_map, contains_numbers}
 use Rattle.xdg_problem.proofs.PlacePlans.{dim_within, plan_read}
 
 -- where the places of one label, of one mother and of one dimension stand
@@ -131,13 +132,13 @@ contains_from dim n [] place plan mother label daughter w i g m l d differ = abs
 contains_from dim n (first ∷ plans) zero plan mother label daughter w i g m l d differ =
     let z : dim + 0 ≡ dim = omega arith in
     let h : first ≡ plan = i in
-    contains_left (cond first.graph (places_of dim n (length first.labels)) []) (places_from (suc dim) n plans) (edge (dim + 0) mother label daughter)
+    Contains-append_left (cond first.graph (places_of dim n (length first.labels)) []) (places_from (suc dim) n plans) (edge (dim + 0) mother label daughter)
     (subst (λ p. Contains (cond p.graph (places_of dim n (length p.labels)) []) (edge (dim + 0) mother label daughter)) (sym h)
     (subst (λ b. Contains (cond b (places_of dim n (length plan.labels)) []) (edge (dim + 0) mother label daughter)) (sym g)
     (subst (λ k. Contains (places_of dim n (length plan.labels)) (edge k mother label daughter)) (sym z) (contains_of dim n (length plan.labels) mother label daughter m l d differ))))
 contains_from dim n (first ∷ plans) (suc place) plan mother label daughter w i g m l d differ =
     let z : suc dim + place ≡ dim + suc place = omega arith in
-    contains_right (cond first.graph (places_of dim n (length first.labels)) []) (places_from (suc dim) n plans) (edge (dim + suc place) mother label daughter)
+    Contains-append_right (cond first.graph (places_of dim n (length first.labels)) []) (places_from (suc dim) n plans) (edge (dim + suc place) mother label daughter)
     (subst (λ k. Contains (places_from (suc dim) n plans) (edge k mother label daughter)) z (contains_from (suc dim) n plans place plan mother label daughter (let v : suc place < suc (length plans) = w in omega arith) i g m l d differ))
 
 pub place_is : (parts : Parts) (e : Edge) → IsPlace parts e → Contains (places parts) e

@@ -58,8 +58,6 @@ presence_fits edges (p ∷ places) = (below_two (has_edge edges p), presence_fit
 -- numbers that fit say which edges they chose
 pub presence_back : (places : List Edge) (numbers : List ℕ) → Ordered Before places → Fits (map (λ (place : Edge). 2) places) numbers → length numbers ≡ length places → map (presence (chosen places numbers)) places ≡ numbers
 presence_back [] [] o f l = refl
-presence_back [] (n ∷ numbers) o f l = absurd f
-presence_back (p ∷ places) [] o f l = absurd (omega arith)
 presence_back (p ∷ places) (n ∷ numbers) o f l =
     let c = chosen places numbers in
     let h = presence_back places numbers o.1 f.1 (omega arith) in
@@ -69,6 +67,7 @@ presence_back (p ∷ places) (n ∷ numbers) o f l =
       | inr ne ↦ subst (λ b. map (presence (cond b (p ∷ c) c)) (p ∷ places) ≡ n ∷ numbers) (sym (ne_eqb n 0 ne))
           (ap₂ (λ z zs. z ∷ zs) (ap (λ b. cond b 0 1) (absent_before p c (chosen_each (Before p) places numbers o.0)) ∙ (let t : n < 2 = f.0 in omega (arith, ne))) h)
     ]
+presence_back places numbers o f l = absurd (omega arith)
 
 -- edges behind a place stand at the places behind it
 pub narrow : (p : Edge) (places edges : List Edge) → AllByRecursion (Before p) edges → AllByRecursion (Contains (p ∷ places)) edges → AllByRecursion (Contains places) edges

@@ -32,9 +32,8 @@ fits_before (s ∷ front) rest (a ∷ x) f = (f.0, fits_before front rest x f.1)
 
 pub fits_both : (front rest x y : List ℕ) → length x ≡ length front → Fits front x → Fits rest y → Fits (front ++ rest) (x ++ y)
 fits_both [] rest [] y l f g = g
-fits_both [] rest (a ∷ x) y l f g = absurd f
-fits_both (s ∷ front) rest [] y l f g = absurd (omega arith)
 fits_both (s ∷ front) rest (a ∷ x) y l f g = (f.0, fits_both front rest x y (omega arith) f.1 g)
+fits_both front rest x y l f g = absurd (omega arith)
 
 abbrev sizes : Parts → List ℕ
 sizes parts = attr_sizes (nodes parts) parts.dims
@@ -42,13 +41,10 @@ sizes parts = attr_sizes (nodes parts) parts.dims
 abbrev edge_sizes : Parts → List ℕ
 edge_sizes parts = map (λ (place : Edge). 2) (places parts)
 
-length_candidates : (parts : Parts) → length (map length parts.candidates) ≡ length parts.candidates
-length_candidates parts = length-map parts.candidates length
-
 pub length_shape : (parts : Parts) → length (shape parts) ≡ length parts.candidates + (length (sizes parts) + length (places parts))
 length_shape parts =
     length-append (map length parts.candidates) (sizes parts ++ edge_sizes parts)
-    ∙ ap₂ (λ i j. i + j) (length_candidates parts) (length-append (sizes parts) (edge_sizes parts) ∙ ap (λ i. length (sizes parts) + i) (length-map (places parts) (λ (place : Edge). 2)))
+    ∙ ap₂ (λ i j. i + j) (length-map parts.candidates length) (length-append (sizes parts) (edge_sizes parts) ∙ ap (λ i. length (sizes parts) + i) (length-map (places parts) (λ (place : Edge). 2)))
 
 each_candidates : (parts : Parts) → IsProblem parts → AllByRecursion AreCandidates parts.candidates
 each_candidates parts p = recursion_from_All AreCandidates parts.candidates p.candidates
@@ -58,7 +54,7 @@ pub entries_back : (parts : Parts) (x : List ℕ) → IsProblem parts → Fits (
 entries_back parts x p f l = entries_at_back parts.candidates (sizes parts ++ edge_sizes parts) x (each_candidates parts p) f l
 
 after_entries : (parts : Parts) (x : List ℕ) → Fits (shape parts) x → Fits (sizes parts ++ edge_sizes parts) (drop (length parts.candidates) x)
-after_entries parts x f = subst (λ i. Fits (sizes parts ++ edge_sizes parts) (drop i x)) (length_candidates parts) (fits_after (map length parts.candidates) (sizes parts ++ edge_sizes parts) x f)
+after_entries parts x f = subst (λ i. Fits (sizes parts ++ edge_sizes parts) (drop i x)) (length-map parts.candidates length) (fits_after (map length parts.candidates) (sizes parts ++ edge_sizes parts) x f)
 
 after_attrs : (parts : Parts) (x : List ℕ) → Fits (shape parts) x → Fits (edge_sizes parts) (drop (first_place parts) x)
 after_attrs parts x f = subst (λ y. Fits (edge_sizes parts) y) (drop-drop (length (sizes parts)) (length parts.candidates) x) (fits_after (sizes parts) (edge_sizes parts) (drop (length parts.candidates) x) (after_entries parts x f))
@@ -90,7 +86,7 @@ vector_analysis parts x p f l =
 pub vector_fits : (parts : Parts) (a : Analysis) → IsProblem parts → IsAnalysis parts a → Fits (shape parts) (vector parts a)
 vector_fits parts a p h =
     fits_both (map length parts.candidates) (sizes parts ++ edge_sizes parts) (entry_places parts.candidates a.entries) (a.attrs ++ map (presence a.edges) (places parts))
-    (length_entry_places parts.candidates a.entries h.entries ∙ sym (length_candidates parts))
+    (length_entry_places parts.candidates a.entries h.entries ∙ sym (length-map parts.candidates length))
     (entry_places_fit parts.candidates a.entries h.entries)
     (fits_both (sizes parts) (edge_sizes parts) a.attrs (map (presence a.edges) (places parts)) h.attr_count h.attrs (presence_fits a.edges (places parts)))
 

@@ -2,6 +2,7 @@
 use Rattle.std.proofs.Common.{◌≡◌, ℕ, ◌+◌, ◌<◌, ◌↔◌, inl, inr, zero, suc, Bool, true, false, List, [], ◌∷◌, ◌++◌, length, map, refl, sym, subst, Option, Some, None}
 use Rattle.std.specs.Prelude.{filter, Contains, slice_index_or, ◌&&◌}
 use Rattle.std.specs.List.{Any, flat_map}
+use Rattle.std.proofs.lemmas.List.Elements.{Contains-append_left, Contains-append_right}
 use Rattle.xdg_facts.specs.Listing.{HasOneListing}
 use Rattle.xdg_facts.proofs.Exists.{decided_listing}
 use Rattle.xdg_facts.proofs.Unique.{listing_unique}
@@ -17,7 +18,7 @@ use Rattle.xdg_problem.proofs.DecidingPaths.{decided_true, decided_not, decided_
 use Rattle.xdg_problem.proofs.EachTest.{Each, tested_each, each_tested}
 use Rattle.xdg_problem.proofs.LiveDecided.{decided_passes, decided_tests}
 use Rattle.xdg_problem.proofs.Looking.{any_of}
-use Rattle.xdg_problem.proofs.Ordered.{contains_head, contains_none, contains_cases, contains_left, contains_right, contains_map}
+use Rattle.xdg_problem.proofs.Ordered.{contains_head, contains_none, contains_cases, contains_map}
 use Rattle.xdg_problem.specs.Boxes.{Has, IsBox, Agrees, edge_decision, entry_decision}
 use Rattle.xdg_rules.specs.Rules.{has, IsDecided, EntryDecided, entry_value, value_in, TestDecided, TestPasses, FailsTest, TakesBy, IsClosedFor, IsClosed}
 use Rattle.xdg_rules.specs.Boxed.{Boxed}
@@ -103,8 +104,8 @@ all_rows (suc size) = map (λ row. true ∷ row) (all_rows size) ++ map (λ row.
 row_contained : (row : List Bool) → Contains (all_rows (length row)) row
 unfolding all_rows
 row_contained [] = contains_head [] []
-row_contained (true ∷ row) = contains_left (map (λ r. true ∷ r) (all_rows (length row))) (map (λ r. false ∷ r) (all_rows (length row))) (true ∷ row) (contains_map (λ r. true ∷ r) (all_rows (length row)) row (row_contained row))
-row_contained (false ∷ row) = contains_right (map (λ r. true ∷ r) (all_rows (length row))) (map (λ r. false ∷ r) (all_rows (length row))) (false ∷ row) (contains_map (λ r. false ∷ r) (all_rows (length row)) row (row_contained row))
+row_contained (true ∷ row) = Contains-append_left (map (λ r. true ∷ r) (all_rows (length row))) (map (λ r. false ∷ r) (all_rows (length row))) (true ∷ row) (contains_map (λ r. true ∷ r) (all_rows (length row)) row (row_contained row))
+row_contained (false ∷ row) = Contains-append_right (map (λ r. true ∷ r) (all_rows (length row))) (map (λ r. false ∷ r) (all_rows (length row))) (false ∷ row) (contains_map (λ r. false ∷ r) (all_rows (length row)) row (row_contained row))
 
 pub all_boxes : List ℕ → List (List (List Bool))
 all_boxes [] = [] ∷ []
@@ -113,8 +114,8 @@ all_boxes (size ∷ sizes) = flat_map (λ row. map (λ box. row ∷ box) (all_bo
 contains_flat : {X Y : Type 0} (f : X → List Y) (xs : List X) (x : X) (y : Y) → Contains xs x → Contains (f x) y → Contains (flat_map f xs) y
 contains_flat f [] x y c d = absurd (contains_none x c)
 contains_flat f (z ∷ xs) x y c d = elim (contains_cases z xs x c) [
-  | inl e ↦ contains_left (f z) (flat_map f xs) y (subst (λ k. Contains (f k) y) (sym e) d)
-  | inr later ↦ contains_right (f z) (flat_map f xs) y (contains_flat f xs x y later d)
+  | inl e ↦ Contains-append_left (f z) (flat_map f xs) y (subst (λ k. Contains (f k) y) (sym e) d)
+  | inr later ↦ Contains-append_right (f z) (flat_map f xs) y (contains_flat f xs x y later d)
 ]
 
 pub box_contained : (box : List (List Bool)) → Contains (all_boxes (map length box)) box

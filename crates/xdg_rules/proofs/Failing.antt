@@ -1,6 +1,6 @@
 -- A test that is decided in a box and fails is decided in each box that lies in it, and fails there.
 use Rattle.xdg_problem.proofs.Ordered.{map_alike}
-use Rattle.std.proofs.Common.{◌≡◌, ℕ, ◌+◌, ◌<◌, zero, suc, Bool, true, false, ◌&&◌, List, [], ◌∷◌, length, map, refl, sym, ap, ◌∙◌, arith, subst, Option, Some, None}
+use Rattle.std.proofs.Common.{◌≡◌, ℕ, ◌+◌, ◌<◌, suc, Bool, true, false, ◌&&◌, List, [], ◌∷◌, length, map, refl, sym, ap, ◌∙◌, arith, subst, Option, Some, None}
 use Rattle.std.specs.Prelude.{filter, Contains, All, slice_index_or}
 use Rattle.std.proofs.lemmas.Bool.{false≢true}
 use Rattle.std.proofs.lemmas.List.Elements.{All-weaker, All-contains, All-contains_itself}
@@ -23,10 +23,9 @@ use Rattle.xdg_facts.proofs.Truths.{same_flag, same_and}
 
 -- the first value that remains is the only one
 pub first_only : (row : List Bool) (v : ℕ) → slice_index_or row v false ≡ true → ((x : ℕ) → slice_index_or row x false ≡ true → x ≡ v) → first_true row ≡ v
-first_only [] v has only = absurd (false≢true has)
 first_only (true ∷ row) v has only = only 0 refl
-first_only (false ∷ row) zero has only = absurd (false≢true has)
 first_only (false ∷ row) (suc v) has only = ap suc (first_only row v has (λ x h. (let e = only (suc x) h in omega (arith, e))))
+first_only row v has only = absurd (false≢true has)
 
 pub value_is : (box : List (List Bool)) (d : ℕ) (decided : IsDecided box d) → value_in box d ≡ decided.0
 value_is box d decided = first_only (slice_index_or box d []) decided.0 decided.1 decided.2

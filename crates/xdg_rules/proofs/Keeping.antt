@@ -19,32 +19,24 @@ less_rest p q x xs less y c = less y (contains_more x xs y c)
 
 -- sums over what the filters keep
 module _ {X : Type 0} (f : X → ℕ) where
-  sum_put : (b c : Bool) (x : X) (ys zs : List X) → (b ≡ true → c ≡ true) → sum_by f ys ≤ sum_by f zs → sum_by f (cond b (x ∷ ys) ys) ≤ sum_by f (cond c (x ∷ zs) zs)
-  sum_put true true x ys zs more fewer = omega (arith, sum_by-cons f x ys, sum_by-cons f x zs, fewer)
-  sum_put true false x ys zs more fewer = absurd (false≢true (more refl))
-  sum_put false true x ys zs more fewer = omega (arith, sum_by-cons f x zs, fewer)
-  sum_put false false x ys zs more fewer = fewer
-
   more_put : (extra : ℕ) (b c : Bool) (x : X) (ys zs : List X) → (b ≡ true → c ≡ true) → sum_by f ys + extra ≤ sum_by f zs → sum_by f (cond b (x ∷ ys) ys) + extra ≤ sum_by f (cond c (x ∷ zs) zs)
   more_put extra true true x ys zs more fewer = omega (arith, sum_by-cons f x ys, sum_by-cons f x zs, fewer)
   more_put extra true false x ys zs more fewer = absurd (false≢true (more refl))
   more_put extra false true x ys zs more fewer = omega (arith, sum_by-cons f x zs, fewer)
   more_put extra false false x ys zs more fewer = fewer
 
-  more_here : (b c : Bool) (x : X) (ys zs : List X) → b ≡ false → c ≡ true → sum_by f ys ≤ sum_by f zs → sum_by f (cond b (x ∷ ys) ys) + f x ≤ sum_by f (cond c (x ∷ zs) zs)
-  more_here true c x ys zs fails passes fewer = absurd (false≢true (sym fails))
-  more_here false true x ys zs fails passes fewer = omega (arith, sum_by-cons f x zs, fewer)
-  more_here false false x ys zs fails passes fewer = absurd (false≢true passes)
-
   pub less_sum : (p q : X → Bool) (xs : List X) → Less p q xs → sum_by f (filter p xs) ≤ sum_by f (filter q xs)
   less_sum p q [] less = omega arith
-  less_sum p q (x ∷ xs) less = sum_put (p x) (q x) x (filter p xs) (filter q xs) (less x (contains_head x xs)) (less_sum p q xs (less_rest p q x xs less))
+  less_sum p q (x ∷ xs) less =
+      let rest = less_sum p q xs (less_rest p q x xs less) in
+      let all = more_put 0 (p x) (q x) x (filter p xs) (filter q xs) (less x (contains_head x xs)) (omega (arith, rest)) in
+      omega (arith, all)
 
   -- an element that passes the second test alone is more by what it counts
   pub more_sum : (p q : X → Bool) (xs : List X) → Less p q xs → (z : X) → Contains xs z → p z ≡ false → q z ≡ true → sum_by f (filter p xs) + f z ≤ sum_by f (filter q xs)
   more_sum p q [] less z c fails passes = absurd (contains_none z c)
   more_sum p q (x ∷ xs) less z c fails passes = elim (contains_cases x xs z c) [
-    | inl e ↦ subst (λ k. sum_by f (filter p (x ∷ xs)) + f k ≤ sum_by f (filter q (x ∷ xs))) e (more_here (p x) (q x) x (filter p xs) (filter q xs) (ap p e ∙ fails) (ap q e ∙ passes) (less_sum p q xs (less_rest p q x xs less)))
+    | inl e ↦ subst (λ k. sum_by f (filter p (x ∷ xs)) + f k ≤ sum_by f (filter q (x ∷ xs))) e (rw (ap p e ∙ fails, ap q e ∙ passes) (omega (arith, sum_by-cons f x (filter q xs), less_sum p q xs (less_rest p q x xs less))))
     | inr d ↦ more_put (f z) (p x) (q x) x (filter p xs) (filter q xs) (less x (contains_head x xs)) (more_sum p q xs (less_rest p q x xs less) z d fails passes)
   ]
 

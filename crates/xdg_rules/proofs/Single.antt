@@ -40,9 +40,8 @@ one_value_length size x = length-map (below size) (λ v. v == x) ∙ numbers_len
 
 only_sizes : (sizes x : List ℕ) → length x ≡ length sizes → map length (only sizes x) ≡ sizes
 only_sizes [] [] whole = refl
-only_sizes (size ∷ sizes) [] whole = absurd (omega (arith, whole))
-only_sizes [] (a ∷ x) whole = absurd (omega (arith, whole))
 only_sizes (size ∷ sizes) (a ∷ x) whole = ap₂ (λ n ns. n ∷ ns) (one_value_length size a) (only_sizes sizes x (omega (arith, whole)))
+only_sizes sizes x whole = absurd (omega (arith, whole))
 
 -- the box of a whole vector has the vector's number for each decision
 only_has : (sizes x : List ℕ) → Fits sizes x → (d : ℕ) → d < length x → Has (only sizes x) d (slice_index x d)
@@ -60,18 +59,15 @@ only_box sizes x fits whole = record {
 -- where the vector lies in a box, its own box lies there too
 pub only_lies : (sizes x : List ℕ) (box : List (List Bool)) → Fits sizes x → length x ≡ length sizes → IsIn box x → LiesIn (only sizes x) box
 only_lies [] [] box fits whole lies d v has = absurd (false≢true has)
-only_lies (size ∷ sizes) [] box fits whole lies d v has = absurd (omega (arith, whole))
-only_lies [] (a ∷ x) box fits whole lies d v has = absurd fits
-only_lies (size ∷ sizes) (a ∷ x) [] fits whole lies d v has = absurd lies
 only_lies (size ∷ sizes) (a ∷ x) (row ∷ box) fits whole lies zero v has = subst (λ k. slice_index_or row k false ≡ true) (sym ((one_value_is size a fits.0 v).0 has)) lies.0
 only_lies (size ∷ sizes) (a ∷ x) (row ∷ box) fits whole lies (suc d) v has = only_lies sizes x box fits.1 (omega (arith, whole)) lies.1 d v has
+only_lies sizes x box fits whole lies d v has = absurd (grind arith)
 
 -- a vector lies in a box that agrees with it
 pub agrees_in : (box : List (List Bool)) (x : List ℕ) → length box ≡ length x → Agrees box x → IsIn box x
 agrees_in [] [] same agrees = tt
-agrees_in (row ∷ box) [] same agrees = absurd (omega (arith, same))
-agrees_in [] (a ∷ x) same agrees = absurd agrees
 agrees_in (row ∷ box) (a ∷ x) same agrees = ((agrees.0 a).1 refl, agrees_in box x (omega (arith, same)) agrees.1)
+agrees_in box x same agrees = absurd (omega (arith, same))
 
 -- what a box of all values has
 full_has : (sizes : List ℕ) (d v : ℕ) → v < slice_index sizes d → Has (full sizes) d v
