@@ -1,3 +1,4 @@
 pub mod Bared
 pub mod Built
+pub mod Keywords
 pub mod Mapped

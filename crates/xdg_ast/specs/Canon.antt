@@ -1,5 +1,5 @@
 -- The canonical text of a grammar.
-use Rattle.std.specs.Prelude.{ℕ, Bool, ◌||◌, ◌&&◌, if◌then◌else◌, List, [], ◌∷◌, ◌++◌, map, flat_map, get_or, Option, Some, None, codes, decimal}
+use Rattle.std.specs.Prelude.{ℕ, Bool, ◌||◌, ◌&&◌, if◌then◌else◌, nat_lt, List, [], ◌∷◌, ◌++◌, map, flat_map, get_or, Option, Some, None, codes, decimal}
 use Rattle.xdg_ast.specs.declared.token.Kind.{Kind}
 use Rattle.xdg_ast.specs.declared.token.Kind.TheVariants as k
 use Rattle.xdg_ast.specs.declared.names.Name.{Name}
@@ -75,6 +75,10 @@ statement_lines (s.DefEntry body) = line (statement_words (s.DefEntry body)) ∷
 -- the text of a keyword or a sign
 abbrev pub text_of : Kind → List ℕ
 text_of kind = get_or ([] ∷ [] ∷ [] ∷ (keywords ++ map (λ sign. sign ∷ []) (codes "{}()[]:&|$#!?*+"))) (number kind) []
+
+-- the text of a keyword, and nothing of a sign
+abbrev pub keyword_text : Kind → List ℕ
+keyword_text kind = if nat_lt (number kind) 26 then text_of kind else []
 
 -- a word as it is written
 unfoldable pub spelling : Word → List ℕ

@@ -2,8 +2,9 @@
 
 ghost use Rattle.std.specs.Prelude.{◌≡◌};
 ghost use Rattle.xdg_ast.specs.Kinds.{sign_of, keyword_of, refined};
+ghost use Rattle.xdg_ast.specs.Canon.{keyword_text};
 
-use xdg_base::Span;
+use xdg_base::{Span, keyword_at, keyword_place};
 
 /// What a token is.
 #[derive(Clone, Copy, Debug, PartialEq, Eq)]
@@ -128,36 +129,54 @@ pub fn sign_of(c: char) -> Option<Kind>
     }
 }
 
+/// The kinds of the keywords, in the order of the table of keywords.
+const KEYWORD_KINDS: [Kind; 23] = [
+    Kind::DefDim,
+    Kind::DefType,
+    Kind::DefLabelType,
+    Kind::DefAttrsType,
+    Kind::DefEntryType,
+    Kind::UsePrinciple,
+    Kind::Dims,
+    Kind::Args,
+    Kind::Output,
+    Kind::UseOutput,
+    Kind::DefClass,
+    Kind::DefEntry,
+    Kind::Dim,
+    Kind::UseDim,
+    Kind::Tuple,
+    Kind::Set,
+    Kind::ISet,
+    Kind::Valency,
+    Kind::Map,
+    Kind::Card,
+    Kind::Bool,
+    Kind::Int,
+    Kind::String,
+];
+
 /// The keyword that a name is.
-#[tactic(auto, unfolding(crate::specs::Kinds::keyword_of))]
 pub fn keyword_of(name: &str) -> Option<Kind>
     ensures { result ≡ keyword_of name.now }
 {
-    match name {
-        "defdim" => Some(Kind::DefDim),
-        "deftype" => Some(Kind::DefType),
-        "deflabeltype" => Some(Kind::DefLabelType),
-        "defattrstype" => Some(Kind::DefAttrsType),
-        "defentrytype" => Some(Kind::DefEntryType),
-        "useprinciple" => Some(Kind::UsePrinciple),
-        "dims" => Some(Kind::Dims),
-        "args" => Some(Kind::Args),
-        "output" => Some(Kind::Output),
-        "useoutput" => Some(Kind::UseOutput),
-        "defclass" => Some(Kind::DefClass),
-        "defentry" => Some(Kind::DefEntry),
-        "dim" => Some(Kind::Dim),
-        "usedim" => Some(Kind::UseDim),
-        "tuple" => Some(Kind::Tuple),
-        "set" => Some(Kind::Set),
-        "iset" => Some(Kind::ISet),
-        "valency" => Some(Kind::Valency),
-        "map" => Some(Kind::Map),
-        "card" => Some(Kind::Card),
-        "bool" => Some(Kind::Bool),
-        "int" => Some(Kind::Int),
-        "string" => Some(Kind::String),
-        _ => None,
+    match keyword_place(name) {
+        Some(place) => Some(KEYWORD_KINDS[place]),
+        None => None,
+    }
+}
+
+impl Kind {
+    /// How a keyword is spelled. Of other kinds it tells nothing.
+    pub fn keyword(self) -> &'static str
+        ensures { result.now ≡ keyword_text self }
+    {
+        let place = (self as usize).wrapping_sub(Kind::DefDim as usize);
+        if place < KEYWORD_KINDS.len() {
+            keyword_at(place)
+        } else {
+            ""
+        }
     }
 }
 

@@ -1,47 +1,46 @@
--- Whether a text is a keyword, by its length.
-use Rattle.std.proofs.Common.{◌≡◌, ◌≢◌, ◌∙◌, ℕ, ◌==◌, List, [], ◌∷◌, Bool, true, false, ◌||◌, cond, length, filter, bytes_eq, ap, sym, refl, arith}
-use Rattle.std.specs.List.{AllByRecursion}
-use Rattle.std.proofs.Math.Bool.{or-false}
-use Rattle.std.proofs.lemmas.Bool.{false_from_ne_true}
-use Rattle.std.proofs.lemmas.Bool.Decides.{same_from_decides, Decides-like}
+-- The places at which keywords stand in their table.
+use Rattle.std.proofs.Common.{◌≡◌, ℕ, List, [], ◌∷◌, Bool, true, false, ◌||◌, zero, suc, ◌<◌, arith, length, get_or, nat_lt, take, ◌+◌, ◌∙◌, bytes_eq, ap, subst, refl}
+use Rattle.std.specs.List.{list_all, list_any}
+use Rattle.std.proofs.lemmas.Bool.{false_from_ne_true, and_parts, or_from, or_right}
+use Rattle.std.proofs.lemmas.Bool.Decides.{nat_tests}
+use Rattle.std.proofs.lemmas.List.Folds.{list_any_more}
+use Rattle.std.proofs.lemmas.List.Sums.{AllPass-from_list_all}
 use Rattle.std.proofs.lemmas.Slice.Eq.{bytes_eq-Decides}
-use Rattle.xdg_base.specs.Spelling.{is_keyword, keywords}
+use Rattle.xdg_base.specs.Spelling.{is_keyword, keywords, places_of}
 use Rattle.xdg_base.specs.Texts.{has_text}
 
-other : (text word : List ℕ) → text ≢ word → bytes_eq word text ≡ false
-other text word differ = false_from_ne_true (bytes_eq word text) (λ e. differ (sym ((bytes_eq-Decides word text).0 e)))
+abbrev pub stands_at : List ℕ → ℕ → Bool
+stands_at text place = bytes_eq text (get_or keywords place [])
 
-none_of : (text : List ℕ) (words : List (List ℕ)) → AllByRecursion (λ word. text ≢ word) words → has_text words text ≡ false
-none_of text [] differ = refl
-none_of text (word ∷ words) differ = ap (λ b. b || has_text words text) (other text word differ.0) ∙ none_of text words differ.1
+-- the word is met at one of the places of its length
+abbrev is_met : List ℕ → Bool
+is_met word = list_any (stands_at word) (places_of (length word))
 
--- a word of another length is passed over
-skipped : (text word : List ℕ) (n : ℕ) (words left : List (List ℕ)) (same : Bool) → length text ≡ n → (length word == n) ≡ same → has_text words text ≡ has_text left text → has_text (word ∷ words) text ≡ has_text (cond same (word ∷ left) left) text
-skipped text word n words left true is same rest = ap (λ b. bytes_eq word text || b) rest
-skipped text word n words left false is same rest =
-    let apart : text ≢ word = λ e. (let l = sym (ap length e) ∙ is in grind (arith, same, l)) in
-    ap (λ b. b || has_text words text) (other text word apart) ∙ rest
+all_met : list_all is_met keywords ≡ true
+unfolding places_of
+all_met = refl
 
-by_length : (text : List ℕ) (n : ℕ) → length text ≡ n → (words : List (List ℕ)) → has_text words text ≡ has_text (filter (λ word. length word == n) words) text
-by_length text n is [] = refl
-by_length text n is (word ∷ words) = skipped text word n words (filter (λ other. length other == n) words) (length word == n) is refl (by_length text n is words)
+met : (words : List (List ℕ)) (text : List ℕ) → list_all is_met words ≡ true → has_text words text ≡ true → is_met text ≡ true
+met [] text all has = absurd cc
+met (word ∷ words) text all has = by_word (bytes_eq word text) refl has (met words text parts.1) where
+  parts : (is_met word ≡ true) × (list_all is_met words ≡ true)
+  parts = and_parts (is_met word) (list_all is_met words) all
 
--- a text that is none of the keywords of its length
-pub none_at : (text : List ℕ) (n : ℕ) → length text ≡ n → AllByRecursion (λ word. text ≢ word) (filter (λ word. length word == n) keywords) → false ≡ is_keyword text
+  by_word : (same : Bool) → bytes_eq word text ≡ same → (same || has_text words text) ≡ true → (has_text words text ≡ true → is_met text ≡ true) → is_met text ≡ true
+  by_word true same has others = subst (λ z. is_met z ≡ true) ((bytes_eq-Decides word text).0 same) parts.0
+  by_word false same has others = others has
+
+pub no_keyword : (text : List ℕ) → is_met text ≡ false → is_keyword text ≡ false
 unfolding is_keyword
-none_at text n is differ = sym (by_length text n is keywords ∙ none_of text (filter (λ word. length word == n) keywords) differ)
+no_keyword text none = false_from_ne_true (has_text keywords text) (λ has. (let is : is_met text ≡ true = met keywords text all_met has in absurd cc))
 
--- where there is one keyword of its length
-pub one_at : (text word : List ℕ) (n : ℕ) (result : Bool) → length text ≡ n → filter (λ other. length other == n) keywords ≡ word ∷ [] → result ≡ bytes_eq text word → result ≡ is_keyword text
-unfolding is_keyword
-one_at text word n result is one asked =
-    asked ∙ same_from_decides (bytes_eq text word) (bytes_eq word text) (bytes_eq-Decides text word) (Decides-like (bytes_eq word text) sym sym (bytes_eq-Decides word text)) ∙ sym (by_length text n is keywords ∙ ap (λ words. has_text words text) one ∙ or-false (bytes_eq word text))
+pub at_place : (words : List (List ℕ)) (place : ℕ) → place < length words → has_text words (get_or words place []) ≡ true
+at_place [] place within = absurd (omega arith)
+at_place (word ∷ words) zero within = ap (λ b. b || has_text words word) ((bytes_eq-Decides word word).1 refl)
+at_place (word ∷ words) (suc place) within = or_right (bytes_eq word (get_or words place [])) (has_text words (get_or words place [])) (at_place words place (omega arith))
 
-unlike : (text : List ℕ) (words : List (List ℕ)) → AllByRecursion (λ word. length text ≢ length word) words → has_text words text ≡ false
-unlike text [] differ = refl
-unlike text (word ∷ words) differ = ap (λ b. b || has_text words text) (other text word (λ e. differ.0 (ap length e))) ∙ unlike text words differ.1
+pub none_so_far : (text : List ℕ) (places : List ℕ) (k : ℕ) → k < length places → list_any (stands_at text) (take k places) ≡ false → stands_at text (get_or places k 0) ≡ false → list_any (stands_at text) (take (k + 1) places) ≡ false
+none_so_far text places k within before here = list_any_more (stands_at text) places k 0 within ∙ or_from (list_any (stands_at text) (take k places)) (stands_at text (get_or places k 0)) before here
 
--- a text that is as long as no keyword
-pub too_long : (text : List ℕ) → AllByRecursion (λ word. length text ≢ length word) keywords → false ≡ is_keyword text
-unfolding is_keyword
-too_long text differ = sym (unlike text keywords differ)
+pub in_table : (places : List ℕ) (k : ℕ) → k < length places → list_all (λ place. nat_lt place (length keywords)) places ≡ true → get_or places k 0 < length keywords
+in_table places k within all = (let low = AllPass-from_list_all (λ place. nat_lt place (length keywords)) places all k 0 within in grind (arith, nat_tests, low))

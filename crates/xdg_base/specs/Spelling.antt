@@ -1,5 +1,5 @@
 -- What stands as a name in a text, and how any other text is quoted.
-use Rattle.std.specs.Prelude.{ℕ, ◌==◌, ◌&&◌, ◌||◌, Bool, false, List, [], ◌∷◌, ◌++◌, cond, not, codes}
+use Rattle.std.specs.Prelude.{ℕ, ◌==◌, ◌&&◌, ◌||◌, Bool, false, List, [], ◌∷◌, ◌++◌, cond, not, codes, ◌≡◌, ◌<◌, Option, Some, None, get_or, length, if◌then◌else◌}
 use Rattle.std.specs.Char.{is_ascii_alphabetic, is_ascii_alphanumeric}
 use Rattle.std.specs.List.{flat_map, list_all}
 use Rattle.xdg_base.specs.Texts.{has_text}
@@ -13,6 +13,24 @@ keywords =
 
 unfoldable pub is_keyword : List ℕ → Bool
 is_keyword text = has_text keywords text
+
+-- the place of the table at which a text stands, if it is a keyword
+abbrev pub IsKeywordPlace : List ℕ → Option ℕ → Type 0
+IsKeywordPlace text (Some place) = (place < length keywords) × (get_or keywords place [] ≡ text)
+IsKeywordPlace text None = is_keyword text ≡ false
+
+-- the places of the table at which the keywords of so many bytes stand
+unfoldable pub places_of : ℕ → List ℕ
+places_of n =
+    if n == 3 then 12 ∷ 15 ∷ 18 ∷ 21 ∷ [] else
+    (if n == 4 then 6 ∷ 7 ∷ 16 ∷ 19 ∷ 20 ∷ [] else
+    (if n == 5 then 14 ∷ [] else
+    (if n == 6 then 0 ∷ 8 ∷ 13 ∷ 22 ∷ [] else
+    (if n == 7 then 1 ∷ 17 ∷ [] else
+    (if n == 8 then 10 ∷ 11 ∷ [] else
+    (if n == 9 then 9 ∷ [] else
+    (if n == 12 then 2 ∷ 3 ∷ 4 ∷ 5 ∷ [] else
+    [])))))))
 
 -- an ASCII letter or an underscore
 abbrev pub begins_name : ℕ → Bool

@@ -15,3 +15,8 @@ abbrev pub Gives : {A : Type 0} → Result A Fault → Result A Stop → Type 0
 Gives answer (Ok value) = answer ≡ Ok value
 Gives answer (Err (stops.Fault fault)) = answer ≡ Err fault
 Gives answer (Err stops.OutOfMemory) = Unit {0}
+
+-- the answer whose value is made by that function; an error stays as it is
+abbrev pub answer_of : {A B : Type 0} → (A → B) → Result A Stop → Result B Stop
+answer_of f (Ok value) = Ok (f value)
+answer_of f (Err stop) = Err stop

@@ -33,13 +33,13 @@ pub enum Cause {
     UnknownPrinciple,
     /// A principle or a class is given a parameter that it does not have, or lacks one.
     WrongParams,
-    /// A cardinality is empty or has a number above 127.
+    /// A cardinality is empty or has a number above the greatest.
     CardRange,
     /// The dimension `lex` is not used, or has no feature `word` of type `string`.
     NoLex,
     /// A text passes its limit of bytes.
     TooLong,
-    /// More than 64 brackets stand open.
+    /// More brackets stand open than may.
     TooDeep,
     /// The class uses pass their limit.
     TooManyUses,
@@ -47,21 +47,21 @@ pub enum Cause {
     TooManyEntries,
     /// Labels, tuples, dimensions or attributes pass their limit.
     TooWide,
-    /// A domain has more than 64 constants.
+    /// A domain has more constants than a domain may have.
     DomainTooBig,
     /// The sentence has no word.
     EmptySentence,
-    /// The sentence has more than 128 words.
+    /// The sentence has more words than a sentence may have.
     TooManyWords,
     /// A word has no entry.
     UnknownWord,
     /// The bytes are no analysis text of the grammar.
     NotAnalysis,
-    /// A rules text has more than 32 rules.
+    /// A rules text has more rules than it may have.
     TooManyRules,
-    /// More than three quantifiers of a rule stand open.
+    /// More quantifiers of a rule stand open than may.
     TooNested,
-    /// There are more than eight words to arrange.
+    /// There are more words to arrange than are arranged.
     ArrangeLimit,
     /// An entry number is 0 or above the number of entries.
     NoEntry,

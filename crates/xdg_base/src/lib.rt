@@ -16,4 +16,4 @@ pub use faults::{Cause, Fault, OutOfMemory, Stop, number};
 pub use ids::{AttrId, DimId, EntryNo, LabelId, NodeId};
 pub use lists::{Bytes, List, Text};
 pub use places::{LineColumn, Span, place};
-pub use spelling::{begins_name, continues_name, is_escaped, is_name};
+pub use spelling::{begins_name, continues_name, is_escaped, is_name, keyword_at, keyword_place};

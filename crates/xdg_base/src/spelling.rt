@@ -1,28 +1,80 @@
 //! What stands as a name in a text, and what is escaped in any other.
 
-ghost use Rattle.std.specs.Prelude.{◌≡◌};
+ghost use Rattle.std.specs.Prelude.{◌≡◌, true, nat_lt, ◌<◌, [], get_or, length};
 ghost use Rattle.std.specs.List.{list_all};
-ghost use Rattle.xdg_base.specs.Spelling.{is_keyword, begins_name, continues_name, is_name, is_escaped};
+ghost use Rattle.xdg_base.specs.Spelling.{keywords, places_of, IsKeywordPlace, is_keyword, begins_name, continues_name, is_name, is_escaped};
 
-/// Whether a text is a keyword of grammars. It is compared with those of its length alone.
-#[tactic(auto, unfolding(crate::specs::Spelling::is_keyword))]
+/// The keywords of grammars, in the order of their table.
+const KEYWORDS: [&str; 23] = [
+    "defdim",
+    "deftype",
+    "deflabeltype",
+    "defattrstype",
+    "defentrytype",
+    "useprinciple",
+    "dims",
+    "args",
+    "output",
+    "useoutput",
+    "defclass",
+    "defentry",
+    "dim",
+    "usedim",
+    "tuple",
+    "set",
+    "iset",
+    "valency",
+    "map",
+    "card",
+    "bool",
+    "int",
+    "string",
+];
+
+/// The keyword that stands at a place of their table.
+pub fn keyword_at(place: usize) -> &'static str
+    requires { place < length keywords }
+    ensures { result.now ≡ get_or keywords place [] }
+{
+    KEYWORDS[place]
+}
+
+/// At which places of their table the keywords of so many bytes stand.
+#[tactic(auto, unfolding(crate::specs::Spelling::places_of))]
+fn places_of(bytes: usize) -> &'static [usize]
+    ensures places { result.now ≡ places_of bytes }
+    ensures within { list_all (λ place. nat_lt place (length keywords)) result.now ≡ true }
+{
+    match bytes {
+        3 => &[12, 15, 18, 21],
+        4 => &[6, 7, 16, 19, 20],
+        5 => &[14],
+        6 => &[0, 8, 13, 22],
+        7 => &[1, 17],
+        8 => &[10, 11],
+        9 => &[9],
+        12 => &[2, 3, 4, 5],
+        _ => &[],
+    }
+}
+
+/// At which place of their table the keyword stands that a text is. It is compared with those of its length alone.
+pub fn keyword_place(text: &str) -> Option<usize>
+    ensures { IsKeywordPlace text.now result }
+{
+    for place in places_of(text.len()) {
+        if text == keyword_at(*place) {
+            return Some(*place);
+        }
+    }
+    None
+}
+
+/// Whether a text is a keyword of grammars.
 fn is_keyword(text: &str) -> bool
     ensures { result ≡ is_keyword text.now }
 {
-    match text.len() {
-        3 => matches!(text, "dim" | "set" | "map" | "int"),
-        4 => matches!(text, "dims" | "args" | "iset" | "card" | "bool"),
-        5 => text == "tuple",
-        6 => matches!(text, "defdim" | "output" | "usedim" | "string"),
-        7 => matches!(text, "deftype" | "valency"),
-        8 => matches!(text, "defclass" | "defentry"),
-        9 => text == "useoutput",
-        12 => matches!(
-            text,
-            "deflabeltype" | "defattrstype" | "defentrytype" | "useprinciple"
-        ),
-        _ => false,
-    }
+    keyword_place(text).is_some()
 }
 
 /// Whether a name or a keyword begins with this character, for what reads a text: an ASCII letter or `_`.

@@ -4,7 +4,7 @@ use Rattle.std.specs.Prelude.{slice_get, slice_index_or}
 use Rattle.std.proofs.lemmas.List.{get_or-map, length-map}
 use Rattle.std.proofs.lemmas.List.Elements.{All-map, All-weaker}
 use Rattle.std.proofs.lemmas.List.FromFn.{length-map-range_with_len}
-use Rattle.std.proofs.lemmas.Option.{get_or_from_slice_get}
+use Rattle.std.proofs.lemmas.Option.{get_or_from_slice_get, slice_get_within}
 use Rattle.xdg_base.specs.declared.ids.EntryNo.{EntryNo}
 use Rattle.xdg_domain.specs.Shapes.{Shape, count}
 use Rattle.xdg_packed.specs.Entries.{IsUsed, IsRightLexicon, IsWordPlace}
@@ -26,7 +26,6 @@ use Rattle.xdg_build.specs.Refusals.{refusal}
 use Rattle.xdg_build.proofs.Admitted.{IsKnown, IsAdmitted, is_admitted}
 use Rattle.xdg_build.proofs.Numbered.{each_below, are_candidates}
 use Rattle.xdg_build.proofs.Planned as planned
-use Rattle.xdg_facts.proofs.Lists.{get_within}
 
 module _ (g : Grammar) (words : List SentenceWord) (groups : List Group) where
   abbrev made : Parts
@@ -38,7 +37,7 @@ module _ (g : Grammar) (words : List SentenceWord) (groups : List Group) where
   -- the dimension with that place among the used ones
   plan_is : (d : ℕ) (dim : DimType) (used : IsUsed g.table d dim) → slice_index_or (plans g) d no_plan ≡ dim_plan g used.0 dim
   plan_is d dim used =
-      get_or-map at g.table.used d 0 no_plan (get_within g.table.used d used.0 used.1.0)
+      get_or-map at g.table.used d 0 no_plan (slice_get_within g.table.used d used.0 used.1.0)
       ∙ ap at (get_or_from_slice_get g.table.used d used.0 0 used.1.0)
       ∙ ap (dim_plan g used.0) (get_or_from_slice_get g.table.dims used.0 dim no_dim used.1.1)
 
@@ -46,7 +45,7 @@ module _ (g : Grammar) (words : List SentenceWord) (groups : List Group) where
   values_are d dim used a name type stands =
       let one : List ℕ × Shape → AttrPlan = λ attr. attr_plan attr.0 attr.1 in
       ap (λ (plan : DimPlan). length (slice_index_or plan.attrs a no_attr).values) (plan_is d dim used)
-      ∙ ap (λ (attr : AttrPlan). length attr.values) (get_or-map one (typed dim.attrs) a (name, type) no_attr (get_within (typed dim.attrs) a (name, type) stands))
+      ∙ ap (λ (attr : AttrPlan). length attr.values) (get_or-map one (typed dim.attrs) a (name, type) no_attr (slice_get_within (typed dim.attrs) a (name, type) stands))
       ∙ ap (λ (attr : List ℕ × Shape). length (one attr).values) (get_or_from_slice_get (typed dim.attrs) a (name, type) (name, type) stands)
       ∙ length-map-range_with_len (shown_as type) 0 (count type)
 

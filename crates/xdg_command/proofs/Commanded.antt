@@ -11,7 +11,8 @@ use Rattle.xdg_command.specs.Readings.{AreWords}
 use Rattle.xdg_command.specs.Syntax.{Table, app_in, is_right}
 use Rattle.xdg_command.proofs.Lookups.{right}
 use Rattle.xdg_command.proofs.Spelled.{read_items}
-use Rattle.xdg_facts.proofs.Lists.{get_within, some_at}
+use Rattle.std.proofs.lemmas.Option.{slice_get_within}
+use Rattle.xdg_facts.proofs.Lists.{some_at}
 
 -- what the items of a command say: of as many operands as its table has, and of one thing alone
 pub record Meaning {A : Type 0} (t : Table) (S : List Item → A → Type 0) : Type 0 where
@@ -55,7 +56,7 @@ module _ {A : Type 0} {t : Table} {S : List Item → A → Type 0} (means : Mean
     -- an operand is lacking
     pub lacking : (k : ℕ) (name : List ℕ) → slice_get t.operands k ≡ Some name → first_value (found_of found) name ≡ None → (a : A) → AreSaid t S words a → ⊥
     lacking k name here none = unsaid (λ a says.
-        let some = some_at (operands_of m.0) k (omega (arith, get_within t.operands k name here, means.operands m.0 a says)) in
+        let some = some_at (operands_of m.0) k (omega (arith, slice_get_within t.operands k name here, means.operands m.0 a says)) in
         let bad : None ≡ Some some.0 = sym none ∙ m.2.operands k name here ∙ some.1 in
         cc)
 

@@ -11,7 +11,7 @@ use Rattle.xdg_facts.specs.Onward.{onward}
 use Rattle.xdg_command.proofs.Rules.{added, flag_rule, operand_rule, row, value_rule}
 use Rattle.xdg_facts.proofs.Texts.{same_text}
 use Rattle.xdg_facts.proofs.Truths.{or_assoc, or_false}
-use Rattle.xdg_facts.proofs.Lists.{get_within}
+use Rattle.std.proofs.lemmas.Option.{slice_get_within}
 
 -- ---- rows
 
@@ -122,7 +122,7 @@ module _ (t : Table) where
     where
       by_place : (o : Option (List ℕ)) → slice_get t.operands k ≡ o → (more : List Row) → put_operand o (suc k) word rows ≡ Some more → suc k ≤ length t.operands
       by_place None is more e = absurd cc
-      by_place (Some name) is more e = omega (arith, get_within t.operands k name is)
+      by_place (Some name) is more e = omega (arith, slice_get_within t.operands k name is)
   put_few k rows (valued other value ∷ items) end e few =
       let next = onward_is (added (value_rule other) (value ∷ []) rows) (λ more. put t k more items) end e in put_few k next.0 items end next.2 few
   put_few k rows (flagged other ∷ items) end e few =

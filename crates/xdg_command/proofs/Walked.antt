@@ -19,7 +19,7 @@ use Rattle.xdg_command.proofs.Rules.{Finds, added, flag_rule, form, nothing, ope
 use Rattle.xdg_command.proofs.Spelled.{Seen, hyphens, lettered, longer, plain, seen, undashed}
 use Rattle.xdg_command.proofs.Turns.{awaited_end, awaited_letter, awaited_long, awaited_value, awaiting, between, end_turn, flag_refused, flag_turn, held, later_refused, later_turn, letter_refused, name_refused, name_turn, trailing_at, value_turn, word_refused, word_turn}
 use Rattle.xdg_command.proofs.Uses.{empty_refused, flag_used, operand_used, using_as, value_used}
-use Rattle.xdg_facts.proofs.Lists.{get_within}
+use Rattle.std.proofs.lemmas.Option.{slice_get_within}
 use Rattle.xdg_facts.proofs.Texts.{same_text}
 
 -- ---- options of values
@@ -127,7 +127,7 @@ module _ (s : Shape) (t : Table) (finds : Finds t s.rules) (again : s.args_overr
   settle_one rows a values mine = rw mine refl
 
   few_left : (k : ℕ) (name : List ℕ) → slice_get t.operands k ≡ Some name → k ≤ 2
-  few_left k name e = omega (arith, get_within t.operands k name e, finds.few)
+  few_left k name e = omega (arith, slice_get_within t.operands k name e, finds.few)
 
   place_is : (k : ℕ) (o : Option (List ℕ)) → slice_get t.operands k ≡ o → arg_by_index s.rules (suc k) ≡ option_map (operand_rule (suc k)) o
   place_is k o e = finds.index k ∙ ap (option_map (operand_rule (suc k))) e

@@ -35,11 +35,6 @@ pub kept : {X : Type 0} (b : Bool) (y : X) (ys : List X) (x : X) → Contains ys
 kept true y ys x h = (let within : h.0 < length ys = h.1 in (suc h.0, omega arith, h.2))
 kept false y ys x h = h
 
-pub get_within : {A : Type 0} (xs : List A) (k : ℕ) (x : A) → slice_get xs k ≡ Some x → k < length xs
-get_within [] k x e = absurd cc
-get_within (y ∷ xs) zero x e = omega arith
-get_within (y ∷ xs) (suc k) x e = omega (arith, get_within xs k x e)
-
 pub from_place : {X : Type 0} (xs : List X) (k : ℕ) (x : X) → k < length xs → x ≡ get_or xs k x → drop k xs ≡ x ∷ drop (k + 1) xs
 from_place xs k x within is = rw (add-one, drop-cons xs k x) (ap (λ y. y ∷ drop (suc k) xs) (sym is))
 

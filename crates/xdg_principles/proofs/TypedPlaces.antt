@@ -2,7 +2,7 @@
 use Rattle.std.proofs.Common.{◌≡◌, inl, inr, ℕ, zero, suc, ◌<◌, List, [], ◌∷◌, length, get_or, Option, None, Some, refl, sym, ap, ◌∙◌, arith}
 use Rattle.std.specs.Prelude.{slice_get}
 use Rattle.std.proofs.lemmas.List.{length-map, get_or-map}
-use Rattle.std.proofs.lemmas.Option.{get_or_from_slice_get}
+use Rattle.std.proofs.lemmas.Option.{get_or_from_slice_get, slice_get_within}
 use Rattle.xdg_ast.specs.declared.names.Name.{Name}
 use Rattle.xdg_names.specs.Texts.{place_of}
 use Rattle.xdg_names.proofs.Texts.{place_of-Some, place_of-at}
@@ -13,7 +13,6 @@ use Rattle.xdg_types.proofs.Elements.{all_differ}
 use Rattle.xdg_problem.specs.declared.forms.Which.{Which}
 use Rattle.xdg_principles.specs.Settings.{Setting, dim_texts, dim_place, place_named}
 use Rattle.xdg_principles.specs.Made.{AreLabels, ArePlaces}
-use Rattle.xdg_facts.proofs.Lists.{get_within}
 use Rattle.xdg_facts.proofs.Options.{none_some, some_same}
 use Rattle.xdg_facts.specs.Membership.{In, Differ}
 use Rattle.xdg_ast.specs.Texts.{texts}
@@ -69,7 +68,7 @@ place_below dims t k h =
 
 name_at : (dims : List DimType) (k : ℕ) (dim : DimType) → slice_get dims k ≡ Some dim → get_or (dim_texts dims) k [] ≡ dim.name
 name_at dims k dim there =
-    get_or-map (λ (x : DimType). x.name) dims k dim [] (get_within dims k dim there) ∙ ap (λ (x : DimType). x.name) (get_or_from_slice_get dims k dim dim there)
+    get_or-map (λ (x : DimType). x.name) dims k dim [] (slice_get_within dims k dim there) ∙ ap (λ (x : DimType). x.name) (get_or_from_slice_get dims k dim dim there)
 
 -- a dimension whose place is used is named as used
 pub used_text : (dims : List DimType) (names : List Name) (ks : List ℕ) → AreUsed dims names ks → (k : ℕ) (t : List ℕ) → In ks k → place_of (dim_texts dims) t ≡ Some k → In (texts names) t
@@ -90,4 +89,4 @@ used_place dims (name ∷ names) (j ∷ ks) apart h k t i is = elim i [
 ]
   where
     inside : j < length (dim_texts dims)
-    inside = let len : length (dim_texts dims) ≡ length dims = length-map dims (λ dim. dim.name) in omega (arith, len, get_within dims j h.0.0 h.0.1.0)
+    inside = let len : length (dim_texts dims) ≡ length dims = length-map dims (λ dim. dim.name) in omega (arith, len, slice_get_within dims j h.0.0 h.0.1.0)

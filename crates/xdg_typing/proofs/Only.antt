@@ -2,7 +2,7 @@
 use Rattle.std.proofs.Common.{◌≡◌, inl, inr, ℕ, zero, suc, ◌<◌, List, [], ◌∷◌, length, get_or, Option, Some, Ok, Err, refl, sym, ap, ap₂, ◌∙◌, subst, arith}
 use Rattle.std.proofs.Math.Path.{fun_ext}
 use Rattle.std.proofs.lemmas.List.{length-map}
-use Rattle.std.proofs.lemmas.Option.{get_or_from_slice_get}
+use Rattle.std.proofs.lemmas.Option.{get_or_from_slice_get, slice_get_within}
 use Rattle.std.specs.Prelude.{Result, slice_get}
 use Rattle.xdg_ast.specs.declared.names.Name.{Name}
 use Rattle.xdg_base.specs.declared.faults.Fault.{Fault}
@@ -26,7 +26,6 @@ use Rattle.xdg_types.proofs.NamesAgain.{no_repeat}
 use Rattle.xdg_typing.proofs.OneShape.{one_typed}
 use Rattle.xdg_types.proofs.Elements.{all_differ}
 use Rattle.xdg_types.proofs.Made.{names_made}
-use Rattle.xdg_facts.proofs.Lists.{get_within}
 use Rattle.xdg_facts.specs.Membership.{Differ}
 use Rattle.xdg_ast.specs.Texts.{texts}
 
@@ -56,7 +55,7 @@ name_at (d ∷ dims) (suc k) dim within is = name_at dims k dim (omega (arith, w
 -- the dimension of that name stands at this place alone
 placed : (dims : List DimType) → AllDiffer (names_in dims) → (text : List ℕ) (k : ℕ) (dim : DimType) → slice_get dims k ≡ Some dim → dim.name ≡ text → place_of (names_in dims) text ≡ Some k
 placed dims apart text k dim there named =
-    let within = get_within dims k dim there in
+    let within = slice_get_within dims k dim there in
     let is = get_or_from_slice_get dims k dim dim there in
     let len : length (names_in dims) ≡ length dims = length-map dims (λ d. d.name) in
     ap (place_of (names_in dims)) (sym (name_at dims k dim within is ∙ named)) ∙ place_of-at (names_in dims) k apart (omega (arith, within, len))

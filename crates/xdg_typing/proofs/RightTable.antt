@@ -2,7 +2,7 @@
 use Rattle.std.proofs.Common.{◌≡◌, ◌⊎◌, inl, inr, ℕ, zero, suc, ◌+◌, ◌<◌, ◌≤◌, true, List, [], ◌∷◌, ◌++◌, length, get_or, map, ap, ap₂, sym, ◌∙◌, refl, subst, arith}
 use Rattle.std.proofs.lemmas.Bool.{cases_Bool, false≢true}
 use Rattle.std.proofs.lemmas.List.{length-map, length-append}
-use Rattle.std.proofs.lemmas.Option.{get_or_from_slice_get}
+use Rattle.std.proofs.lemmas.Option.{get_or_from_slice_get, slice_get_within}
 use Rattle.std.specs.Prelude.{Some, slice_get}
 use Rattle.xdg_base.specs.Faults.{fault_at}
 use Rattle.xdg_base.specs.declared.faults.Cause.TheVariants as causes
@@ -28,7 +28,6 @@ use Rattle.xdg_typing.proofs.RightTypes.{IsFine, AreFine, as_type, domain_of, at
 use Rattle.xdg_typing.proofs.RightText.{Stands, type_stands, site_fine, differ_once, lists_once, uses_right}
 use Rattle.xdg_facts.specs.Membership.{In, Differ}
 use Rattle.xdg_facts.proofs.In.{in_left, in_right, in_flat_map}
-use Rattle.xdg_facts.proofs.Lists.{get_within}
 use Rattle.xdg_ast.specs.Texts.{texts}
 
 -- ---- fields
@@ -269,7 +268,7 @@ are_places : (dims : List DimType) (names : List Name) (ks : List ℕ) → AreUs
 are_places dims [] [] are differ = tt
 are_places dims (name ∷ names) (k ∷ ks) are differ = (
   (
-    get_within dims k are.0.0 are.0.1.0,
+    slice_get_within dims k are.0.0 are.0.1.0,
     λ h. differ.0 (subst (In (texts names)) are.0.1.1 (named_there dims names ks k are.0.0 are.1 h (get_or_from_slice_get dims k are.0.0 are.0.0 are.0.1.0))),
   ),
   are_places dims names ks are.1 differ.1,
