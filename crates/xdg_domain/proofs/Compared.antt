@@ -1,52 +1,35 @@
 -- Values and lists that are the same, and such as differ.
-use Rattle.std.proofs.Common.{◌≡◌, ℕ, zero, suc, ◌<◌, true, false, List, [], ◌∷◌, length, refl, ap, sym, ◌∙◌, arith}
+use Rattle.std.proofs.Common.{◌≡◌, ℕ, ◌<◌, true, false, List, length, ap, sym, ◌∙◌}
 use Rattle.std.proofs.lemmas.Bool.{true≢false}
+use Rattle.std.proofs.lemmas.List.{get_or_default}
 use Rattle.std.specs.Prelude.{◌↔◌, Bool, slice_index_or}
 use Rattle.xdg_domain.specs.declared.values.Value.{Value, out-Value}
 use Rattle.xdg_domain.specs.declared.values.Value.TheVariants as v
 use Rattle.xdg_domain.specs.declared.values.Value.TheOpen.{Value-F}
 
 -- values that are made alike are the same where what they are made of is
-made : {A : Type 0} (f : A → Value) → ((x y : A) → f x ≡ f y → x ≡ y) → (same : Bool) (one other : Value) (x y s t : A) → one ≡ f x → other ≡ f y → s ≡ x → t ≡ y
+pub made : {A : Type 0} (f : A → Value) → ((x y : A) → f x ≡ f y → x ≡ y) → (same : Bool) (one other : Value) (x y s t : A) → one ≡ f x → other ≡ f y → s ≡ x → t ≡ y
     → ((same ≡ true) ↔ (s ≡ t)) → (same ≡ true) ↔ (one ≡ other)
 made f apart same one other x y s t is_one is_other is_s is_t told = (
   λ h. is_one ∙ ap f (sym is_s ∙ told.0 h ∙ is_t) ∙ sym is_other,
   λ h. told.1 (is_s ∙ apart x y (sym is_one ∙ h ∙ is_other) ∙ sym is_t),
 )
 
-map_apart : (xs ys : List (ℕ × Value)) → v.Map xs ≡ v.Map ys → xs ≡ ys
+pub map_apart : (xs ys : List (ℕ × Value)) → v.Map xs ≡ v.Map ys → xs ≡ ys
 map_apart xs ys h = let e : Value-F.Map xs ≡ Value-F.Map ys = sym (v.outs-Map xs) ∙ ap out-Value h ∙ v.outs-Map ys in cc
 
-record_apart : (xs ys : List (ℕ × Value)) → v.Rec xs ≡ v.Rec ys → xs ≡ ys
+pub record_apart : (xs ys : List (ℕ × Value)) → v.Rec xs ≡ v.Rec ys → xs ≡ ys
 record_apart xs ys h = let e : Value-F.Rec xs ≡ Value-F.Rec ys = sym (v.outs-Rec xs) ∙ ap out-Value h ∙ v.outs-Rec ys in cc
 
-valency_apart : (xs ys : List (ℕ × List ℕ)) → v.Valency xs ≡ v.Valency ys → xs ≡ ys
+pub valency_apart : (xs ys : List (ℕ × List ℕ)) → v.Valency xs ≡ v.Valency ys → xs ≡ ys
 valency_apart xs ys h = let e : Value-F.Valency xs ≡ Value-F.Valency ys = sym (v.outs-Valency xs) ∙ ap out-Value h ∙ v.outs-Valency ys in cc
-
-pub same_map : (same : Bool) (one other : Value) (xs ys s t : List (ℕ × Value)) → one ≡ v.Map xs → other ≡ v.Map ys → s ≡ xs → t ≡ ys
-    → ((same ≡ true) ↔ (s ≡ t)) → (same ≡ true) ↔ (one ≡ other)
-same_map = made v.Map map_apart
-
-pub same_record : (same : Bool) (one other : Value) (xs ys s t : List (ℕ × Value)) → one ≡ v.Rec xs → other ≡ v.Rec ys → s ≡ xs → t ≡ ys
-    → ((same ≡ true) ↔ (s ≡ t)) → (same ≡ true) ↔ (one ≡ other)
-same_record = made v.Rec record_apart
-
-pub same_valency : (same : Bool) (one other : Value) (xs ys s t : List (ℕ × List ℕ)) → one ≡ v.Valency xs → other ≡ v.Valency ys → s ≡ xs → t ≡ ys
-    → ((same ≡ true) ↔ (s ≡ t)) → (same ≡ true) ↔ (one ≡ other)
-same_valency = made v.Valency valency_apart
-
--- what stands at a place within, whatever else would stand past the end
-same_at : {A : Type 0} (xs : List A) (at : ℕ) (d e : A) → at < length xs → slice_index_or xs at d ≡ slice_index_or xs at e
-same_at [] at d e less = absurd (omega (arith, less))
-same_at (x ∷ xs) zero d e less = refl
-same_at (x ∷ xs) (suc at) d e less = same_at xs at d e (omega (arith, less))
 
 -- lists with elements that differ in a part at a place
 differ : {A B : Type 0} (part : A → B) (xs ys : List A) (at : ℕ) (d e : A) → at < length xs → (part (slice_index_or xs at d) ≡ part (slice_index_or ys at e) → ⊥)
     → (false ≡ true) ↔ (xs ≡ ys)
 differ part xs ys at d e less other = (
   λ h. absurd (true≢false (sym h)),
-  λ h. absurd (other (ap part (same_at xs at d e less ∙ ap (λ l. slice_index_or l at e) h))),
+  λ h. absurd (other (ap part (get_or_default xs at d e less ∙ ap (λ l. slice_index_or l at e) h))),
 )
 
 pub differ_key : {A : Type 0} (xs ys : List (ℕ × A)) (at : ℕ) (d e : ℕ × A) → at < length xs → ((slice_index_or xs at d).0 ≡ (slice_index_or ys at e).0 → ⊥)

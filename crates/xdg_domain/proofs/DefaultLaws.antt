@@ -24,11 +24,7 @@ differ o x e f = cc
 
 pub mapped_plain : (s : Shape) → IsMapped s → HasPlain s → ⊥
 mapped_plain (set s) h p = p
-mapped_plain (iset s) h p = p
-mapped_plain card h p = p
-mapped_plain (valency k) h p = p
-mapped_plain (mapping k u) h p = p
-mapped_plain s h p = h
+mapped_plain s h p = assumption (h, p)
 
 -- there is none, and a plain part, or there is one, and none
 abbrev pub Decided : Shape → Type 0

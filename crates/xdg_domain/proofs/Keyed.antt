@@ -74,9 +74,8 @@ both_none P (Some x) = refl
 pub both_unique : {V : Type 0} (P : V → V → V → Type 0) → ((x y z w : V) → P x y z → P x y w → z ≡ w) → (o p c d : Option V) → Both P o p c → Both P o p d → c ≡ d
 both_unique P unique None p c d h k = h ∙ sym k
 both_unique P unique (Some x) None c d h k = h ∙ sym k
-both_unique P unique (Some x) (Some y) None d h k = absurd h
-both_unique P unique (Some x) (Some y) (Some z) None h k = absurd k
 both_unique P unique (Some x) (Some y) (Some z) (Some w) h k = ap (λ t. Some t) (unique x y z w h k)
+both_unique P unique o p c d h k = absurd (assumption (h, k))
 
 pub both_exclusive : {V : Type 0} (P : V → V → V → Type 0) (Q : V → V → Type 0) → ((x y z : V) → P x y z → Q x y → ⊥) → (o p c : Option V) → Both P o p c → OnBoth Q o p → ⊥
 both_exclusive P Q exclusive None p c h k = k
@@ -112,10 +111,8 @@ both_regroups P unique regroups (Some x) (Some y) (Some z) (Some u) (Some v) (So
 -- what clashes with one of two clashes with both together
 pub clash_stays : {V : Type 0} (P : V → V → V → Type 0) (Q : V → V → Type 0) → ((x y z u : V) → P x y u → Q y z → Q u z) → (o p q u : Option V) → Both P o p u → OnBoth Q p q → OnBoth Q u q
 clash_stays P Q stays None p q u h k = subst (λ t. OnBoth Q t q) (sym h) k
-clash_stays P Q stays (Some x) None q u h k = absurd k
-clash_stays P Q stays (Some x) (Some y) None u h k = absurd k
-clash_stays P Q stays (Some x) (Some y) (Some z) None h k = absurd h
 clash_stays P Q stays (Some x) (Some y) (Some z) (Some u) h k = stays x y z u h k
+clash_stays P Q stays o p q u h k = absurd (assumption (h, k))
 
 -- what is right for both parts is right for them together
 pub both_right : {V : Type 0} (P : V → V → V → Type 0) (G : V → Type 0) → ((x y z : V) → P x y z → G x → G y → G z) → (o p : Option V) (z : V) → ((x : V) → o ≡ Some x → G x) → ((x : V) → p ≡ Some x → G x) → Both P o p (Some z) → G z

@@ -32,10 +32,9 @@ rises_of_increasing [] rising = tt
 rises_of_increasing (x ∷ s) rising = from_increasing 0 x s (omega arith) rising
 
 pub increasing_of_rises : (low : ℕ) (s : List ℕ) → RisesFrom low s → IsStrictlyIncreasing s
-increasing_of_rises low [] r k h = absurd (omega (arith, h))
-increasing_of_rises low (x ∷ []) r k h = absurd (omega (arith, h))
 increasing_of_rises low (x ∷ y ∷ s) (a, (b, c)) zero h = omega (arith, b)
 increasing_of_rises low (x ∷ y ∷ s) (a, rest) (suc k) h = subst (λ z. get_or (y ∷ s) k 0 < z) (sym (step_in x (y ∷ s) k)) (increasing_of_rises (x + 1) (y ∷ s) rest k (omega (arith, h)))
+increasing_of_rises low s r k h = absurd (omega (arith, h))
 
 pub absent : (low n : ℕ) (s : List ℕ) → n < low → RisesFrom low s → has s n ≡ false
 absent low n [] below r = refl

@@ -1,9 +1,10 @@
 -- Sets and cardinalities of which the same is said are the same, and what two of them say together.
-use Rattle.std.proofs.Common.{◌≡◌, ◌↔◌, ◌⊎◌, ℕ, ◌<◌, ◌≤◌, ◌+◌, List, [], ◌∷◌, refl, ap, ap₂, sym, ◌∙◌, arith, inl, inr, subst}
+use Rattle.std.proofs.Common.{◌≡◌, ◌↔◌, ℕ, ◌<◌, ◌≤◌, ◌+◌, List, [], ◌∷◌, refl, ap, ap₂, sym, ◌∙◌, arith, inl, inr, subst}
 use lib.Pointwise.{pointwise}
 use Rattle.std.specs.Prelude.{eqb, Bool, true, false, ◌&&◌, ◌||◌, ◌==◌, Option, None, Some, MatchOption, Result, Ok, Err, IfOk, filter}
 use Rattle.std.specs.List.Sorted.{IsStrictlyIncreasing}
-use Rattle.std.proofs.lemmas.Bool.{cases_eq, cases_lt, eq-eqb, eqb-true, ne_eqb, true≢false, cond_both}
+use Rattle.std.proofs.lemmas.Bool.{and_parts, cases_eq, cases_lt, eq-eqb, eqb-true, ne_eqb, or_cases, true≢false, cond_both}
+use Rattle.std.proofs.Math.Bool.{and_assoc}
 use Rattle.xdg_domain.specs.Cards.{cards, IsCards, common}
 use Rattle.xdg_domain.specs.Valencies.{said_at, KeysRise, both_say, Clash}
 use Rattle.xdg_domain.specs.Values.{AllBelow, EachSaid}
@@ -14,7 +15,7 @@ use Rattle.xdg_domain.proofs.Keyed.{says_exclusive, says_unique}
 use Rattle.xdg_domain.proofs.Merged.{merged_tells}
 use Rattle.xdg_facts.proofs.Truths.{and_false, or_true, and_swap, and_first, or_assoc}
 use Rattle.xdg_facts.specs.Rises.{has, numbers_below, Rises}
-use Rattle.xdg_facts.proofs.Rising.{numbers_agree, has_beyond, has_of, rises_of}
+use Rattle.xdg_facts.proofs.Rising.{numbers_agree, has_beyond, has_of, rises_of, rises_sooner}
 
 -- ---- rising lists
 
@@ -66,10 +67,6 @@ pub below_has : (bound : ℕ) (s : List ℕ) → ((n : ℕ) → has s n ≡ true
 below_has bound [] below = tt
 below_has bound (x ∷ s) below = (below x (has_head x s x refl), below_has bound s (λ n h. below n (ap (λ t. (x == n) || t) h ∙ or_true (x == n))))
 
-or_cases : (a b : Bool) → (a || b) ≡ true → (a ≡ true) ⊎ (b ≡ true)
-or_cases true b h = inl refl
-or_cases false b h = inr h
-
 pub union_below : (bound : ℕ) (a b c : List ℕ) → AllBelow bound a → AllBelow bound b → IsUnion a b c → AllBelow bound c
 union_below bound a b c h k u = below_has bound c (λ n t. elim (or_cases (has a n) (has b n) (sym (u.1 n) ∙ t)) [ inl i ↦ has_below bound a n h i | inr i ↦ has_below bound b n k i ])
 
@@ -103,10 +100,6 @@ union_unique a b c d h k = increasing_same c d h.0 k.0 (λ n. h.1 n ∙ sym (k.1
 pub meet_unique : (a b c d : List ℕ) → IsMeet a b c → IsMeet a b d → c ≡ d
 meet_unique a b c d h k = increasing_same c d h.0 k.0 (λ n. h.1 n ∙ sym (k.1 n))
 
-and_regroups : (a b c : Bool) → ((a && b) && c) ≡ (a && (b && c))
-and_regroups true b c = refl
-and_regroups false b c = refl
-
 pub union_commutes : (a b c : List ℕ) → IsUnion a b c → IsUnion b a c
 union_commutes a b c h = (h.0, λ n. h.1 n ∙ swapped true (has a n) (has b n))
 
@@ -117,7 +110,7 @@ pub union_regroups : (a b c u v w : List ℕ) → IsUnion a b u → IsUnion u c 
 union_regroups a b c u v w h k l = (k.0, λ n. k.1 n ∙ ap (λ t. t || has c n) (h.1 n) ∙ or_assoc (has a n) (has b n) (has c n) ∙ ap (λ t. has a n || t) (sym (l.1 n)))
 
 meets : (a b c u v w : List ℕ) → ((n : ℕ) → has u n ≡ (has a n && has b n)) → ((n : ℕ) → has w n ≡ (has u n && has c n)) → ((n : ℕ) → has v n ≡ (has b n && has c n)) → (n : ℕ) → has w n ≡ (has a n && has v n)
-meets a b c u v w h k l n = k n ∙ ap (λ t. t && has c n) (h n) ∙ and_regroups (has a n) (has b n) (has c n) ∙ ap (λ t. has a n && t) (sym (l n))
+meets a b c u v w h k l n = k n ∙ ap (λ t. t && has c n) (h n) ∙ and_assoc (has a n) (has b n) (has c n) ∙ ap (λ t. has a n && t) (sym (l n))
 
 pub meet_regroups : (a b c u v w : List ℕ) → IsMeet a b u → IsMeet u c w → IsMeet b c v → IsMeet a v w
 meet_regroups a b c u v w h k l = (k.0, meets a b c u v w h.1 k.1 l.1)
@@ -137,7 +130,7 @@ pub allows_regroups : (a b c u v w : List ℕ) → AllowsBoth a b u → AllowsBo
 allows_regroups a b c u v w h k l = (k.0, meets a b c u v w h.1 k.1 l.1)
 
 pub apart_stays : (a b c u : List ℕ) → AllowsBoth a b u → IsApart b c → IsApart u c
-apart_stays a b c u h k n = ap (λ t. t && has c n) (h.1 n) ∙ and_regroups (has a n) (has b n) (has c n) ∙ ap (λ t. has a n && t) (k n) ∙ and_false (has a n)
+apart_stays a b c u h k n = ap (λ t. t && has c n) (h.1 n) ∙ and_assoc (has a n) (has b n) (has c n) ∙ ap (λ t. has a n && t) (k n) ∙ and_false (has a n)
 
 member : (s : List ℕ) → (s ≡ [] → ⊥) → (n : ℕ) × (has s n ≡ true)
 member [] some = absurd (some refl)
@@ -165,11 +158,7 @@ filter_rises : (p : ℕ → Bool) (low bound : ℕ) (s : List ℕ) → Rises low
 filter_rises p low bound [] r = tt
 filter_rises p low bound (x ∷ s) r =
     let rest = filter_rises p (x + 1) bound s r.2 in
-    cond_both (p x) (x ∷ filter p s) (filter p s) (λ l. Rises low bound l) (λ t. (r.0, r.1, rest)) (λ t. sooner low (x + 1) bound (filter p s) (omega (arith, r.0)) rest)
-  where
-    sooner : (low later bound : ℕ) (s : List ℕ) → low ≤ later → Rises later bound s → Rises low bound s
-    sooner low later bound [] order h = tt
-    sooner low later bound (y ∷ s) order h = (omega (arith, order, h.0), h.1, h.2)
+    cond_both (p x) (x ∷ filter p s) (filter p s) (λ l. Rises low bound l) (λ t. (r.0, r.1, rest)) (λ t. rises_sooner low (x + 1) bound (filter p s) (omega (arith, r.0)) rest)
 
 rising_whole : (s : List ℕ) → Rises 0 128 s → s ≡ cards (has s)
 rising_whole s r = members_same 0 s (cards (has s)) (from_rises 0 128 s r) (from_rises 0 128 (cards (has s)) (rises_of 128 (has s))) (λ n. elim (cases_lt n 128) [
@@ -272,11 +261,7 @@ pub same_list_is : (a b : List ℕ) → same_list a b ≡ true → a ≡ b
 same_list_is [] [] h = refl
 same_list_is [] (y ∷ b) h = absurd (true≢false (sym h))
 same_list_is (x ∷ a) [] h = absurd (true≢false (sym h))
-same_list_is (x ∷ a) (y ∷ b) h = ap₂ (λ n s. n ∷ s) (eqb-true x y (and_first (x == y) (same_list a b) h)) (same_list_is a b (and_second (x == y) (same_list a b) h))
-  where
-    and_second : (s t : Bool) → (s && t) ≡ true → t ≡ true
-    and_second true t h = h
-    and_second false t h = absurd (true≢false (sym h))
+same_list_is (x ∷ a) (y ∷ b) h = ap₂ (λ n s. n ∷ s) (eqb-true x y (and_first (x == y) (same_list a b) h)) (same_list_is a b (and_parts (x == y) (same_list a b) h).1)
 
 pub is_same_list : (a : List ℕ) → same_list a a ≡ true
 is_same_list [] = refl

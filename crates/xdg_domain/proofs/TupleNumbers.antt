@@ -12,21 +12,19 @@ use Rattle.xdg_facts.proofs.Numbers.{some_after}
 pub index_below : (sizes numbers : List ℕ) → InRange sizes numbers → index sizes numbers < product sizes
 unfolding index product
 index_below [] [] within = omega arith
-index_below [] (n ∷ ns) within = absurd within
-index_below (s ∷ ss) [] within = absurd within
 index_below (s ∷ ss) (n ∷ ns) within = subst (λ m. n * product ss + index ss ns < m) (mul_comm (product ss) s) (mul-add-lt n (product ss) (index ss ns) s within.0 (index_below ss ns within.1))
+index_below sizes numbers within = absurd within
 
 -- the places of the tuple with the number of these are these
 pub places_of_index : (sizes numbers : List ℕ) → InRange sizes numbers → places sizes (index sizes numbers) ≡ numbers
 unfolding index places
 places_of_index [] [] within = refl
-places_of_index [] (n ∷ ns) within = absurd within
-places_of_index (s ∷ ss) [] within = absurd within
 places_of_index (s ∷ ss) (n ∷ ns) within =
     let below = index_below ss ns within.1 in
     ap₂ (λ (m : ℕ) (ms : List ℕ). m ∷ ms)
     (div-mul-add n (product ss) (index ss ns) below)
     (ap (places ss) (mod-mul-add n (product ss) (index ss ns) below) ∙ places_of_index ss ns within.1)
+places_of_index sizes numbers within = absurd within
 
 -- the number of the tuple with the places of this one is this one
 pub index_of_places : (sizes : List ℕ) (n : ℕ) → n < product sizes → index sizes (places sizes n) ≡ n

@@ -1,8 +1,5 @@
 use Rattle.xdg_domain.proofs.Masks.{greatest_bit}
 use Rattle.xdg_domain.proofs.cards.CardSet.greatest.Goals as goal
 
-pub returns-clause-member : goal.returns-clause-member
-returns-clause-member c = rw (← c.self.view_is) ((greatest_bit c.self.inside.bits c.self.invariant.0 c.self.invariant.1).0)
-
-pub returns-clause-greatest : goal.returns-clause-greatest
-returns-clause-greatest c = rw (← c.self.view_is) ((greatest_bit c.self.inside.bits c.self.invariant.0 c.self.invariant.1).1)
+pub returns : goal.returns
+returns c = let b = greatest_bit c.self.inside.bits c.self.invariant.0 c.self.invariant.1 in rw (← c.self.view_is) (record { member = b.0; greatest = b.1; below = b.2 })

@@ -5,8 +5,5 @@ use Rattle.xdg_domain.proofs.cards.CardSet.one.Goals as goal
 pub invariant_of-result : goal.invariant_of-result
 invariant_of-result c = one_within c.args.number c.requires
 
-pub returns-clause-value : goal.returns-clause-value
-returns-clause-value c = one_bits c.args.number c.requires
-
-pub returns-clause-cards : goal.returns-clause-cards
-returns-clause-cards c = let within = one_within c.args.number c.requires in members_are_cards (1 * 2 ^ c.args.number % 2 ^ 128) within.0 within.1
+pub returns : goal.returns
+returns c = let within = one_within c.args.number c.requires in record { value = one_bits c.args.number c.requires; cards = members_are_cards (1 * 2 ^ c.args.number % 2 ^ 128) within.0 within.1 }
