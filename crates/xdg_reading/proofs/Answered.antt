@@ -1,6 +1,5 @@
 -- A text shows one analysis, or one line offends first.
-use Rattle.std.proofs.Common.{◌≡◌, ℕ, List, [], ◌∷◌, length, map, refl, sym, ap, ◌∙◌, subst, Some, None, Option, Ok, Err, All}
-use Rattle.std.proofs.lemmas.List.{length-map}
+use Rattle.std.proofs.Common.{◌≡◌, ℕ, List, [], ◌∷◌, length, refl, sym, ap, ◌∙◌, subst, Some, None, Option, Ok, Err, All}
 use Rattle.std.specs.Prelude.{Result}
 use Rattle.xdg_base.specs.Faults.{fault_at}
 use Rattle.xdg_base.specs.declared.faults.Fault.{Fault}
@@ -10,7 +9,6 @@ use Rattle.xdg_base.specs.declared.faults.Stop.TheVariants as stops
 use Rattle.xdg_problem.specs.declared.analysis.Analysis.{Analysis}
 use Rattle.xdg_problem.specs.declared.analysis.Edge.{Edge}
 use Rattle.xdg_problem.specs.declared.parts.Parts.{Parts}
-use Rattle.xdg_problem.specs.declared.parts.SentenceWord.{SentenceWord}
 use Rattle.xdg_problem.specs.Analyses.{HasCandidates, IsPlace, EdgesRise, IsAnalysis}
 use Rattle.xdg_problem.specs.Places.{nodes}
 use Rattle.xdg_problem.specs.Problems.{IsProblem}
@@ -22,6 +20,8 @@ use Rattle.xdg_base.specs.Told.{Gives}
 use Rattle.xdg_reading.specs.Slots.{slots}
 use Rattle.xdg_reading.proofs.Attributes.{are_attrs, all_differ, fit_sizes, count_sizes}
 use Rattle.xdg_reading.proofs.EdgeLaws.{EdgesTold, edges_told, edges_said, edge_refused}
+use Rattle.xdg_reading.specs.Blocks.{HasWords}
+use Rattle.xdg_reading.proofs.Written.{words_count}
 use Rattle.xdg_reading.proofs.Told.{ValuesTold, values_told, values_said, attr_told, words_fit, word_offends, words_told, word_told}
 use Rattle.xdg_facts.proofs.Lists.{all_cons, all_none}
 
@@ -68,7 +68,7 @@ abbrev rest_of : Parts → AnalysisText → Result Analysis ℕ
 rest_of parts t = then (said_values (behind_attrs t t.edges) (slots (nodes parts) parts.dims) t.attrs) (λ attrs. then (said_edges parts None t.edges) (λ edges. Ok (record { entries = t.entries; attrs = attrs; edges = edges })))
 
 by_words : (parts : Parts) (t : AnalysisText) (o : Option ℕ) → IsProblem parts → length parts.candidates ≡ length t.words → length t.entries ≡ length t.words → words_fault parts.candidates t.words t.entries ≡ o → Told parts t (unless o (rest_of parts t))
-by_words parts t None problem each entries e = by_values parts t (said_values (behind_attrs t t.edges) (slots (nodes parts) parts.dims) t.attrs) problem (words_fit parts.candidates t.words t.entries each entries e) (values_told (behind_attrs t t.edges) (slots (nodes parts) parts.dims) t.attrs (all_differ (slots (nodes parts) parts.dims) (are_attrs parts problem)))
+by_words parts t None problem each entries e = by_values parts t (said_values (behind_attrs t t.edges) (slots (nodes parts) parts.dims) t.attrs) problem (words_fit parts.candidates t.words t.entries each entries e) (values_told (behind_attrs t t.edges) (slots (nodes parts) parts.dims) t.attrs (all_differ (nodes parts) (slots (nodes parts) parts.dims) (are_attrs parts problem)))
 by_words parts t (Some at) problem each entries e = word (word_offends parts.candidates t.words t.entries at e)
 
 pub fitted_told : (parts : Parts) (t : AnalysisText) → IsProblem parts → length parts.candidates ≡ length t.words → length t.entries ≡ length t.words → Told parts t (fitted parts t)
@@ -84,7 +84,7 @@ shown_fitted : (parts : Parts) (t : AnalysisText) (a : Analysis) → IsProblem p
 unfolding fitted
 shown_fitted parts t a problem shows =
     ap (λ o. unless o (rest_of parts t)) (words_told parts.candidates t.words t.entries shows.candidates)
-    ∙ ap (λ r. then r (λ attrs. then (said_edges parts None t.edges) (λ edges. Ok (record { entries = t.entries; attrs = attrs; edges = edges })))) (values_said (behind_attrs t t.edges) (slots (nodes parts) parts.dims) t.attrs a.attrs (all_differ (slots (nodes parts) parts.dims) (are_attrs parts problem)) shows.attrs)
+    ∙ ap (λ r. then r (λ attrs. then (said_edges parts None t.edges) (λ edges. Ok (record { entries = t.entries; attrs = attrs; edges = edges })))) (values_said (behind_attrs t t.edges) (slots (nodes parts) parts.dims) t.attrs a.attrs (all_differ (nodes parts) (slots (nodes parts) parts.dims) (are_attrs parts problem)) shows.attrs)
     ∙ ap (λ r. then r (λ edges. Ok (record { entries = t.entries; attrs = a.attrs; edges = edges }))) (edges_said parts None t.edges a.edges problem shows.edges)
     ∙ ap (λ z. Ok (record { entries = z; attrs = a.attrs; edges = a.edges })) (sym shows.entries)
 
@@ -93,10 +93,10 @@ unfolding fitted
 offends_fitted parts t at problem (word offends) = ap (λ o. unless o (rest_of parts t)) (word_told parts.candidates t.words t.entries at offends)
 offends_fitted parts t at problem (attr entries offends) =
     ap (λ o. unless o (rest_of parts t)) (words_told parts.candidates t.words t.entries entries)
-    ∙ ap (λ r. then r (λ attrs. then (said_edges parts None t.edges) (λ edges. Ok (record { entries = t.entries; attrs = attrs; edges = edges })))) (attr_told (behind_attrs t t.edges) (slots (nodes parts) parts.dims) t.attrs at (all_differ (slots (nodes parts) parts.dims) (are_attrs parts problem)) offends)
+    ∙ ap (λ r. then r (λ attrs. then (said_edges parts None t.edges) (λ edges. Ok (record { entries = t.entries; attrs = attrs; edges = edges })))) (attr_told (behind_attrs t t.edges) (slots (nodes parts) parts.dims) t.attrs at (all_differ (nodes parts) (slots (nodes parts) parts.dims) (are_attrs parts problem)) offends)
 offends_fitted parts t at problem (edge values entries say offends) =
     ap (λ o. unless o (rest_of parts t)) (words_told parts.candidates t.words t.entries entries)
-    ∙ ap (λ r. then r (λ attrs. then (said_edges parts None t.edges) (λ edges. Ok (record { entries = t.entries; attrs = attrs; edges = edges })))) (values_said (behind_attrs t t.edges) (slots (nodes parts) parts.dims) t.attrs values (all_differ (slots (nodes parts) parts.dims) (are_attrs parts problem)) say)
+    ∙ ap (λ r. then r (λ attrs. then (said_edges parts None t.edges) (λ edges. Ok (record { entries = t.entries; attrs = attrs; edges = edges })))) (values_said (behind_attrs t t.edges) (slots (nodes parts) parts.dims) t.attrs values (all_differ (nodes parts) (slots (nodes parts) parts.dims) (are_attrs parts problem)) say)
     ∙ ap (λ r. then r (λ edges. Ok (record { entries = t.entries; attrs = values; edges = edges }))) (edge_refused parts None t.edges at problem offends)
 
 -- each answer that is right is the one that is told
@@ -108,14 +108,11 @@ pub tells_of : (parts : Parts) (t : AnalysisText) (r : Result Analysis ℕ) → 
 tells_of parts t (Ok a) told = told
 tells_of parts t (Err at) told = (at, refl, told)
 
-pub same_lengths : (parts : Parts) (t : AnalysisText) → IsProblem parts → map (λ (w : SentenceWord). w.text) t.words ≡ map (λ (w : SentenceWord). w.text) parts.words → length parts.candidates ≡ length t.words
-same_lengths parts t problem same =
-    let a : length (map (λ (w : SentenceWord). w.text) t.words) ≡ length t.words = length-map t.words (λ (w : SentenceWord). w.text) in
-    let b : length (map (λ (w : SentenceWord). w.text) parts.words) ≡ length parts.words = length-map parts.words (λ (w : SentenceWord). w.text) in
-    problem.candidates_each ∙ sym b ∙ ap length (sym same) ∙ a
+pub same_lengths : (parts : Parts) (t : AnalysisText) → IsProblem parts → HasWords parts t → length parts.candidates ≡ length t.words
+same_lengths parts t problem same = problem.candidates_each ∙ sym (words_count parts t same)
 
 -- what is told of the parts that were lent
-pub call_tells : (parts lent : Parts) (t : AnalysisText) (r : Result Analysis ℕ) → IsProblem parts → map (λ (w : SentenceWord). w.text) t.words ≡ map (λ (w : SentenceWord). w.text) parts.words → length t.entries ≡ length t.words → lent ≡ parts → fitted lent t ≡ r → IsAnswer parts t (as_answer r)
+pub call_tells : (parts lent : Parts) (t : AnalysisText) (r : Result Analysis ℕ) → IsProblem parts → HasWords parts t → length t.entries ≡ length t.words → lent ≡ parts → fitted lent t ≡ r → IsAnswer parts t (as_answer r)
 call_tells parts lent t r problem words entries same is = subst (λ z. IsAnswer parts t (as_answer z)) (ap (λ z. fitted z t) (sym same) ∙ is) (tells_of parts t (fitted parts t) (fitted_told parts t problem (same_lengths parts t problem words) entries))
 
 pub call_only : (parts lent : Parts) (t : AnalysisText) (r : Result Analysis ℕ) → IsProblem parts → lent ≡ parts → fitted lent t ≡ r → (answer : Result Analysis Fault) → IsAnswer parts t answer → answer ≡ as_answer r

@@ -1,5 +1,5 @@
 -- The attributes of a problem in their order.
-use Rattle.std.proofs.Common.{◌≡◌, ◌<◌, ◌≤◌, ◌++◌, ℕ, zero, suc, List, [], ◌∷◌, length, map, get_or, refl, sym, ap, ap₂, ◌∙◌, subst, arith}
+use Rattle.std.proofs.Common.{◌≡◌, ◌<◌, ◌≤◌, ◌+◌, ◌++◌, ℕ, zero, suc, List, [], ◌∷◌, length, map, get_or, refl, sym, ap, ap₂, ◌∙◌, subst, arith}
 use Rattle.std.proofs.lemmas.List.{map-append}
 use Rattle.std.proofs.lemmas.List.Elements.{recursion_from_All}
 use Rattle.std.specs.List.{flat_map, AllByRecursion}
@@ -15,39 +15,40 @@ use Rattle.xdg_reading.specs.Fits.{SayValues}
 use Rattle.xdg_reading.specs.Slots.{Asked, node_slots, dim_slots, slots}
 use Rattle.xdg_reading.proofs.Told.{AllDiffer}
 
--- each attribute is one
-abbrev pub AreAttrs : List Asked → Type 0
-AreAttrs [] = Unit {0}
-AreAttrs (asked ∷ more) = IsAttr asked.attr × AreAttrs more
+-- each attribute is one, of a node of the sentence
+abbrev pub AreAttrs : ℕ → List Asked → Type 0
+AreAttrs n [] = Unit {0}
+AreAttrs n (asked ∷ more) = (IsAttr asked.attr × (asked.node < n)) × AreAttrs n more
 
-attrs_both : (xs ys : List Asked) → AreAttrs xs → AreAttrs ys → AreAttrs (xs ++ ys)
-attrs_both [] ys a b = b
-attrs_both (x ∷ xs) ys a b = (a.0, attrs_both xs ys a.1 b)
+attrs_both : (n : ℕ) (xs ys : List Asked) → AreAttrs n xs → AreAttrs n ys → AreAttrs n (xs ++ ys)
+attrs_both n [] ys a b = b
+attrs_both n (x ∷ xs) ys a b = (a.0, attrs_both n xs ys a.1 b)
 
-of_node : (dim : List ℕ) (node : ℕ) (attrs : List AttrPlan) → AllByRecursion IsAttr attrs → AreAttrs (map (λ attr. record { dim = dim; node = node; attr = attr }) attrs)
-of_node dim node [] all = tt
-of_node dim node (attr ∷ attrs) all = (all.0, of_node dim node attrs all.1)
+of_node : (n : ℕ) (dim : List ℕ) (node : ℕ) (attrs : List AttrPlan) → node < n → AllByRecursion IsAttr attrs → AreAttrs n (map (λ attr. record { dim = dim; node = node; attr = attr }) attrs)
+of_node n dim node [] small all = tt
+of_node n dim node (attr ∷ attrs) small all = ((all.0, small), of_node n dim node attrs small all.1)
 
-of_nodes : (plan : DimPlan) (first count : ℕ) → AllByRecursion IsAttr plan.attrs → AreAttrs (flat_map (node_slots plan) (numbers_from first count))
-of_nodes plan first zero all = tt
-of_nodes plan first (suc count) all = attrs_both (node_slots plan first) (flat_map (node_slots plan) (numbers_from (suc first) count)) (of_node plan.name first plan.attrs all) (of_nodes plan (suc first) count all)
+of_nodes : (n : ℕ) (plan : DimPlan) (first count : ℕ) → first + count ≤ n → AllByRecursion IsAttr plan.attrs → AreAttrs n (flat_map (node_slots plan) (numbers_from first count))
+of_nodes n plan first zero few all = tt
+of_nodes n plan first (suc count) few all =
+    attrs_both n (node_slots plan first) (flat_map (node_slots plan) (numbers_from (suc first) count)) (of_node n plan.name first plan.attrs (omega (arith, few)) all) (of_nodes n plan (suc first) count (omega (arith, few)) all)
 
-of_dims : (n : ℕ) (plans : List DimPlan) → AllByRecursion IsDim plans → AreAttrs (slots n plans)
+of_dims : (n : ℕ) (plans : List DimPlan) → AllByRecursion IsDim plans → AreAttrs n (slots n plans)
 of_dims n [] all = tt
-of_dims n (plan ∷ plans) all = attrs_both (dim_slots n plan) (slots n plans) (of_nodes plan 0 n (recursion_from_All IsAttr plan.attrs all.0.attrs)) (of_dims n plans all.1)
+of_dims n (plan ∷ plans) all = attrs_both n (dim_slots n plan) (slots n plans) (of_nodes n plan 0 n (omega arith) (recursion_from_All IsAttr plan.attrs all.0.attrs)) (of_dims n plans all.1)
 
-pub are_attrs : (parts : Parts) → IsProblem parts → AreAttrs (slots (nodes parts) parts.dims)
+pub are_attrs : (parts : Parts) → IsProblem parts → AreAttrs (nodes parts) (slots (nodes parts) parts.dims)
 are_attrs parts problem = of_dims (nodes parts) parts.dims (recursion_from_All IsDim parts.dims problem.dims)
 
-pub all_differ : (asked : List Asked) → AreAttrs asked → AllDiffer asked
-all_differ [] are = tt
-all_differ (a ∷ asked) are = (are.0.differ, all_differ asked are.1)
+pub all_differ : (n : ℕ) (asked : List Asked) → AreAttrs n asked → AllDiffer asked
+all_differ n [] are = tt
+all_differ n (a ∷ asked) are = (are.0.0.differ, all_differ n asked are.1)
 
-pub few_values : {X : Type 0} (f : X → Asked) (xs : List X) (asked : List Asked) → map f xs ≡ asked → AreAttrs asked → (k : ℕ) (d : X) → k < length xs → length (f (get_or xs k d)).attr.values ≤ 1024
-few_values {X = X} f xs asked same are = by xs (subst AreAttrs (sym same) are) where
-  by : (xs : List X) → AreAttrs (map f xs) → (k : ℕ) (d : X) → k < length xs → length (f (get_or xs k d)).attr.values ≤ 1024
+pub few_values : {X : Type 0} (f : X → Asked) (n : ℕ) (xs : List X) (asked : List Asked) → map f xs ≡ asked → AreAttrs n asked → (k : ℕ) (d : X) → k < length xs → length (f (get_or xs k d)).attr.values ≤ 1024
+few_values {X = X} f n xs asked same are = by xs (subst (AreAttrs n) (sym same) are) where
+  by : (xs : List X) → AreAttrs n (map f xs) → (k : ℕ) (d : X) → k < length xs → length (f (get_or xs k d)).attr.values ≤ 1024
   by [] are k d within = absurd (omega (arith, within))
-  by (x ∷ xs) are zero d within = are.0.most
+  by (x ∷ xs) are zero d within = are.0.0.most
   by (x ∷ xs) are (suc k) d within = by xs are.1 k d (omega (arith, within))
 
 -- how many values each has

@@ -9,16 +9,14 @@ use Rattle.xdg_problem.specs.Problems.{IsProblem}
 use Rattle.xdg_reading.specs.declared.line.Line.{Line}
 use Rattle.xdg_reading.specs.declared.line.Line.TheVariants as lines
 use Rattle.xdg_reading.specs.declared.texts.AnalysisText.{AnalysisText}
-use Rattle.xdg_reading.specs.declared.texts.AttrLine.{AttrLine}
-use Rattle.xdg_reading.specs.declared.texts.EdgeLine.{EdgeLine}
 use Rattle.xdg_reading.specs.Lines.{line_text, text_of}
 use Rattle.xdg_reading.specs.Texts.{word_lines, body, lines_of, lines2_of, Placed, HasLines, IsText}
 use Rattle.xdg_text.specs.Blocks.{block, block2}
 use Rattle.xdg_reading.specs.Blocks.{HasWords, IsReadBack, IsBlock, ReadsBack}
 use Rattle.xdg_reading.specs.Fits.{Shows}
-use Rattle.xdg_reading.proofs.Answered.{same_lengths}
+use Rattle.xdg_reading.proofs.Walks.{some_text}
 use Rattle.xdg_reading.proofs.Placing.{text_at, text_words, text_shows, body_placed}
-use Rattle.xdg_reading.proofs.Written.{both_texts, text1_is, text2_is, values_count, edges_count}
+use Rattle.xdg_reading.proofs.Written.{both_texts, words_count, text1_is, text2_is, values_count, edges_count}
 use Rattle.xdg_reading.specs.Slots.{slots}
 use Rattle.xdg_problem.proofs.EntryPlaces.{length_entries}
 
@@ -29,43 +27,23 @@ by_text parts bytes a t words shows (number, inr has) = (number, has.placed.1.0.
 read_is_block : (parts : Parts) (bytes : List ℕ) (a : Analysis) → IsReadBack parts bytes a → IsAnalysis parts a × IsBlock parts bytes a
 read_is_block parts bytes a (t, read, words, fit) = (fit.0, by_text parts bytes a t words fit.1 read.1)
 
-words_count : (parts : Parts) (t : AnalysisText) → IsProblem parts → HasWords parts t → length t.words ≡ nodes parts
-words_count parts t problem words = sym (same_lengths parts t problem words) ∙ problem.candidates_each
-
 -- there are no more lines than bytes
-few_attrs : (xs : List AttrLine) → length xs ≤ length (text_of (map lines.Attr xs))
-few_attrs [] = omega arith
-few_attrs (x ∷ xs) = let some : 0 < length (line_text (lines.Attr x)) = omega arith in omega (arith, few_attrs xs, some, length-append (line_text (lines.Attr x)) (text_of (map lines.Attr xs)))
+few : {X : Type 0} (f : X → Line) (xs : List X) → length xs ≤ length (text_of (map f xs))
+few f [] = omega arith
+few f (x ∷ xs) = omega (arith, few f xs, some_text (f x), length-append (line_text (f x)) (text_of (map f xs)))
 
-few_edges : (xs : List EdgeLine) → length xs ≤ length (text_of (map lines.Edge xs))
-few_edges [] = omega arith
-few_edges (x ∷ xs) = let some : 0 < length (line_text (lines.Edge x)) = omega arith in omega (arith, few_edges xs, some, length-append (line_text (lines.Edge x)) (text_of (map lines.Edge xs)))
-
-record Small (t : AnalysisText) (n : ℕ) : Type 0 where
-  pub attrs : length t.attrs ≤ n
-  pub edges : length t.edges ≤ n
-
-few_lines : (t : AnalysisText) → Small t (length (text_of (body t)))
-few_lines t =
-    let words : List Line = word_lines 0 t.words t.entries in
-    let attrs : List Line = map lines.Attr t.attrs in
-    let edges : List Line = map lines.Edge t.edges in
-    let one : length (text_of (body t)) ≡ length (text_of words) + length (text_of (attrs ++ (edges ++ lines.End ∷ []))) = ap length (both_texts words (attrs ++ (edges ++ lines.End ∷ []))) ∙ length-append (text_of words) (text_of (attrs ++ (edges ++ lines.End ∷ []))) in
-    let two : length (text_of (attrs ++ (edges ++ lines.End ∷ []))) ≡ length (text_of attrs) + length (text_of (edges ++ lines.End ∷ [])) = ap length (both_texts attrs (edges ++ lines.End ∷ [])) ∙ length-append (text_of attrs) (text_of (edges ++ lines.End ∷ [])) in
-    let three : length (text_of (edges ++ lines.End ∷ [])) ≡ length (text_of edges) + 4 = ap length (both_texts edges (lines.End ∷ [])) ∙ length-append (text_of edges) (text_of (lines.End ∷ [])) in
-    record { attrs = omega (arith, one, two, three, few_attrs t.attrs); edges = omega (arith, one, two, three, few_edges t.edges) }
+-- of so many bytes the lines behind the first ones are
+body_size : (t : AnalysisText) → length (text_of (body t)) ≡ length (text_of (word_lines 0 t.words t.entries)) + (length (text_of (map lines.Attr t.attrs)) + (length (text_of (map lines.Edge t.edges)) + 4))
+body_size t =
+    let edges : List Line = map lines.Edge t.edges ++ lines.End ∷ [] in
+    size (word_lines 0 t.words t.entries) (map lines.Attr t.attrs ++ edges) ∙ ap (λ n. length (text_of (word_lines 0 t.words t.entries)) + n) (size (map lines.Attr t.attrs) edges
+    ∙ ap (λ n. length (text_of (map lines.Attr t.attrs)) + n) (size (map lines.Edge t.edges) (lines.End ∷ []))) where
+      size : (xs ys : List Line) → length (text_of (xs ++ ys)) ≡ length (text_of xs) + length (text_of ys)
+      size xs ys = ap length (both_texts xs ys) ∙ length-append (text_of xs) (text_of ys)
 
 -- the last line is where the text says
 end_is : (parts : Parts) (a : Analysis) (start : ℕ) → (text_at parts a start).end + 4 ≡ start + length (text_of (body (text_at parts a start)))
-end_is parts a start =
-    let t = text_at parts a start in
-    let words : List Line = word_lines 0 t.words t.entries in
-    let attrs : List Line = map lines.Attr t.attrs in
-    let edges : List Line = map lines.Edge t.edges in
-    let one : length (text_of (body t)) ≡ length (text_of words) + length (text_of (attrs ++ (edges ++ lines.End ∷ []))) = ap length (both_texts words (attrs ++ (edges ++ lines.End ∷ []))) ∙ length-append (text_of words) (text_of (attrs ++ (edges ++ lines.End ∷ []))) in
-    let two : length (text_of (attrs ++ (edges ++ lines.End ∷ []))) ≡ length (text_of attrs) + length (text_of (edges ++ lines.End ∷ [])) = ap length (both_texts attrs (edges ++ lines.End ∷ [])) ∙ length-append (text_of attrs) (text_of (edges ++ lines.End ∷ [])) in
-    let three : length (text_of (edges ++ lines.End ∷ [])) ≡ length (text_of edges) + 4 = ap length (both_texts edges (lines.End ∷ [])) ∙ length-append (text_of edges) (text_of (lines.End ∷ [])) in
-    omega (arith, one, two, three)
+end_is parts a start = omega (arith, body_size (text_at parts a start))
 
 block_text1 : (parts : Parts) (bytes : List ℕ) (a : Analysis) (number : ℕ) → IsProblem parts → IsAnalysis parts a → 1 ≤ number → number ≤ 2000000000000 → bytes ≡ block parts number a → HasLines bytes (text_at parts a (0 + length (line_text (lines.Analysis number)))) (lines_of number (text_at parts a (0 + length (line_text (lines.Analysis number)))))
 block_text1 parts bytes a number problem is low high e =
@@ -74,7 +52,7 @@ block_text1 parts bytes a number problem is low high e =
     let words = text_words parts a start in
     let same : bytes ≡ text_of (lines_of number t) = e ∙ sym (text1_is parts t a number words (text_shows parts a start is)) in
     let size : length bytes ≡ length (line_text (lines.Analysis number)) + length (text_of (body t)) = ap length same ∙ length-append (line_text (lines.Analysis number)) (text_of (body t)) in
-    let count = words_count parts t problem words in
+    let count : length t.words ≡ nodes parts = words_count parts t words in
     let each : length a.entries ≡ length t.words = length_entries parts.candidates a.entries is.entries ∙ problem.candidates_each ∙ sym count in
     record {
       parts = same;
@@ -94,7 +72,7 @@ block_text2 parts bytes a number problem is small low high e =
     let words = text_words parts a start in
     let shows = text_shows parts a start is in
     let same : bytes ≡ text_of (lines2_of number t) = e ∙ sym (text2_is parts t a number words shows) in
-    let count = words_count parts t problem words in
+    let count : length t.words ≡ nodes parts = words_count parts t words in
     let attrs_are : length t.attrs ≡ length a.attrs = values_count (slots (nodes parts) parts.dims) t.attrs a.attrs shows.attrs in
     let edges_are : length t.edges ≡ length a.edges = edges_count parts None t.edges a.edges shows.edges in
     let counts : List ℕ = line_text (lines.Counts (length t.words) (length t.attrs) (length t.edges)) in
@@ -104,11 +82,10 @@ block_text2 parts bytes a number problem is small low high e =
     let two : length (line_text (lines.Analysis number) ++ (counts ++ text_of (body t))) ≡ length (line_text (lines.Analysis number)) + length (counts ++ text_of (body t)) = length-append (line_text (lines.Analysis number)) (counts ++ text_of (body t)) in
     let one : length (line_text lines.Version ++ (line_text (lines.Analysis number) ++ (counts ++ text_of (body t)))) ≡ length (line_text lines.Version) + length (line_text (lines.Analysis number) ++ (counts ++ text_of (body t))) = length-append (line_text lines.Version) (line_text (lines.Analysis number) ++ (counts ++ text_of (body t))) in
     let size : length bytes ≡ length (line_text lines.Version ++ (line_text (lines.Analysis number) ++ (counts ++ text_of (body t)))) = ap length same in
-    let few = few_lines t in
     let whole : length bytes ≡ start + length (text_of (body t)) = omega (arith, one, two, three, size, place) in
     record {
       parts = same;
-      placed = (tt, ((low, high), ((omega (arith, count, problem.some), omega (arith, count, problem.most), omega (arith, few.attrs, whole, small), omega (arith, few.edges, whole, small)), subst (λ k. Placed k (body t)) (sym place) (body_placed parts a start problem is))));
+      placed = (tt, ((low, high), ((omega (arith, count, problem.some), omega (arith, count, problem.most), omega (arith, few lines.Attr t.attrs, body_size t, whole, small), omega (arith, few lines.Edge t.edges, body_size t, whole, small)), subst (λ k. Placed k (body t)) (sym place) (body_placed parts a start problem is))));
       some = omega (arith, count, problem.some);
       each = length_entries parts.candidates a.entries is.entries ∙ problem.candidates_each ∙ sym count;
       end = omega (arith, end_is parts a start, whole);

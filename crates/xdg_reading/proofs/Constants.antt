@@ -1,12 +1,12 @@
 -- Quoted texts and constants are read as they are written.
-use Rattle.std.proofs.Common.{◌≡◌, ◌≢◌, ◌<◌, ◌++◌, ◌==◌, ◌&&◌, ◌||◌, ◌⊎◌, inl, inr, ℕ, zero, suc, List, [], ◌∷◌, length, get_or, drop, refl, sym, ap, ◌∙◌, arith, true, false, cond, not, Bool, Some, None, Option, append_assoc}
+use Rattle.std.proofs.Common.{◌≡◌, ◌≢◌, ◌<◌, ◌++◌, ◌==◌, ◌&&◌, ◌||◌, ◌⊎◌, inl, inr, ℕ, zero, suc, List, [], ◌∷◌, length, get_or, drop, refl, sym, ap, ◌∙◌, arith, true, false, cond, not, Bool, Some, None, append_assoc}
 use Rattle.std.proofs.lemmas.Bool.{eqb-true, ne_eqb, and_parts, not_from_false, and_from, or_parts, or_from, or_left, or_right, both_ways}
 use Rattle.std.specs.List.{list_all, flat_map}
 use Rattle.xdg_text.specs.Constants.{is_name, is_keyword, begins_name, continues_name, is_escaped, escaped, quoted, constant}
 use Rattle.xdg_reading.specs.Pieces.{after, past, lead, behind, until, inside, quoted_at, name_at, quoted_constant_at, constant_at, begins_quoted, is_plain}
 use Rattle.xdg_reading.proofs.Fronts.{until_it, until_stands, it_stands, same_byte, other_byte}
-use Rattle.xdg_reading.proofs.Insides.{plain_byte, nothing_left}
-use Rattle.xdg_reading.proofs.Steps.{pair, lead_found, Led, cond_either, cond_found, cond_left, after_found, past_found}
+use Rattle.xdg_reading.proofs.Insides.{plain_byte, closing, escaped_turn, nothing_left}
+use Rattle.xdg_reading.proofs.Steps.{pair, lead_found, Led, cond_either, cond_found, cond_left, after_found, past_found, nothing_if}
 use Rattle.xdg_facts.proofs.Options.{none_some, some_same}
 use Rattle.xdg_base.proofs.Names.{escaped_is, unescaped}
 
@@ -26,14 +26,6 @@ line_feed = record { begins = refl; continues = refl }
 
 plain_of : (byte : ℕ) → is_escaped byte ≡ false → is_plain byte ≡ true
 plain_of byte e = let both = or_parts (byte == 34) (byte == 92) e in and_from (not (byte == 34)) (not (byte == 92)) (not_from_false (byte == 34) both.0) (not_from_false (byte == 92) both.1)
-
-escaped_turn : (byte : ℕ) (bytes : List ℕ) → is_escaped byte ≡ true → inside false (92 ∷ byte ∷ bytes) ≡ lead byte (inside false bytes)
-unfolding inside
-escaped_turn byte bytes e = ap (λ t. cond t (lead byte (inside false bytes)) None) e
-
-closing : (rest : List ℕ) → inside false (34 ∷ rest) ≡ Some ([], rest)
-unfolding inside
-closing rest = refl
 
 -- the inside of a quoted text is read up to its mark
 pub inside_read : (text rest : List ℕ) → inside false (flat_map escaped text ++ 34 ∷ rest) ≡ Some (text, rest)
@@ -180,14 +172,10 @@ one_end end other (byte ∷ text) (c ∷ name) rest more a b all named e =
     let second = and_parts (in_name c) (list_all in_name name) named in
     one_end end other text name rest more a b first.1 second.1 (ap (drop 1) e)
 
-by_name : (end other : ℕ) (text rest : List ℕ) (o : Option (List ℕ × List ℕ)) → name_at other (text ++ end ∷ rest) ≡ o → IsEnd end → IsEnd other → (end ≡ other → ⊥) → is_name text ≡ true → o ≡ None
-by_name end other text rest None e ends others ne name = refl
-by_name end other text rest (Some found) e ends others ne name =
-    let spelled = name_spelled other (text ++ end ∷ rest) found.0 found.1 e in
-    absurd (ne (one_end end other text found.0 rest found.1 (not_in_name end ends) (not_in_name other others) (name_bytes text name) (name_bytes found.0 spelled.name) spelled.parts))
-
 name_other : (end other : ℕ) (text rest : List ℕ) → IsEnd end → IsEnd other → (end ≡ other → ⊥) → is_name text ≡ true → name_at other (text ++ end ∷ rest) ≡ None
-name_other end other text rest ends others ne name = by_name end other text rest (name_at other (text ++ end ∷ rest)) refl ends others ne name
+name_other end other text rest ends others ne name = nothing_if (name_at other (text ++ end ∷ rest)) (λ found e.
+    let spelled = name_spelled other (text ++ end ∷ rest) found.0 found.1 e in
+    ne (one_end end other text found.0 rest found.1 (not_in_name end ends) (not_in_name other others) (name_bytes text name) (name_bytes found.0 spelled.name) spelled.parts))
 
 -- no name begins with a mark
 no_mark : (text rest : List ℕ) → is_name text ≡ true → begins_quoted (text ++ rest) ≡ false

@@ -4,7 +4,7 @@ use Rattle.std.proofs.Common.{◌≡◌, ◌≢◌, ◌<◌, ◌++◌, ◌==◌,
 use Rattle.std.proofs.lemmas.Bool.{eq-eqb, ne_eqb, eqb-true}
 use Rattle.std.proofs.lemmas.Str.Pattern.{split_parts, strip_prefix_char, IsSplitOnceResult}
 use Rattle.std.specs.Str.Pattern.{FindsTextPrefix, FindsCharPrefix, StripsPrefix}
-use Rattle.xdg_reading.proofs.Steps.{pair, lead_found, cond_either}
+use Rattle.xdg_reading.proofs.Steps.{pair, lead_found, cond_either, nothing_if}
 use Rattle.xdg_reading.specs.Pieces.{behind, until, lead}
 use Rattle.xdg_facts.proofs.Options.{some_same}
 
@@ -31,12 +31,8 @@ it_stands (c ∷ word) [] rest found = cc
 it_stands (c ∷ word) (byte ∷ bytes) rest found = by_byte c byte word bytes rest (byte == c) refl found (it_stands word bytes rest)
 
 -- nothing is found where it doesn't stand
-by_option : (word bytes : List ℕ) (o : Option (List ℕ)) → behind word bytes ≡ o → ((rest : List ℕ) → bytes ≡ word ++ rest → ⊥) → behind word bytes ≡ None
-by_option word bytes None e lacks = e
-by_option word bytes (Some rest) e lacks = absurd (lacks rest (it_stands word bytes rest e))
-
 pub lacks_it : (word bytes : List ℕ) → ((rest : List ℕ) → bytes ≡ word ++ rest → ⊥) → behind word bytes ≡ None
-lacks_it word bytes lacks = by_option word bytes (behind word bytes) refl lacks
+lacks_it word bytes lacks = nothing_if (behind word bytes) (λ rest e. lacks rest (it_stands word bytes rest e))
 
 -- a text that is stripped off the front
 pub stripped : (word bytes rest : List ℕ) → StripsPrefix (FindsTextPrefix word) bytes rest → behind word bytes ≡ Some rest

@@ -34,33 +34,19 @@ plain_inside (byte ∷ piece) rest plain =
     let both = and_parts (is_plain byte) (list_all is_plain piece) plain in
     plain_byte byte (piece ++ rest) both.0 ∙ ap (lead byte) (plain_inside piece rest both.1) ∙ lead_leads byte piece (inside false rest)
 
-closed_by : (bytes rest : List ℕ) → bytes ≡ 34 ∷ rest → inside false bytes ≡ Some ([], rest)
-unfolding inside
-closed_by bytes rest e = ap (inside false) e
-
 -- a closing mark
-pub closed : (bytes rest : List ℕ) → behind (34 ∷ []) bytes ≡ Some rest → inside false bytes ≡ Some ([], rest)
-closed bytes rest found = closed_by bytes rest (it_stands (34 ∷ []) bytes rest found)
-
-mark_of : (rest : List ℕ) → inside false (92 ∷ 34 ∷ rest) ≡ lead 34 (inside false rest)
+pub closing : (rest : List ℕ) → inside false (34 ∷ rest) ≡ Some ([], rest)
 unfolding inside
-mark_of rest = refl
-
-backslash_of : (rest : List ℕ) → inside false (92 ∷ 92 ∷ rest) ≡ lead 92 (inside false rest)
-unfolding inside
-backslash_of rest = refl
+closing rest = refl
 
 pub lead_is : {X : Type 0} (x : X) (o : Option (List X × List ℕ)) → lead x o ≡ leads (x ∷ []) o
 lead_is x None = refl
 lead_is x (Some found) = refl
 
--- an escaped quotation mark
-pub mark : (bytes rest : List ℕ) → behind (92 ∷ 34 ∷ []) bytes ≡ Some rest → inside false bytes ≡ leads (34 ∷ []) (inside false rest)
-mark bytes rest found = ap (inside false) (it_stands (92 ∷ 34 ∷ []) bytes rest found) ∙ mark_of rest ∙ lead_is 34 (inside false rest)
-
--- an escaped backslash
-pub backslash : (bytes rest : List ℕ) → behind (92 ∷ 92 ∷ []) bytes ≡ Some rest → inside false bytes ≡ leads (92 ∷ []) (inside false rest)
-backslash bytes rest found = ap (inside false) (it_stands (92 ∷ 92 ∷ []) bytes rest found) ∙ backslash_of rest ∙ lead_is 92 (inside false rest)
+-- an escaped byte
+pub escaped_turn : (byte : ℕ) (bytes : List ℕ) → is_escaped byte ≡ true → inside false (92 ∷ byte ∷ bytes) ≡ lead byte (inside false bytes)
+unfolding inside
+escaped_turn byte bytes e = ap (λ t. cond t (lead byte (inside false bytes)) None) e
 
 -- a test that stops where it is true
 not_then : {X : Type 0} (t : Bool) (x : X) (y : Option X) → cond t (Some x) y ≡ None → t ≡ false
@@ -113,15 +99,12 @@ turned text self piece rest made all invariant goes is =
     ∙ invariant
 
 pub closes : (made rest new : List ℕ) (all : Option (List ℕ × List ℕ)) → leads made (inside false rest) ≡ all → behind (34 ∷ []) rest ≡ Some new → all ≡ Some (made, new)
-closes made rest new all invariant found = sym invariant ∙ ap (leads made) (closed rest new found) ∙ ap (λ z. Some (z, new)) (append-nil made)
+closes made rest new all invariant found = sym invariant ∙ ap (leads made) (ap (inside false) (it_stands (34 ∷ []) rest new found) ∙ closing new) ∙ ap (λ z. Some (z, new)) (append-nil made)
 
-pub goes_mark : (made rest at new more : List ℕ) (all : Option (List ℕ × List ℕ)) → leads made (inside false rest) ≡ all → at ≡ rest → behind (92 ∷ 34 ∷ []) at ≡ Some new → more ≡ made ++ 34 ∷ [] → leads more (inside false new) ≡ all
-goes_mark made rest at new more all invariant same found is =
-    ap (λ z. leads z (inside false new)) is ∙ sym (leads_both made (34 ∷ []) (inside false new)) ∙ ap (leads made) (sym (mark at new found)) ∙ ap (λ z. leads made (inside false z)) same ∙ invariant
-
-pub goes_backslash : (made rest at new more : List ℕ) (all : Option (List ℕ × List ℕ)) → leads made (inside false rest) ≡ all → at ≡ rest → behind (92 ∷ 92 ∷ []) at ≡ Some new → more ≡ made ++ 92 ∷ [] → leads more (inside false new) ≡ all
-goes_backslash made rest at new more all invariant same found is =
-    ap (λ z. leads z (inside false new)) is ∙ sym (leads_both made (92 ∷ []) (inside false new)) ∙ ap (leads made) (sym (backslash at new found)) ∙ ap (λ z. leads made (inside false z)) same ∙ invariant
+pub goes_escaped : (made rest at new more : List ℕ) (c : ℕ) (all : Option (List ℕ × List ℕ)) → leads made (inside false rest) ≡ all → at ≡ rest → is_escaped c ≡ true → behind (92 ∷ c ∷ []) at ≡ Some new → more ≡ made ++ c ∷ [] → leads more (inside false new) ≡ all
+goes_escaped made rest at new more c all invariant same escaped found is =
+    ap (λ z. leads z (inside false new)) is ∙ sym (leads_both made (c ∷ []) (inside false new))
+    ∙ ap (leads made) (sym (ap (inside false) (it_stands (92 ∷ c ∷ []) at new found) ∙ escaped_turn c new escaped ∙ lead_is c (inside false new))) ∙ ap (λ z. leads made (inside false z)) same ∙ invariant
 
 pub goes_nowhere : (made rest second third : List ℕ) (all : Option (List ℕ × List ℕ)) → leads made (inside false rest) ≡ all → stops_plain rest ≡ true → behind (34 ∷ []) rest ≡ None → second ≡ rest → behind (92 ∷ 34 ∷ []) second ≡ None → third ≡ second → behind (92 ∷ 92 ∷ []) third ≡ None → all ≡ None
 goes_nowhere made rest second third all invariant stops close same mark again backslash =
@@ -137,34 +120,21 @@ escaped_small byte marks = by (byte == 34) (byte == 92) refl refl marks where
 pub plain_boundary : (bytes : List ℕ) → IsCharBoundary bytes (prefix_len is_plain bytes)
 plain_boundary bytes = (prefix_len-le-length is_plain bytes, λ within high. absurd (let small : get_or bytes (prefix_len is_plain bytes) 0 < 128 = escaped_small _ (prefix_len_stops is_plain bytes 0 within) in omega (arith, small, high)))
 
-taken_plain : (bytes : List ℕ) → list_all is_plain (take (prefix_len is_plain bytes) bytes) ≡ true
-taken_plain [] = refl
-taken_plain (byte ∷ bytes) = by (taken_plain bytes) (is_plain byte) refl where
+plain_parts : (bytes : List ℕ) → (list_all is_plain (take (prefix_len is_plain bytes) bytes) ≡ true) × (stops_plain (drop (prefix_len is_plain bytes) bytes) ≡ true)
+plain_parts [] = (refl, refl)
+plain_parts (byte ∷ bytes) = by (plain_parts bytes) (is_plain byte) refl where
   n : ℕ
   n = prefix_len is_plain bytes
 
   one : 1 + n ≡ suc n
   one = omega arith
 
-  by : list_all is_plain (take n bytes) ≡ true → (t : Bool) → is_plain byte ≡ t → list_all is_plain (take (cond t (1 + n) 0) (byte ∷ bytes)) ≡ true
-  by more true e = subst (λ k. list_all is_plain (take k (byte ∷ bytes)) ≡ true) (sym one) (and_from (is_plain byte) (list_all is_plain (take n bytes)) e more)
-  by more false e = refl
-
-rest_stops : (bytes : List ℕ) → stops_plain (drop (prefix_len is_plain bytes) bytes) ≡ true
-rest_stops [] = refl
-rest_stops (byte ∷ bytes) = by (rest_stops bytes) (is_plain byte) refl where
-  n : ℕ
-  n = prefix_len is_plain bytes
-
-  one : 1 + n ≡ suc n
-  one = omega arith
-
-  by : stops_plain (drop n bytes) ≡ true → (t : Bool) → is_plain byte ≡ t → stops_plain (drop (cond t (1 + n) 0) (byte ∷ bytes)) ≡ true
-  by more true e = subst (λ k. stops_plain (drop k (byte ∷ bytes)) ≡ true) (sym one) more
-  by more false e = ap not e
+  by : (list_all is_plain (take n bytes) ≡ true) × (stops_plain (drop n bytes) ≡ true) → (t : Bool) → is_plain byte ≡ t → (list_all is_plain (take (cond t (1 + n) 0) (byte ∷ bytes)) ≡ true) × (stops_plain (drop (cond t (1 + n) 0) (byte ∷ bytes)) ≡ true)
+  by more true e = subst (λ k. (list_all is_plain (take k (byte ∷ bytes)) ≡ true) × (stops_plain (drop k (byte ∷ bytes)) ≡ true)) (sym one) (and_from (is_plain byte) (list_all is_plain (take n bytes)) e more.0, more.1)
+  by more false e = (refl, ap not e)
 
 pub plain_goes : (bytes : List ℕ) → GoesPlain bytes (take (prefix_len is_plain bytes) bytes) (drop (prefix_len is_plain bytes) bytes)
-plain_goes bytes = record { parts = sym (take-append-drop (prefix_len is_plain bytes) bytes); plain = taken_plain bytes; stops = rest_stops bytes }
+plain_goes bytes = record { parts = sym (take-append-drop (prefix_len is_plain bytes) bytes); plain = (plain_parts bytes).0; stops = (plain_parts bytes).1 }
 
 pub goes_as : (bytes old : List ℕ) (length : ℕ) (piece rest : List ℕ) → bytes ≡ old → length ≡ prefix_len is_plain bytes → piece ≡ take length bytes → rest ≡ drop length bytes → GoesPlain old piece rest
 goes_as bytes old length piece rest same is front back =

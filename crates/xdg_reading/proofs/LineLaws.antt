@@ -1,23 +1,20 @@
 -- Lines are read as they are written.
-use Rattle.std.proofs.Common.{◌≡◌, ◌<◌, ◌≤◌, ◌++◌, ◌+◌, ◌^◌, ◌⊎◌, inl, inr, ℕ, List, [], ◌∷◌, refl, sym, ap, ◌∙◌, subst, arith, lit<, Some, None, Option, append_assoc, codes, decimal}
+use Rattle.std.specs.Prelude.{◌↔◌}
+use Rattle.std.proofs.Common.{◌≡◌, ◌<◌, ◌++◌, ◌+◌, ◌^◌, ◌⊎◌, inl, inr, ℕ, List, [], ◌∷◌, refl, sym, ap, ◌∙◌, subst, arith, lit<, Some, None, Option, append_assoc, codes, decimal}
 use Rattle.xdg_base.specs.declared.ids.NodeId.{NodeId}
-use Rattle.xdg_base.specs.declared.ids.EntryNo.{EntryNo}
-use Rattle.xdg_problem.specs.declared.parts.SentenceWord.{SentenceWord}
 use Rattle.xdg_text.specs.Constants.{constant, quoted}
 use Rattle.xdg_text.specs.Values.{value_text}
 use Rattle.std.specs.Fmt.{digits}
 use Rattle.xdg_text.specs.Lines.{led, line, version_line}
 use Rattle.xdg_reading.specs.declared.line.Line.{Line}
 use Rattle.xdg_reading.specs.declared.line.Line.TheVariants as lines
-use Rattle.xdg_reading.specs.declared.texts.AttrLine.{AttrLine}
-use Rattle.xdg_reading.specs.declared.texts.EdgeLine.{EdgeLine}
 use Rattle.xdg_reading.specs.Pieces.{after, past_or, behind, number_at, ordinal_at, quoted_at, constant_at, value_at}
 use Rattle.xdg_reading.specs.Lines.{line_text, IsLine, node_at, analysis_at, counts_at, word_at, attr_at, edge_at, line_at}
 use Rattle.xdg_reading.proofs.Constants.{space, quoted_read, quoted_spelled, constant_read, constant_spelled}
 use Rattle.xdg_reading.proofs.Fronts.{it_stands}
-use Rattle.xdg_reading.proofs.Numbers.{number_read, number_spelled, ordinal_read, ordinal_spelled}
+use Rattle.xdg_reading.proofs.Numbers.{IsNumber, IsOrdinal, number_read, number_spelled, ordinal_read, ordinal_spelled}
 use Rattle.xdg_reading.proofs.Steps.{pair, after_found, past_or_found, Passed}
-use Rattle.xdg_reading.proofs.Values.{value_read, value_spelled}
+use Rattle.xdg_reading.proofs.Values.{IsValue, value_read, value_spelled}
 use Rattle.xdg_facts.proofs.Options.{none_some, some_same}
 
 -- words with a space before each, a line feed, and what stands behind
@@ -33,61 +30,99 @@ led_tail (word ∷ words) rest =
 pub line_tail : (first : List ℕ) (words : List (List ℕ)) (rest : List ℕ) → line first words ++ rest ≡ first ++ tail_of words rest
 line_tail first words rest = append_assoc first (led words ++ codes "\n") rest ∙ ap (λ z. first ++ z) (led_tail words rest)
 
-greatest_small : 4294967295 < 2 ^ 64
-greatest_small = lit< tt
+-- What a reading takes for a value is a text of it, with what is left behind, and only that.
+abbrev IsRead : {X : Type 0} → (List ℕ → Option (X × List ℕ)) → (X → List ℕ → List ℕ → Type 0) → Type 0
+IsRead {X = X} read Stands = (x : X) (whole rest : List ℕ) → Stands x whole rest ↔ (read whole ≡ Some (x, rest))
 
-node_read : (end : ℕ) (node : NodeId) (rest : List ℕ) → end < 48 → node.0 < 128 → node_at end (decimal (node.0 + 1) ++ end ∷ rest) ≡ Some (node, rest)
+-- one text behind another
+abbrev Then : {X Y : Type 0} → (X → List ℕ → List ℕ → Type 0) → (X → Y → List ℕ → List ℕ → Type 0) → Y → List ℕ → List ℕ → Type 0
+Then {X = X} First Next y whole rest = (x : X) × (left : List ℕ) × First x whole left × Next x y left rest
+
+then_read : {X Y : Type 0} (read : List ℕ → Option (X × List ℕ)) (next : X → List ℕ → Option (Y × List ℕ)) (First : X → List ℕ → List ℕ → Type 0) (Next : X → Y → List ℕ → List ℕ → Type 0)
+    → IsRead read First → ((x : X) → IsRead (next x) (Next x)) → IsRead (λ whole. after (read whole) next) (Then First Next)
+then_read {X = X} {Y = Y} read next First Next first later y whole rest = (there, back) where
+  there : Then First Next y whole rest → after (read whole) next ≡ Some (pair y rest)
+  there (x, left, stands, behind) = ap (λ o. after o next) ((first x whole left).0 stands) ∙ (later x y left rest).0 behind
+
+  back : after (read whole) next ≡ Some (pair y rest) → Then First Next y whole rest
+  back e = let found = after_found (read whole) next (pair y rest) e in (found.value, found.rest, (first found.value whole found.rest).1 found.is, (later found.value y found.rest rest).1 found.goes)
+
+-- what is made of it all
+abbrev Made : {Y : Type 0} → Y → Y → List ℕ → List ℕ → Type 0
+Made made y whole rest = pair made whole ≡ pair y rest
+
+made_read : {Y : Type 0} (made : Y) → IsRead (λ whole. Some (made, whole)) (Made made)
+made_read made y whole rest = ((λ e. ap Some e), (λ e. some_same (pair made whole) (pair y rest) e))
+
+-- a constant, a node, and a number, with what ends them
+abbrev IsConstant : List ℕ → List ℕ → List ℕ → Type 0
+IsConstant text whole rest = whole ≡ constant text ++ 32 ∷ rest
+
+constant_law : IsRead (constant_at 32) IsConstant
+constant_law text whole rest = ((λ e. ap (constant_at 32) e ∙ constant_read 32 text rest space), (λ e. constant_spelled 32 text whole rest e))
+
+number_law : (end least most : ℕ) → end < 48 → most < 2 ^ 64 → IsRead (number_at end least most) (IsNumber end least most)
+number_law end least most ends small n whole rest =
+    ((λ is. ap (number_at end least most) is.parts ∙ number_read end least most n rest ends is.low is.high small), (λ e. number_spelled end least most n whole rest e))
+
+ordinal_law : (end most : ℕ) → end < 48 → most < 2 ^ 64 → IsRead (ordinal_at end most) (IsOrdinal end most)
+ordinal_law end most ends small n whole rest = ((λ is. ap (ordinal_at end most) is.parts ∙ ordinal_read end most n rest ends is.within small), (λ e. ordinal_spelled end most n whole rest e))
+
+abbrev IsNode : ℕ → NodeId → List ℕ → List ℕ → Type 0
+IsNode end node whole rest = IsOrdinal end 128 node.0 whole rest
+
+node_law : (end : ℕ) → end < 48 → IsRead (node_at end) (IsNode end)
 unfolding node_at
-node_read end node rest ends small = ap (λ o. after o (λ n rest. Some (record { 0 = n }, rest))) (ordinal_read end 128 node.0 rest ends small (lit< tt))
+node_law end ends node whole rest = (there, back) where
+  there : IsNode end node whole rest → after (ordinal_at end 128 whole) (λ n rest. Some (pair (record { 0 = n }) rest)) ≡ Some (pair node rest)
+  there is = ap (λ o. after o (λ n rest. Some (pair (record { 0 = n }) rest))) ((ordinal_law end 128 ends (lit< tt) node.0 whole rest).0 is)
 
-record IsNode (end : ℕ) (bytes : List ℕ) (node : NodeId) (rest : List ℕ) : Type 0 where
-  pub parts : bytes ≡ decimal (node.0 + 1) ++ end ∷ rest
-  pub within : node.0 < 128
+  back : after (ordinal_at end 128 whole) (λ n rest. Some (pair (record { 0 = n }) rest)) ≡ Some (pair node rest) → IsNode end node whole rest
+  back e =
+      let found = after_found (ordinal_at end 128 whole) (λ n rest. Some (pair (record { 0 = n }) rest)) (pair node rest) e in
+      subst (λ (p : NodeId × List ℕ). IsNode end p.0 whole p.1) (some_same _ _ found.goes) (ordinal_spelled end 128 found.value whole found.rest found.is)
 
-node_spelled : (end : ℕ) (bytes : List ℕ) (node : NodeId) (rest : List ℕ) → node_at end bytes ≡ Some (node, rest) → IsNode end bytes node rest
-unfolding node_at
-node_spelled end bytes node rest read =
-    let found = after_found (ordinal_at end 128 bytes) (λ n rest. Some (record { 0 = n }, rest)) (node, rest) read in
-    let number = ordinal_spelled end 128 found.value bytes found.rest found.is in
-    let is : NodeId = record { 0 = found.value } in
-    subst (λ (p : NodeId × List ℕ). IsNode end bytes p.0 p.1) (some_same (pair is found.rest) (pair node rest) found.goes) (record { parts = number.parts; within = number.within })
+-- the lines behind the words that begin them
+abbrev IsWord : ℕ → Line → List ℕ → List ℕ → Type 0
+IsWord at = Then (IsNode 32) (λ node. Then (λ text whole rest. whole ≡ quoted text ++ 32 ∷ rest) (λ text. Then (IsOrdinal 10 4294967295) (λ entry. Made (lines.Word node (record { text = text; at = at }) (record { 0 = entry })))))
 
-word_read : (at : ℕ) (node : NodeId) (word : SentenceWord) (entry : EntryNo) (rest : List ℕ) → IsLine at (lines.Word node word entry) → word_at at (decimal (node.0 + 1) ++ 32 ∷ (quoted word.text ++ 32 ∷ (decimal (entry.0 + 1) ++ 10 ∷ rest))) ≡ Some (lines.Word node word entry, rest)
+word_law : (at : ℕ) → IsRead (word_at at) (IsWord at)
 unfolding word_at
-word_read at node word entry rest (small, few, place) =
-    ap (λ o. after o (λ node rest. after (quoted_at 32 rest) (λ text rest. after (ordinal_at 10 4294967295 rest) (λ entry rest. Some (lines.Word node (record { text = text; at = at }) (record { 0 = entry }), rest))))) (node_read 32 node (quoted word.text ++ 32 ∷ (decimal (entry.0 + 1) ++ 10 ∷ rest)) (lit< tt) small)
-    ∙ ap (λ o. after o (λ text rest. after (ordinal_at 10 4294967295 rest) (λ entry rest. Some (lines.Word node (record { text = text; at = at }) (record { 0 = entry }), rest)))) (quoted_read 32 word.text (decimal (entry.0 + 1) ++ 10 ∷ rest))
-    ∙ ap (λ o. after o (λ entry rest. Some (lines.Word node (record { text = word.text; at = at }) (record { 0 = entry }), rest))) (ordinal_read 10 4294967295 entry.0 rest (lit< tt) few greatest_small)
-    ∙ ap (λ z. Some (lines.Word node (record { text = word.text; at = z }) entry, rest)) (sym place)
+word_law at =
+    then_read _ _ _ _ (node_law 32 (lit< tt)) (λ node. then_read _ _ _ _ (λ text whole rest. ((λ e. ap (quoted_at 32) e ∙ quoted_read 32 text rest), (λ e. quoted_spelled 32 text whole rest e)))
+    (λ text. then_read _ _ _ _ (ordinal_law 10 4294967295 (lit< tt) (lit< tt)) (λ entry. made_read _)))
 
-attr_read : (at : ℕ) (a : AttrLine) (rest : List ℕ) → IsLine at (lines.Attr a) → attr_at at (constant a.dim ++ 32 ∷ (decimal (a.node.0 + 1) ++ 32 ∷ (constant a.attr ++ 32 ∷ (value_text a.value ++ 10 ∷ rest)))) ≡ Some (lines.Attr a, rest)
+abbrev IsAttrLine : ℕ → Line → List ℕ → List ℕ → Type 0
+IsAttrLine at = Then IsConstant (λ dim. Then (IsNode 32) (λ node. Then IsConstant (λ attr. Then IsValue (λ value. Made (lines.Attr (record { dim = dim; node = node; attr = attr; value = value; at = at }))))))
+
+attr_law : (at : ℕ) → IsRead (attr_at at) (IsAttrLine at)
 unfolding attr_at
-attr_read at a rest (small, has, place) =
-    ap (λ o. after o (λ dim rest. after (node_at 32 rest) (λ node rest. after (constant_at 32 rest) (λ attr rest. after (value_at rest) (λ value rest. Some (lines.Attr (record { dim = dim; node = node; attr = attr; value = value; at = at }), rest)))))) (constant_read 32 a.dim (decimal (a.node.0 + 1) ++ 32 ∷ (constant a.attr ++ 32 ∷ (value_text a.value ++ 10 ∷ rest))) space)
-    ∙ ap (λ o. after o (λ node rest. after (constant_at 32 rest) (λ attr rest. after (value_at rest) (λ value rest. Some (lines.Attr (record { dim = a.dim; node = node; attr = attr; value = value; at = at }), rest))))) (node_read 32 a.node (constant a.attr ++ 32 ∷ (value_text a.value ++ 10 ∷ rest)) (lit< tt) small)
-    ∙ ap (λ o. after o (λ attr rest. after (value_at rest) (λ value rest. Some (lines.Attr (record { dim = a.dim; node = a.node; attr = attr; value = value; at = at }), rest)))) (constant_read 32 a.attr (value_text a.value ++ 10 ∷ rest) space)
-    ∙ ap (λ o. after o (λ value rest. Some (lines.Attr (record { dim = a.dim; node = a.node; attr = a.attr; value = value; at = at }), rest))) (value_read a.value rest has)
-    ∙ ap (λ z. Some (lines.Attr (record { dim = a.dim; node = a.node; attr = a.attr; value = a.value; at = z }), rest)) (sym place)
+attr_law at =
+    then_read _ _ _ _ constant_law (λ dim. then_read _ _ _ _ (node_law 32 (lit< tt)) (λ node. then_read _ _ _ _ constant_law
+    (λ attr. then_read _ _ _ _ (λ value whole rest. ((λ is. ap value_at is.parts ∙ value_read value rest is.has), (λ e. value_spelled whole value rest e))) (λ value. made_read _))))
 
-edge_read : (at : ℕ) (e : EdgeLine) (rest : List ℕ) → IsLine at (lines.Edge e) → edge_at at (constant e.dim ++ 32 ∷ (decimal (e.mother.0 + 1) ++ 32 ∷ (constant e.label ++ 32 ∷ (decimal (e.daughter.0 + 1) ++ 10 ∷ rest)))) ≡ Some (lines.Edge e, rest)
+abbrev IsEdgeLine : ℕ → Line → List ℕ → List ℕ → Type 0
+IsEdgeLine at = Then IsConstant (λ dim. Then (IsNode 32) (λ mother. Then IsConstant (λ label. Then (IsNode 10) (λ daughter. Made (lines.Edge (record { dim = dim; mother = mother; label = label; daughter = daughter; at = at }))))))
+
+edge_law : (at : ℕ) → IsRead (edge_at at) (IsEdgeLine at)
 unfolding edge_at
-edge_read at e rest (mother, daughter, place) =
-    ap (λ o. after o (λ dim rest. after (node_at 32 rest) (λ mother rest. after (constant_at 32 rest) (λ label rest. after (node_at 10 rest) (λ daughter rest. Some (lines.Edge (record { dim = dim; mother = mother; label = label; daughter = daughter; at = at }), rest)))))) (constant_read 32 e.dim (decimal (e.mother.0 + 1) ++ 32 ∷ (constant e.label ++ 32 ∷ (decimal (e.daughter.0 + 1) ++ 10 ∷ rest))) space)
-    ∙ ap (λ o. after o (λ mother rest. after (constant_at 32 rest) (λ label rest. after (node_at 10 rest) (λ daughter rest. Some (lines.Edge (record { dim = e.dim; mother = mother; label = label; daughter = daughter; at = at }), rest))))) (node_read 32 e.mother (constant e.label ++ 32 ∷ (decimal (e.daughter.0 + 1) ++ 10 ∷ rest)) (lit< tt) mother)
-    ∙ ap (λ o. after o (λ label rest. after (node_at 10 rest) (λ daughter rest. Some (lines.Edge (record { dim = e.dim; mother = e.mother; label = label; daughter = daughter; at = at }), rest)))) (constant_read 32 e.label (decimal (e.daughter.0 + 1) ++ 10 ∷ rest) space)
-    ∙ ap (λ o. after o (λ daughter rest. Some (lines.Edge (record { dim = e.dim; mother = e.mother; label = e.label; daughter = daughter; at = at }), rest))) (node_read 10 e.daughter rest (lit< tt) daughter)
-    ∙ ap (λ z. Some (lines.Edge (record { dim = e.dim; mother = e.mother; label = e.label; daughter = e.daughter; at = z }), rest)) (sym place)
+edge_law at =
+    then_read _ _ _ _ constant_law (λ dim. then_read _ _ _ _ (node_law 32 (lit< tt)) (λ mother. then_read _ _ _ _ constant_law (λ label. then_read _ _ _ _ (node_law 10 (lit< tt)) (λ daughter. made_read _))))
 
-analysis_read : (number : ℕ) (rest : List ℕ) → 1 ≤ number → number ≤ 2000000000000 → analysis_at (decimal number ++ 10 ∷ rest) ≡ Some (lines.Analysis number, rest)
+abbrev IsNumberLine : Line → List ℕ → List ℕ → Type 0
+IsNumberLine = Then (IsNumber 10 1 2000000000000) (λ number. Made (lines.Analysis number))
+
+analysis_law : IsRead analysis_at IsNumberLine
 unfolding analysis_at
-analysis_read number rest low high = ap (λ o. after o (λ number rest. Some (lines.Analysis number, rest))) (number_read 10 1 2000000000000 number rest (lit< tt) low high (lit< tt))
+analysis_law = then_read _ _ _ _ (number_law 10 1 2000000000000 (lit< tt) (lit< tt)) (λ number. made_read _)
 
-counts_read : (words attrs edges : ℕ) (rest : List ℕ) → 1 ≤ words → words ≤ 128 → attrs ≤ 4294967295 → edges ≤ 4294967295 → counts_at (decimal words ++ 32 ∷ (decimal attrs ++ 32 ∷ (decimal edges ++ 10 ∷ rest))) ≡ Some (lines.Counts words attrs edges, rest)
+abbrev IsCountsLine : Line → List ℕ → List ℕ → Type 0
+IsCountsLine = Then (IsNumber 32 1 128) (λ words. Then (IsNumber 32 0 4294967295) (λ attrs. Then (IsNumber 10 0 4294967295) (λ edges. Made (lines.Counts words attrs edges))))
+
+counts_law : IsRead counts_at IsCountsLine
 unfolding counts_at
-counts_read words attrs edges rest low high few small =
-    ap (λ o. after o (λ words rest. after (number_at 32 0 4294967295 rest) (λ attrs rest. after (number_at 10 0 4294967295 rest) (λ edges rest. Some (lines.Counts words attrs edges, rest))))) (number_read 32 1 128 words (decimal attrs ++ 32 ∷ (decimal edges ++ 10 ∷ rest)) (lit< tt) low high (lit< tt))
-    ∙ ap (λ o. after o (λ attrs rest. after (number_at 10 0 4294967295 rest) (λ edges rest. Some (lines.Counts words attrs edges, rest)))) (number_read 32 0 4294967295 attrs (decimal edges ++ 10 ∷ rest) (lit< tt) (omega arith) few greatest_small)
-    ∙ ap (λ o. after o (λ edges rest. Some (lines.Counts words attrs edges, rest))) (number_read 10 0 4294967295 edges rest (lit< tt) (omega arith) small greatest_small)
+counts_law =
+    then_read _ _ _ _ (number_law 32 1 128 (lit< tt) (lit< tt)) (λ words. then_read _ _ _ _ (number_law 32 0 4294967295 (lit< tt) (lit< tt)) (λ attrs. then_read _ _ _ _ (number_law 10 0 4294967295 (lit< tt) (lit< tt)) (λ edges. made_read _)))
 
 pub version_is : version_line ≡ codes "xdg 2\n"
 unfolding digits
@@ -101,11 +136,25 @@ version_read at rest = refl
 pub line_read : (at : ℕ) (l : Line) (rest : List ℕ) → IsLine at l → line_at at (line_text l ++ rest) ≡ Some (l, rest)
 unfolding line_at
 line_read at lines.Version rest is = ap (λ z. line_at at (z ++ rest)) version_is ∙ version_read at rest
-line_read at (lines.Analysis number) rest (low, high) = ap (line_at at) (line_tail (codes "analysis") (decimal number ∷ []) rest) ∙ analysis_read number rest low high
-line_read at (lines.Counts words attrs edges) rest (low, high, few, small) = ap (line_at at) (line_tail (codes "counts") (decimal words ∷ decimal attrs ∷ decimal edges ∷ []) rest) ∙ counts_read words attrs edges rest low high few small
-line_read at (lines.Word node word entry) rest is = ap (line_at at) (line_tail (codes "word") (decimal (node.0 + 1) ∷ quoted word.text ∷ decimal (entry.0 + 1) ∷ []) rest) ∙ word_read at node word entry rest is
-line_read at (lines.Attr a) rest is = ap (line_at at) (line_tail (codes "attr") (constant a.dim ∷ decimal (a.node.0 + 1) ∷ constant a.attr ∷ value_text a.value ∷ []) rest) ∙ attr_read at a rest is
-line_read at (lines.Edge e) rest is = ap (line_at at) (line_tail (codes "edge") (constant e.dim ∷ decimal (e.mother.0 + 1) ∷ constant e.label ∷ decimal (e.daughter.0 + 1) ∷ []) rest) ∙ edge_read at e rest is
+line_read at (lines.Analysis number) rest (low, high) =
+    ap (line_at at) (line_tail (codes "analysis") (decimal number ∷ []) rest)
+    ∙ (analysis_law (lines.Analysis number) (decimal number ++ 10 ∷ rest) rest).0 (number, rest, record { parts = refl; low = low; high = high }, refl)
+line_read at (lines.Counts words attrs edges) rest (low, high, few, small) =
+    ap (line_at at) (line_tail (codes "counts") (decimal words ∷ decimal attrs ∷ decimal edges ∷ []) rest)
+    ∙ (counts_law (lines.Counts words attrs edges) (decimal words ++ 32 ∷ (decimal attrs ++ 32 ∷ (decimal edges ++ 10 ∷ rest))) rest).0
+    (words, _, record { parts = refl; low = low; high = high }, (attrs, _, record { parts = refl; low = omega arith; high = few }, (edges, rest, record { parts = refl; low = omega arith; high = small }, refl)))
+line_read at (lines.Word node word entry) rest (small, few, place) =
+    ap (line_at at) (line_tail (codes "word") (decimal (node.0 + 1) ∷ quoted word.text ∷ decimal (entry.0 + 1) ∷ []) rest)
+    ∙ (word_law at (lines.Word node word entry) (decimal (node.0 + 1) ++ 32 ∷ (quoted word.text ++ 32 ∷ (decimal (entry.0 + 1) ++ 10 ∷ rest))) rest).0
+    (node, _, record { parts = refl; within = small }, (word.text, _, refl, (entry.0, rest, record { parts = refl; within = few }, ap (λ z. pair (lines.Word node (record word { at = z }) entry) rest) (sym place))))
+line_read at (lines.Attr a) rest (small, has, place) =
+    ap (line_at at) (line_tail (codes "attr") (constant a.dim ∷ decimal (a.node.0 + 1) ∷ constant a.attr ∷ value_text a.value ∷ []) rest)
+    ∙ (attr_law at (lines.Attr a) (constant a.dim ++ 32 ∷ (decimal (a.node.0 + 1) ++ 32 ∷ (constant a.attr ++ 32 ∷ (value_text a.value ++ 10 ∷ rest)))) rest).0
+    (a.dim, _, refl, (a.node, _, record { parts = refl; within = small }, (a.attr, _, refl, (a.value, rest, record { parts = refl; has = has }, ap (λ z. pair (lines.Attr (record a { at = z })) rest) (sym place)))))
+line_read at (lines.Edge e) rest (mother, daughter, place) =
+    ap (line_at at) (line_tail (codes "edge") (constant e.dim ∷ decimal (e.mother.0 + 1) ∷ constant e.label ∷ decimal (e.daughter.0 + 1) ∷ []) rest)
+    ∙ (edge_law at (lines.Edge e) (constant e.dim ++ 32 ∷ (decimal (e.mother.0 + 1) ++ 32 ∷ (constant e.label ++ 32 ∷ (decimal (e.daughter.0 + 1) ++ 10 ∷ rest)))) rest).0
+    (e.dim, _, refl, (e.mother, _, record { parts = refl; within = mother }, (e.label, _, refl, (e.daughter, rest, record { parts = refl; within = daughter }, ap (λ z. pair (lines.Edge (record e { at = z })) rest) (sym place)))))
 line_read at lines.End rest is = refl
 
 -- what is read as a line, behind the words that begin it
@@ -113,91 +162,27 @@ pub record Spelled (at : ℕ) (bytes : List ℕ) (l : Line) (rest : List ℕ) : 
   pub parts : bytes ≡ line_text l ++ rest
   pub is : IsLine at l
 
-word_spelled : (at : ℕ) (bytes : List ℕ) (l : Line) (rest : List ℕ) → word_at at bytes ≡ Some (l, rest) → Spelled at (codes "word " ++ bytes) l rest
-unfolding word_at
-word_spelled at bytes l rest read =
-    let first = after_found (node_at 32 bytes) (λ node rest. after (quoted_at 32 rest) (λ text rest. after (ordinal_at 10 4294967295 rest) (λ entry rest. Some (lines.Word node (record { text = text; at = at }) (record { 0 = entry }), rest)))) (pair l rest) read in
-    let second = after_found (quoted_at 32 first.rest) (λ text rest. after (ordinal_at 10 4294967295 rest) (λ entry rest. Some (lines.Word first.value (record { text = text; at = at }) (record { 0 = entry }), rest))) (pair l rest) first.goes in
-    let third = after_found (ordinal_at 10 4294967295 second.rest) (λ entry rest. Some (lines.Word first.value (record { text = second.value; at = at }) (record { 0 = entry }), rest)) (pair l rest) second.goes in
-    let node = node_spelled 32 bytes first.value first.rest first.is in
-    let entry = ordinal_spelled 10 4294967295 third.value second.rest third.rest third.is in
-    let made : Line = lines.Word first.value (record { text = second.value; at = at }) (record { 0 = third.value }) in
-    subst (λ (p : Line × List ℕ). Spelled at (codes "word " ++ bytes) p.0 p.1) (some_same (pair made third.rest) (pair l rest) third.goes)
-    (record {
-      parts =
-          ap (λ z. codes "word " ++ z) (node.parts ∙ ap (λ z. decimal (first.value.0 + 1) ++ 32 ∷ z) (quoted_spelled 32 second.value first.rest second.rest second.is) ∙ ap (λ z. decimal (first.value.0 + 1) ++ 32 ∷ (quoted second.value ++ 32 ∷ z)) entry.parts)
-          ∙ sym (line_tail (codes "word") (decimal (first.value.0 + 1) ∷ quoted second.value ∷ decimal (third.value + 1) ∷ []) third.rest);
-      is = (node.within, entry.within, refl);
-    })
+spelled_as : (at : ℕ) (bytes : List ℕ) (made l : Line) (left rest : List ℕ) → pair made left ≡ pair l rest → bytes ≡ line_text made ++ left → IsLine at made → Spelled at bytes l rest
+spelled_as at bytes made l left rest same parts is = subst (λ (p : Line × List ℕ). Spelled at bytes p.0 p.1) same (record { parts = parts; is = is })
 
-attr_spelled : (at : ℕ) (bytes : List ℕ) (l : Line) (rest : List ℕ) → attr_at at bytes ≡ Some (l, rest) → Spelled at (codes "attr " ++ bytes) l rest
-unfolding attr_at
-attr_spelled at bytes l rest read =
-    let first = after_found (constant_at 32 bytes) (λ dim rest. after (node_at 32 rest) (λ node rest. after (constant_at 32 rest) (λ attr rest. after (value_at rest) (λ value rest. Some (lines.Attr (record { dim = dim; node = node; attr = attr; value = value; at = at }), rest))))) (pair l rest) read in
-    let second = after_found (node_at 32 first.rest) (λ node rest. after (constant_at 32 rest) (λ attr rest. after (value_at rest) (λ value rest. Some (lines.Attr (record { dim = first.value; node = node; attr = attr; value = value; at = at }), rest)))) (pair l rest) first.goes in
-    let third = after_found (constant_at 32 second.rest) (λ attr rest. after (value_at rest) (λ value rest. Some (lines.Attr (record { dim = first.value; node = second.value; attr = attr; value = value; at = at }), rest))) (pair l rest) second.goes in
-    let fourth = after_found (value_at third.rest) (λ value rest. Some (lines.Attr (record { dim = first.value; node = second.value; attr = third.value; value = value; at = at }), rest)) (pair l rest) third.goes in
-    let node = node_spelled 32 first.rest second.value second.rest second.is in
-    let value = value_spelled third.rest fourth.value fourth.rest fourth.is in
-    let made : Line = lines.Attr (record { dim = first.value; node = second.value; attr = third.value; value = fourth.value; at = at }) in
-    subst (λ (p : Line × List ℕ). Spelled at (codes "attr " ++ bytes) p.0 p.1) (some_same (pair made fourth.rest) (pair l rest) fourth.goes)
-    (record {
-      parts =
-          ap (λ z. codes "attr " ++ z) (constant_spelled 32 first.value bytes first.rest first.is
-          ∙ ap (λ z. constant first.value ++ 32 ∷ z) (node.parts
-          ∙ ap (λ z. decimal (second.value.0 + 1) ++ 32 ∷ z) (constant_spelled 32 third.value second.rest third.rest third.is
-          ∙ ap (λ z. constant third.value ++ 32 ∷ z) value.parts)))
-          ∙ sym (line_tail (codes "attr") (constant first.value ∷ decimal (second.value.0 + 1) ∷ constant third.value ∷ value_text fourth.value ∷ []) fourth.rest);
-      is = (node.within, value.has, refl);
-    })
+word_spelled : (at : ℕ) (bytes : List ℕ) (l : Line) (rest : List ℕ) → IsWord at l bytes rest → Spelled at (codes "word " ++ bytes) l rest
+word_spelled at bytes l rest (node, a, n, (text, b, t, (entry, c, e, same))) =
+    spelled_as at _ _ l c rest same (rw (n.parts, t, e.parts) (sym (line_tail (codes "word") (decimal (node.0 + 1) ∷ quoted text ∷ decimal (entry + 1) ∷ []) c))) (n.within, e.within, refl)
 
-edge_spelled : (at : ℕ) (bytes : List ℕ) (l : Line) (rest : List ℕ) → edge_at at bytes ≡ Some (l, rest) → Spelled at (codes "edge " ++ bytes) l rest
-unfolding edge_at
-edge_spelled at bytes l rest read =
-    let first = after_found (constant_at 32 bytes) (λ dim rest. after (node_at 32 rest) (λ mother rest. after (constant_at 32 rest) (λ label rest. after (node_at 10 rest) (λ daughter rest. Some (lines.Edge (record { dim = dim; mother = mother; label = label; daughter = daughter; at = at }), rest))))) (pair l rest) read in
-    let second = after_found (node_at 32 first.rest) (λ mother rest. after (constant_at 32 rest) (λ label rest. after (node_at 10 rest) (λ daughter rest. Some (lines.Edge (record { dim = first.value; mother = mother; label = label; daughter = daughter; at = at }), rest)))) (pair l rest) first.goes in
-    let third = after_found (constant_at 32 second.rest) (λ label rest. after (node_at 10 rest) (λ daughter rest. Some (lines.Edge (record { dim = first.value; mother = second.value; label = label; daughter = daughter; at = at }), rest))) (pair l rest) second.goes in
-    let fourth = after_found (node_at 10 third.rest) (λ daughter rest. Some (lines.Edge (record { dim = first.value; mother = second.value; label = third.value; daughter = daughter; at = at }), rest)) (pair l rest) third.goes in
-    let mother = node_spelled 32 first.rest second.value second.rest second.is in
-    let daughter = node_spelled 10 third.rest fourth.value fourth.rest fourth.is in
-    let made : Line = lines.Edge (record { dim = first.value; mother = second.value; label = third.value; daughter = fourth.value; at = at }) in
-    subst (λ (p : Line × List ℕ). Spelled at (codes "edge " ++ bytes) p.0 p.1) (some_same (pair made fourth.rest) (pair l rest) fourth.goes)
-    (record {
-      parts =
-          ap (λ z. codes "edge " ++ z) (constant_spelled 32 first.value bytes first.rest first.is
-          ∙ ap (λ z. constant first.value ++ 32 ∷ z) (mother.parts
-          ∙ ap (λ z. decimal (second.value.0 + 1) ++ 32 ∷ z) (constant_spelled 32 third.value second.rest third.rest third.is
-          ∙ ap (λ z. constant third.value ++ 32 ∷ z) daughter.parts)))
-          ∙ sym (line_tail (codes "edge") (constant first.value ∷ decimal (second.value.0 + 1) ∷ constant third.value ∷ decimal (fourth.value.0 + 1) ∷ []) fourth.rest);
-      is = (mother.within, daughter.within, refl);
-    })
+attr_spelled : (at : ℕ) (bytes : List ℕ) (l : Line) (rest : List ℕ) → IsAttrLine at l bytes rest → Spelled at (codes "attr " ++ bytes) l rest
+attr_spelled at bytes l rest (dim, a, d, (node, b, n, (attr, c, t, (value, left, v, same)))) =
+    spelled_as at _ _ l left rest same (rw (d, n.parts, t, v.parts) (sym (line_tail (codes "attr") (constant dim ∷ decimal (node.0 + 1) ∷ constant attr ∷ value_text value ∷ []) left))) (n.within, v.has, refl)
 
-analysis_spelled : (at : ℕ) (bytes : List ℕ) (l : Line) (rest : List ℕ) → analysis_at bytes ≡ Some (l, rest) → Spelled at (codes "analysis " ++ bytes) l rest
-unfolding analysis_at
-analysis_spelled at bytes l rest read =
-    let found = after_found (number_at 10 1 2000000000000 bytes) (λ number rest. Some (lines.Analysis number, rest)) (pair l rest) read in
-    let number = number_spelled 10 1 2000000000000 found.value bytes found.rest found.is in
-    let made : Line = lines.Analysis found.value in
-    subst (λ (p : Line × List ℕ). Spelled at (codes "analysis " ++ bytes) p.0 p.1) (some_same (pair made found.rest) (pair l rest) found.goes)
-    (record { parts = ap (λ z. codes "analysis " ++ z) number.parts ∙ sym (line_tail (codes "analysis") (decimal found.value ∷ []) found.rest); is = (number.low, number.high) })
+edge_spelled : (at : ℕ) (bytes : List ℕ) (l : Line) (rest : List ℕ) → IsEdgeLine at l bytes rest → Spelled at (codes "edge " ++ bytes) l rest
+edge_spelled at bytes l rest (dim, a, d, (mother, b, m, (label, c, t, (daughter, left, n, same)))) =
+    spelled_as at _ _ l left rest same (rw (d, m.parts, t, n.parts) (sym (line_tail (codes "edge") (constant dim ∷ decimal (mother.0 + 1) ∷ constant label ∷ decimal (daughter.0 + 1) ∷ []) left))) (m.within, n.within, refl)
 
-counts_spelled : (at : ℕ) (bytes : List ℕ) (l : Line) (rest : List ℕ) → counts_at bytes ≡ Some (l, rest) → Spelled at (codes "counts " ++ bytes) l rest
-unfolding counts_at
-counts_spelled at bytes l rest read =
-    let first = after_found (number_at 32 1 128 bytes) (λ words rest. after (number_at 32 0 4294967295 rest) (λ attrs rest. after (number_at 10 0 4294967295 rest) (λ edges rest. Some (lines.Counts words attrs edges, rest)))) (pair l rest) read in
-    let second = after_found (number_at 32 0 4294967295 first.rest) (λ attrs rest. after (number_at 10 0 4294967295 rest) (λ edges rest. Some (lines.Counts first.value attrs edges, rest))) (pair l rest) first.goes in
-    let third = after_found (number_at 10 0 4294967295 second.rest) (λ edges rest. Some (lines.Counts first.value second.value edges, rest)) (pair l rest) second.goes in
-    let words = number_spelled 32 1 128 first.value bytes first.rest first.is in
-    let attrs = number_spelled 32 0 4294967295 second.value first.rest second.rest second.is in
-    let edges = number_spelled 10 0 4294967295 third.value second.rest third.rest third.is in
-    let made : Line = lines.Counts first.value second.value third.value in
-    subst (λ (p : Line × List ℕ). Spelled at (codes "counts " ++ bytes) p.0 p.1) (some_same (pair made third.rest) (pair l rest) third.goes)
-    (record {
-      parts =
-          ap (λ z. codes "counts " ++ z) (words.parts ∙ ap (λ z. decimal first.value ++ 32 ∷ z) (attrs.parts ∙ ap (λ z. decimal second.value ++ 32 ∷ z) edges.parts))
-          ∙ sym (line_tail (codes "counts") (decimal first.value ∷ decimal second.value ∷ decimal third.value ∷ []) third.rest);
-      is = (words.low, words.high, attrs.high, edges.high);
-    })
+analysis_spelled : (at : ℕ) (bytes : List ℕ) (l : Line) (rest : List ℕ) → IsNumberLine l bytes rest → Spelled at (codes "analysis " ++ bytes) l rest
+analysis_spelled at bytes l rest (number, left, n, same) = spelled_as at _ _ l left rest same (rw n.parts (sym (line_tail (codes "analysis") (decimal number ∷ []) left))) (n.low, n.high)
+
+counts_spelled : (at : ℕ) (bytes : List ℕ) (l : Line) (rest : List ℕ) → IsCountsLine l bytes rest → Spelled at (codes "counts " ++ bytes) l rest
+counts_spelled at bytes l rest (words, a, w, (attrs, b, x, (edges, left, e, same))) =
+    spelled_as at _ _ l left rest same (rw (w.parts, x.parts, e.parts) (sym (line_tail (codes "counts") (decimal words ∷ decimal attrs ∷ decimal edges ∷ []) left))) (w.low, w.high, x.high, e.high)
 
 -- one of two ways
 choice : (at : ℕ) (bytes : List ℕ) (l : Line) (rest word : List ℕ) (f : List ℕ → Option (Line × List ℕ)) (other : Option (Line × List ℕ)) → ((left : List ℕ) → f left ≡ Some (l, rest) → Spelled at (word ++ left) l rest) → (other ≡ Some (l, rest) → Spelled at bytes l rest) → past_or (behind word bytes) f other ≡ Some (l, rest) → Spelled at bytes l rest
@@ -206,19 +191,15 @@ choice at bytes l rest word f other this later read = by (past_or_found (behind 
   by (inl passed) = subst (λ z. Spelled at z l rest) (sym (it_stands word bytes passed.rest passed.is)) (this passed.rest passed.goes)
   by (inr found) = later found
 
-simple : (at : ℕ) (made l : Line) (left rest : List ℕ) (word : List ℕ) → word ≡ line_text made → IsLine at made → Some (pair made left) ≡ Some (pair l rest) → Spelled at (word ++ left) l rest
-simple at made l left rest word written is found =
-    subst (λ (p : Line × List ℕ). Spelled at (word ++ left) p.0 p.1) (some_same (pair made left) (pair l rest) found) (record { parts = ap (λ z. z ++ left) written; is = is })
-
 -- what is read as a line is written so
 pub line_spelled : (at : ℕ) (bytes : List ℕ) (l : Line) (rest : List ℕ) → line_at at bytes ≡ Some (l, rest) → Spelled at bytes l rest
 unfolding line_at
 line_spelled at bytes l rest =
-    choice at bytes l rest (codes "word ") (word_at at) _ (λ left found. word_spelled at left l rest found)
-    (choice at bytes l rest (codes "attr ") (attr_at at) _ (λ left found. attr_spelled at left l rest found)
-    (choice at bytes l rest (codes "edge ") (edge_at at) _ (λ left found. edge_spelled at left l rest found)
-    (choice at bytes l rest (codes "end\n") (λ rest. Some (lines.End, rest)) _ (λ left found. simple at lines.End l left rest (codes "end\n") refl tt found)
-    (choice at bytes l rest (codes "analysis ") analysis_at _ (λ left found. analysis_spelled at left l rest found)
-    (choice at bytes l rest (codes "counts ") counts_at _ (λ left found. counts_spelled at left l rest found)
-    (choice at bytes l rest (codes "xdg 2\n") (λ rest. Some (lines.Version, rest)) None (λ left found. simple at lines.Version l left rest (codes "xdg 2\n") (sym version_is) tt found)
+    choice at bytes l rest (codes "word ") (word_at at) _ (λ left found. word_spelled at left l rest ((word_law at l left rest).1 found))
+    (choice at bytes l rest (codes "attr ") (attr_at at) _ (λ left found. attr_spelled at left l rest ((attr_law at l left rest).1 found))
+    (choice at bytes l rest (codes "edge ") (edge_at at) _ (λ left found. edge_spelled at left l rest ((edge_law at l left rest).1 found))
+    (choice at bytes l rest (codes "end\n") (λ rest. Some (lines.End, rest)) _ (λ left found. spelled_as at _ lines.End l left rest (some_same _ _ found) refl tt)
+    (choice at bytes l rest (codes "analysis ") analysis_at _ (λ left found. analysis_spelled at left l rest ((analysis_law l left rest).1 found))
+    (choice at bytes l rest (codes "counts ") counts_at _ (λ left found. counts_spelled at left l rest ((counts_law l left rest).1 found))
+    (choice at bytes l rest (codes "xdg 2\n") (λ rest. Some (lines.Version, rest)) None (λ left found. spelled_as at _ lines.Version l left rest (some_same _ _ found) (ap (λ z. z ++ left) (sym version_is)) tt)
     (λ found. absurd (none_some (pair l rest) found))))))))

@@ -51,12 +51,12 @@ number_read end least most n rest ends low high small =
     ∙ ap (λ o. and o rest) (number_is least most n low high (omega (arith, within)))
 
 -- what is read as a number
-pub record IsNumber (end least most : ℕ) (bytes : List ℕ) (n : ℕ) (rest : List ℕ) : Type 0 where
+pub record IsNumber (end least most n : ℕ) (bytes rest : List ℕ) : Type 0 where
   pub parts : bytes ≡ decimal n ++ end ∷ rest
   pub low : least ≤ n
   pub high : n ≤ most
 
-is_number : (end least most : ℕ) (digits bytes left : List ℕ) (m n : ℕ) (rest : List ℕ) → bytes ≡ digits ++ end ∷ left → number_of least most digits ≡ Some m → pair m left ≡ pair n rest → IsNumber end least most bytes n rest
+is_number : (end least most : ℕ) (digits bytes left : List ℕ) (m n : ℕ) (rest : List ℕ) → bytes ≡ digits ++ end ∷ left → number_of least most digits ≡ Some m → pair m left ≡ pair n rest → IsNumber end least most n bytes rest
 unfolding number_of
 is_number end least most digits bytes left m n rest parts found both =
     let kept = cond_found (bytes_eq (decimal (value_of digits)) digits && nat_le least (value_of digits) && nat_le (value_of digits) most) (value_of digits) m found in
@@ -74,7 +74,7 @@ is_number end least most digits bytes left m n rest parts found both =
     }
 
 -- and nothing else is
-pub number_spelled : (end least most n : ℕ) (bytes rest : List ℕ) → number_at end least most bytes ≡ Some (n, rest) → IsNumber end least most bytes n rest
+pub number_spelled : (end least most n : ℕ) (bytes rest : List ℕ) → number_at end least most bytes ≡ Some (n, rest) → IsNumber end least most n bytes rest
 unfolding number_at
 number_spelled end least most n bytes rest read =
     let cut = after_found (until end bytes) (λ digits rest. and (number_of least most digits) rest) (n, rest) read in
@@ -88,11 +88,11 @@ ordinal_read end most n rest ends high small =
     ap (λ o. after o (λ number rest. Some (number - 1, rest))) (number_read end 1 most (n + 1) rest ends (omega arith) (omega (arith, high)) small)
     ∙ ap (λ k. Some (k, rest)) (omega arith)
 
-pub record IsOrdinal (end most : ℕ) (bytes : List ℕ) (n : ℕ) (rest : List ℕ) : Type 0 where
+pub record IsOrdinal (end most n : ℕ) (bytes rest : List ℕ) : Type 0 where
   pub parts : bytes ≡ decimal (n + 1) ++ end ∷ rest
   pub within : n < most
 
-pub ordinal_spelled : (end most n : ℕ) (bytes rest : List ℕ) → ordinal_at end most bytes ≡ Some (n, rest) → IsOrdinal end most bytes n rest
+pub ordinal_spelled : (end most n : ℕ) (bytes rest : List ℕ) → ordinal_at end most bytes ≡ Some (n, rest) → IsOrdinal end most n bytes rest
 unfolding ordinal_at
 ordinal_spelled end most n bytes rest read =
     let found = after_found (number_at end 1 most bytes) (λ number rest. Some (number - 1, rest)) (n, rest) read in

@@ -20,7 +20,7 @@ use Rattle.xdg_reading.specs.declared.texts.EdgeLine.{EdgeLine}
 use Rattle.xdg_reading.specs.Gathered.{Whole}
 use Rattle.xdg_reading.specs.Lines.{line_text, text_of, IsLine, line_at}
 use Rattle.xdg_reading.specs.Stages.{next, Goes, OffendsAt}
-use Rattle.xdg_reading.specs.Texts.{word_lines, lines_of, lines2_of, Placed, HasLines, IsText, IsRefused, no_text, no_analysis, IsAnswer, Tells}
+use Rattle.xdg_reading.specs.Texts.{word_lines, lines_of, lines2_of, Placed, IsText, IsRefused, no_text, no_analysis, IsAnswer, Tells}
 use Rattle.xdg_base.specs.Told.{Gives}
 use Rattle.xdg_reading.proofs.LineLaws.{line_read}
 use Rattle.xdg_reading.proofs.Shapes.{whole_text, words_in, entries_in, attrs_in, edges_in, edge_lines, attr_lines}
@@ -100,37 +100,27 @@ words_say k (w ∷ ws) [] xs es each = absurd (omega (arith, each))
 words_say k (w ∷ ws) (entry ∷ entries) xs es each = let more = words_say (suc k) ws entries xs es (omega (arith, each)) in record { words = ap (λ z. w ∷ z) more.words; entries_are = ap (λ z. entry ∷ z) more.entries_are; attrs = more.attrs; edges = more.edges }
 
 -- a text is read to its end
-text1_whole : (bytes : List ℕ) (t : AnalysisText) (number : ℕ) → HasLines bytes t (lines_of number t) → Whole bytes t
-text1_whole bytes t number has =
+pub text_whole : (bytes : List ℕ) (t : AnalysisText) → IsText bytes t → Whole bytes t
+text_whole bytes t (number, inl has) =
     let say = words_say 0 t.words t.entries t.attrs t.edges has.each in
-    let placed = has.placed in
-    let place : ℕ = 0 + length (line_text (lines.Analysis number)) in
     record {
       lines = lines_of number t;
-      goes = (placed.0, (stages.Words 0, refl, words_go place 0 t.words t.entries t.attrs t.edges has.each (λ first. has.some) placed.1));
+      goes = (has.placed.0, (stages.Words 0, refl, words_go _ 0 t.words t.entries t.attrs t.edges has.each (λ first. has.some) has.placed.1));
       parts = has.parts;
       holds = record { words = sym say.words; entries = sym say.entries_are; attrs = sym say.attrs; edges = sym say.edges };
       end = has.end;
     }
-
-text2_whole : (bytes : List ℕ) (t : AnalysisText) (number : ℕ) → HasLines bytes t (lines2_of number t) → Whole bytes t
-text2_whole bytes t number has =
+text_whole bytes t (number, inr has) =
     let say = words_say 0 t.words t.entries t.attrs t.edges has.each in
     let placed = has.placed in
-    let first : ℕ = 0 + length (line_text lines.Version) in
-    let second : ℕ = first + length (line_text (lines.Analysis number)) in
-    let third : ℕ = second + length (line_text (lines.Counts (length t.words) (length t.attrs) (length t.edges))) in
+    let left = words_left _ 0 t.words t.entries t.attrs t.edges has.each placed.1.1.1 in
     record {
       lines = lines2_of number t;
-      goes = (placed.0, (stages.Second, refl, (placed.1.0, (stages.Numbered, refl, (placed.1.1.0, (stages.Left 0 (length t.words) (length t.attrs) (length t.edges), refl, words_left third 0 t.words t.entries t.attrs t.edges has.each placed.1.1.1))))));
+      goes = (placed.0, (stages.Second, refl, (placed.1.0, (stages.Numbered, refl, (placed.1.1.0, (stages.Left 0 (length t.words) (length t.attrs) (length t.edges), refl, left))))));
       parts = has.parts;
       holds = record { words = sym say.words; entries = sym say.entries_are; attrs = sym say.attrs; edges = sym say.edges };
       end = has.end;
     }
-
-pub text_whole : (bytes : List ℕ) (t : AnalysisText) → IsText bytes t → Whole bytes t
-text_whole bytes t (number, inl has) = text1_whole bytes t number has
-text_whole bytes t (number, inr has) = text2_whole bytes t number has
 
 -- no line may come any more
 abbrev Dead : ℕ → Stage → List ℕ → Type 0
@@ -169,12 +159,7 @@ whole_dead : (at : ℕ) → Dead at stages.Ended []
 whole_dead at l more later is parts step = none_some later step
 
 same_text : (t o : AnalysisText) → t.words ≡ o.words → t.entries ≡ o.entries → t.attrs ≡ o.attrs → t.edges ≡ o.edges → t.end ≡ o.end → t ≡ o
-same_text t o words entries attrs edges end =
-    ap (λ z. record { words = z; entries = t.entries; attrs = t.attrs; edges = t.edges; end = t.end }) words
-    ∙ ap (λ z. record { words = o.words; entries = z; attrs = t.attrs; edges = t.edges; end = t.end }) entries
-    ∙ ap (λ z. record { words = o.words; entries = o.entries; attrs = z; edges = t.edges; end = t.end }) attrs
-    ∙ ap (λ z. record { words = o.words; entries = o.entries; attrs = o.attrs; edges = z; end = t.end }) edges
-    ∙ ap (λ z. record { words = o.words; entries = o.entries; attrs = o.attrs; edges = o.edges; end = z }) end
+same_text t o words entries attrs edges end = λ i. record { words = words i; entries = entries i; attrs = attrs i; edges = edges i; end = end i }
 
 whole_whole : (bytes : List ℕ) (t o : AnalysisText) → Whole bytes t → Whole bytes o → t ≡ o
 whole_whole bytes t o a b =

@@ -1,17 +1,16 @@
 -- The text that an analysis has, with the places of its lines.
-use Rattle.std.proofs.Common.{◌≡◌, ◌<◌, ◌≤◌, ◌+◌, ◌++◌, ℕ, zero, suc, List, [], ◌∷◌, length, map, get_or, refl, sym, ap, ◌∙◌, subst, arith, Some, None, Option, length-append}
+use Rattle.std.proofs.Common.{◌≡◌, ◌<◌, ◌≤◌, ◌+◌, ◌++◌, ℕ, suc, List, [], ◌∷◌, length, map, get_or, refl, sym, ap, ◌∙◌, subst, arith, Some, None, Option, length-append}
 use Rattle.std.proofs.lemmas.List.Elements.{recursion_from_All}
-use Rattle.std.specs.List.{flat_map, AllByRecursion}
+use Rattle.std.specs.List.{AllByRecursion}
 use Rattle.xdg_base.specs.declared.ids.EntryNo.{EntryNo}
 use Rattle.xdg_facts.specs.Fits.{Fits}
 use Rattle.xdg_problem.specs.declared.analysis.Analysis.{Analysis}
 use Rattle.xdg_problem.specs.declared.analysis.Edge.{Edge}
-use Rattle.xdg_problem.specs.declared.parts.AttrPlan.{AttrPlan}
 use Rattle.xdg_problem.specs.declared.parts.DimPlan.{DimPlan}
 use Rattle.xdg_problem.specs.declared.parts.Parts.{Parts}
 use Rattle.xdg_problem.specs.declared.parts.SentenceWord.{SentenceWord}
 use Rattle.xdg_problem.specs.Analyses.{HasCandidates, IsPlace, EdgesRise, IsAnalysis}
-use Rattle.xdg_problem.specs.Places.{numbers_from, nodes}
+use Rattle.xdg_problem.specs.Places.{nodes}
 use Rattle.xdg_problem.specs.Problems.{IsProblem, AreCandidates}
 use Rattle.xdg_reading.specs.declared.line.Line.{Line}
 use Rattle.xdg_reading.specs.declared.line.Line.TheVariants as lines
@@ -24,7 +23,7 @@ use Rattle.xdg_text.specs.Blocks.{no_plan, no_value}
 use Rattle.xdg_text.specs.Lines.{word_line}
 use Rattle.xdg_reading.specs.Blocks.{HasWords}
 use Rattle.xdg_reading.specs.Fits.{SayValues, SayEdges, Follows, Shows}
-use Rattle.xdg_reading.specs.Slots.{Asked, node_slots, dim_slots, slots}
+use Rattle.xdg_reading.specs.Slots.{Asked, slots}
 use Rattle.xdg_reading.proofs.Attributes.{AreAttrs, are_attrs, size, sizes_are}
 use Rattle.xdg_reading.proofs.Written.{texts}
 
@@ -76,31 +75,10 @@ attrs_say at [] (v ∷ values) fits count = absurd (omega (arith, count))
 attrs_say at (a ∷ asked) [] fits count = absurd (omega (arith, count))
 attrs_say at (a ∷ asked) (v ∷ values) fits count = (record { dim = refl; node = refl; attr = refl; within = fits.0; is = refl }, attrs_say (behind_attr at a v) asked values fits.1 (omega (arith, count)))
 
--- each attribute is one of a node of the sentence
-abbrev Within : ℕ → List Asked → Type 0
-Within n [] = Unit {0}
-Within n (a ∷ asked) = (a.node < n) × Within n asked
-
-within_both : (n : ℕ) (xs ys : List Asked) → Within n xs → Within n ys → Within n (xs ++ ys)
-within_both n [] ys a b = b
-within_both n (x ∷ xs) ys a b = (a.0, within_both n xs ys a.1 b)
-
-within_node : (n : ℕ) (dim : List ℕ) (node : ℕ) (attrs : List AttrPlan) → node < n → Within n (map (λ attr. record { dim = dim; node = node; attr = attr }) attrs)
-within_node n dim node [] small = tt
-within_node n dim node (attr ∷ attrs) small = (small, within_node n dim node attrs small)
-
-within_nodes : (n : ℕ) (plan : DimPlan) (first count : ℕ) → first + count ≤ n → Within n (flat_map (node_slots plan) (numbers_from first count))
-within_nodes n plan first zero few = tt
-within_nodes n plan first (suc count) few = within_both n (node_slots plan first) (flat_map (node_slots plan) (numbers_from (suc first) count)) (within_node n plan.name first plan.attrs (omega (arith, few))) (within_nodes n plan (suc first) count (omega (arith, few)))
-
-within_dims : (n : ℕ) (plans : List DimPlan) → Within n (slots n plans)
-within_dims n [] = tt
-within_dims n (plan ∷ plans) = within_both n (dim_slots n plan) (slots n plans) (within_nodes n plan 0 n (omega arith)) (within_dims n plans)
-
-attrs_placed : (at n : ℕ) (asked : List Asked) (values : List ℕ) → n ≤ 128 → Within n asked → AreAttrs asked → Fits (map size asked) values → Placed at (map lines.Attr (attrs_at at asked values))
-attrs_placed at n asked [] few within are fits = tt
-attrs_placed at n [] (v ∷ values) few within are fits = tt
-attrs_placed at n (a ∷ asked) (v ∷ values) few within are fits = ((omega (arith, few, within.0), are.0.shown_as v no_value fits.0, refl), attrs_placed (behind_attr at a v) n asked values few within.1 are.1 fits.1)
+attrs_placed : (at n : ℕ) (asked : List Asked) (values : List ℕ) → n ≤ 128 → AreAttrs n asked → Fits (map size asked) values → Placed at (map lines.Attr (attrs_at at asked values))
+attrs_placed at n asked [] few are fits = tt
+attrs_placed at n [] (v ∷ values) few are fits = tt
+attrs_placed at n (a ∷ asked) (v ∷ values) few are fits = ((omega (arith, few, are.0.1), are.0.0.shown_as v no_value fits.0, refl), attrs_placed (behind_attr at a v) n asked values few are.1 fits.1)
 
 -- the line of an edge
 abbrev pub edge_at : List DimPlan → ℕ → Edge → EdgeLine
@@ -164,7 +142,7 @@ body_placed parts a start problem is =
     placed_both start (word_lines 0 t.words t.entries) (map lines.Attr t.attrs ++ (map lines.Edge t.edges ++ lines.End ∷ []))
     (words_placed start 0 0 parts.words a.entries (omega (arith, problem.most)) (small_entries parts.candidates a.entries (recursion_from_All AreCandidates parts.candidates problem.candidates) is.entries))
     (placed_both _ (map lines.Attr t.attrs) (map lines.Edge t.edges ++ lines.End ∷ [])
-    (attrs_placed _ (nodes parts) (slots (nodes parts) parts.dims) a.attrs problem.most (within_dims (nodes parts) parts.dims) (are_attrs parts problem) (slots_fit parts a is))
+    (attrs_placed _ (nodes parts) (slots (nodes parts) parts.dims) a.attrs problem.most (are_attrs parts problem) (slots_fit parts a is))
     (placed_both _ (map lines.Edge t.edges) (lines.End ∷ [])
     (edges_placed parts _ a.edges problem.most (recursion_from_All (IsPlace parts) a.edges is.places))
     (tt, tt)))

@@ -1,5 +1,5 @@
 -- Lines from the first to the last are those of a text, and those of a text go from the first to the last.
-use Rattle.std.proofs.Common.{◌≡◌, ◌<◌, ◌≤◌, ◌++◌, ◌+◌, ◌-◌, ◌==◌, ◌&&◌, ◌⊎◌, inl, inr, ℕ, suc, List, [], ◌∷◌, length, map, refl, sym, ap, ap₂, ◌∙◌, subst, arith, false, nat_lt, add-one}
+use Rattle.std.proofs.Common.{◌≡◌, ◌<◌, ◌≤◌, ◌++◌, ◌+◌, ◌-◌, ◌==◌, ◌&&◌, ◌⊎◌, inl, inr, ℕ, suc, List, [], ◌∷◌, length, map, refl, sym, ap, ap₂, ◌∙◌, subst, arith, nat_lt, add-one}
 use Rattle.std.proofs.lemmas.Bool.{eqb-true, eqb-false, and_parts, ltb-true}
 use Rattle.std.specs.List.{flat_map}
 use Rattle.xdg_base.specs.declared.ids.NodeId.{NodeId}
@@ -91,47 +91,40 @@ ended : (at : ℕ) (m : Stage) (ls : List Line) → m ≡ stages.Ended → Goes 
 ended at m ls same goes = no_lines at ls (subst (λ z. Goes at z ls stages.Ended) same goes)
 
 -- in text 1
-edges_shape : (at : ℕ) (ls : List Line) → Goes at stages.Edges ls stages.Ended → Edges ls
-edges_shape at [] goes = cc
-edges_shape at (lines.Edge e ∷ ls) (is, (m, step, more)) = one_edge e ls (edges_shape (at + length (line_text (lines.Edge e))) ls (subst (λ z. Goes (at + length (line_text (lines.Edge e))) z ls stages.Ended) (sym (some_same stages.Edges m step)) more))
-edges_shape at (lines.End ∷ ls) (is, (m, step, more)) = subst (λ z. Edges (lines.End ∷ z)) (sym (ended (at + length (line_text lines.End)) m ls (sym (some_same stages.Ended m step)) more)) only_end
-edges_shape at (l ∷ ls) (is, (m, step, more)) = absurd (none_some m step)
+edges_shape : (ls : List Line) (at : ℕ) → Goes at stages.Edges ls stages.Ended → Edges ls
+edges_shape [] at goes = cc
+edges_shape (lines.Edge e ∷ ls) at (is, (m, step, more)) = one_edge e ls (edges_shape ls _ (rw (← some_same stages.Edges m step) at more))
+edges_shape (lines.End ∷ ls) at (is, (m, step, more)) = subst (λ z. Edges (lines.End ∷ z)) (sym (ended _ m ls (sym (some_same stages.Ended m step)) more)) only_end
+edges_shape (l ∷ ls) at (is, (m, step, more)) = absurd (none_some m step)
 
-attrs_shape : (at : ℕ) (ls : List Line) → Goes at stages.Attrs ls stages.Ended → Attrs ls
-attrs_shape at [] goes = cc
-attrs_shape at (lines.Attr a ∷ ls) (is, (m, step, more)) = one_attr a ls (attrs_shape (at + length (line_text (lines.Attr a))) ls (subst (λ z. Goes (at + length (line_text (lines.Attr a))) z ls stages.Ended) (sym (some_same stages.Attrs m step)) more))
-attrs_shape at (lines.Edge e ∷ ls) (is, (m, step, more)) = as_attrs (lines.Edge e ∷ ls) (one_edge e ls (edges_shape (at + length (line_text (lines.Edge e))) ls (subst (λ z. Goes (at + length (line_text (lines.Edge e))) z ls stages.Ended) (sym (some_same stages.Edges m step)) more)))
-attrs_shape at (lines.End ∷ ls) (is, (m, step, more)) = subst (λ z. Attrs (lines.End ∷ z)) (sym (ended (at + length (line_text lines.End)) m ls (sym (some_same stages.Ended m step)) more)) (as_attrs (lines.End ∷ []) only_end)
-attrs_shape at (l ∷ ls) (is, (m, step, more)) = absurd (none_some m step)
-
-not_zero : (k : ℕ) → (k == 0) ≡ false → k ≡ 0 → ⊥
-not_zero k e = eqb-false k 0 e
+attrs_shape : (ls : List Line) (at : ℕ) → Goes at stages.Attrs ls stages.Ended → Attrs ls
+attrs_shape [] at goes = cc
+attrs_shape (lines.Attr a ∷ ls) at (is, (m, step, more)) = one_attr a ls (attrs_shape ls _ (rw (← some_same stages.Attrs m step) at more))
+attrs_shape (lines.Edge e ∷ ls) at (is, (m, step, more)) = as_attrs (lines.Edge e ∷ ls) (one_edge e ls (edges_shape ls _ (rw (← some_same stages.Edges m step) at more)))
+attrs_shape (lines.End ∷ ls) at (is, (m, step, more)) = subst (λ z. Attrs (lines.End ∷ z)) (sym (ended _ m ls (sym (some_same stages.Ended m step)) more)) (as_attrs (lines.End ∷ []) only_end)
+attrs_shape (l ∷ ls) at (is, (m, step, more)) = absurd (none_some m step)
 
 record WordsFrom (k : ℕ) (ls : List Line) : Type 0 where
   pub shape : Words k ls
   pub some : k ≡ 0 → 0 < length (words_in ls)
 
-words_shape : (at k : ℕ) (ls : List Line) → Goes at (stages.Words k) ls stages.Ended → WordsFrom k ls
-words_shape at k [] goes = cc
-words_shape at k (lines.Word node word entry ∷ ls) (is, (m, step, more)) =
+words_shape : (ls : List Line) (at k : ℕ) → Goes at (stages.Words k) ls stages.Ended → WordsFrom k ls
+words_shape [] at k goes = cc
+words_shape (lines.Word node word entry ∷ ls) at k (is, (m, step, more)) =
     let both = cond_found (node.0 == k) (stages.Words (node.0 + 1)) m step in
     let same : node.0 ≡ k = eqb-true node.0 k both.0 in
-    let place : ℕ = at + length (line_text (lines.Word node word entry)) in
-    let left = words_shape place (node.0 + 1) ls (subst (λ z. Goes place z ls stages.Ended) (sym both.1) more) in
+    let left = words_shape ls _ (node.0 + 1) (rw (← both.1) at more) in
     record { shape = subst (λ n. Words n (lines.Word node word entry ∷ ls)) same (one_word node word entry ls left.shape); some = λ first. omega arith }
-words_shape at k (lines.Attr a ∷ ls) (is, (m, step, more)) =
+words_shape (lines.Attr a ∷ ls) at k (is, (m, step, more)) =
     let both = cond_left (k == 0) stages.Attrs m step in
-    let place : ℕ = at + length (line_text (lines.Attr a)) in
-    record { shape = as_words k (lines.Attr a ∷ ls) (one_attr a ls (attrs_shape place ls (subst (λ z. Goes place z ls stages.Ended) (sym both.1) more))); some = λ first. absurd (not_zero k both.0 first) }
-words_shape at k (lines.Edge e ∷ ls) (is, (m, step, more)) =
+    record { shape = as_words k (lines.Attr a ∷ ls) (one_attr a ls (attrs_shape ls _ (rw (← both.1) at more))); some = λ first. absurd (eqb-false k 0 both.0 first) }
+words_shape (lines.Edge e ∷ ls) at k (is, (m, step, more)) =
     let both = cond_left (k == 0) stages.Edges m step in
-    let place : ℕ = at + length (line_text (lines.Edge e)) in
-    record { shape = as_words k (lines.Edge e ∷ ls) (as_attrs (lines.Edge e ∷ ls) (one_edge e ls (edges_shape place ls (subst (λ z. Goes place z ls stages.Ended) (sym both.1) more)))); some = λ first. absurd (not_zero k both.0 first) }
-words_shape at k (lines.End ∷ ls) (is, (m, step, more)) =
+    record { shape = as_words k (lines.Edge e ∷ ls) (as_attrs (lines.Edge e ∷ ls) (one_edge e ls (edges_shape ls _ (rw (← both.1) at more)))); some = λ first. absurd (eqb-false k 0 both.0 first) }
+words_shape (lines.End ∷ ls) at k (is, (m, step, more)) =
     let both = cond_left (k == 0) stages.Ended m step in
-    let place : ℕ = at + length (line_text lines.End) in
-    record { shape = subst (λ z. Words k (lines.End ∷ z)) (sym (ended place m ls (sym both.1) more)) (as_words k (lines.End ∷ []) (as_attrs (lines.End ∷ []) only_end)); some = λ first. absurd (not_zero k both.0 first) }
-words_shape at k (l ∷ ls) (is, (m, step, more)) = absurd (none_some m step)
+    record { shape = subst (λ z. Words k (lines.End ∷ z)) (sym (ended _ m ls (sym both.1) more)) (as_words k (lines.End ∷ []) (as_attrs (lines.End ∷ []) only_end)); some = λ first. absurd (eqb-false k 0 both.0 first) }
+words_shape (l ∷ ls) at k (is, (m, step, more)) = absurd (none_some m step)
 
 -- in text 2
 record Counted (k words attrs edges : ℕ) (ls : List Line) : Type 0 where
@@ -152,48 +145,44 @@ to_attrs k ls words none =
 to_edges : (ls : List Line) → Attrs ls → attrs_in ls ≡ [] → Edges ls
 to_edges ls attrs none = record { words = attrs.words; entries = attrs.entries; attrs = none; is = attrs.is ∙ ap (λ z. map lines.Attr z ++ edge_lines (edges_in ls)) none }
 
-left_shape : (at k words attrs edges : ℕ) (ls : List Line) → Goes at (stages.Left k words attrs edges) ls stages.Ended → Counted k words attrs edges ls
-left_shape at k words attrs edges [] goes = cc
-left_shape at k words attrs edges (lines.Word node word entry ∷ ls) (is, (m, step, more)) =
+left_shape : (ls : List Line) (at k words attrs edges : ℕ) → Goes at (stages.Left k words attrs edges) ls stages.Ended → Counted k words attrs edges ls
+left_shape [] at k words attrs edges goes = cc
+left_shape (lines.Word node word entry ∷ ls) at k words attrs edges (is, (m, step, more)) =
     let both = cond_found (nat_lt 0 words && (node.0 == k)) (stages.Left (node.0 + 1) (words - 1) attrs edges) m step in
     let tests = and_parts (nat_lt 0 words) (node.0 == k) both.0 in
     let some : 0 < words = ltb-true 0 words tests.0 in
     let same : node.0 ≡ k = eqb-true node.0 k tests.1 in
-    let place : ℕ = at + length (line_text (lines.Word node word entry)) in
-    let left = left_shape place (node.0 + 1) (words - 1) attrs edges ls (subst (λ z. Goes place z ls stages.Ended) (sym both.1) more) in
+    let left = left_shape ls _ (node.0 + 1) (words - 1) attrs edges (rw (← both.1) at more) in
     record { shape = subst (λ n. Words n (lines.Word node word entry ∷ ls)) same (one_word node word entry ls left.shape); words_are = omega (arith, some, left.words_are); attrs_are = left.attrs_are; edges_are = left.edges_are }
-left_shape at k words attrs edges (lines.Attr a ∷ ls) (is, (m, step, more)) =
+left_shape (lines.Attr a ∷ ls) at k words attrs edges (is, (m, step, more)) =
     let both = cond_found ((words == 0) && nat_lt 0 attrs) (stages.Left k words (attrs - 1) edges) m step in
     let tests = and_parts (words == 0) (nat_lt 0 attrs) both.0 in
     let none : words ≡ 0 = eqb-true words 0 tests.0 in
     let some : 0 < attrs = ltb-true 0 attrs tests.1 in
-    let place : ℕ = at + length (line_text (lines.Attr a)) in
-    let left = left_shape place k words (attrs - 1) edges ls (subst (λ z. Goes place z ls stages.Ended) (sym both.1) more) in
+    let left = left_shape ls _ k words (attrs - 1) edges (rw (← both.1) at more) in
     let no_words : words_in ls ≡ [] = none_of (words_in ls) words left.words_are none in
     record { shape = as_words k (lines.Attr a ∷ ls) (one_attr a ls (to_attrs k ls left.shape no_words)); words_are = left.words_are; attrs_are = omega (arith, some, left.attrs_are); edges_are = left.edges_are }
-left_shape at k words attrs edges (lines.Edge e ∷ ls) (is, (m, step, more)) =
+left_shape (lines.Edge e ∷ ls) at k words attrs edges (is, (m, step, more)) =
     let both = cond_found ((words == 0) && (attrs == 0) && nat_lt 0 edges) (stages.Left k words attrs (edges - 1)) m step in
     let outer = and_parts ((words == 0) && (attrs == 0)) (nat_lt 0 edges) both.0 in
     let tests = and_parts (words == 0) (attrs == 0) outer.0 in
     let none : words ≡ 0 = eqb-true words 0 tests.0 in
     let bare : attrs ≡ 0 = eqb-true attrs 0 tests.1 in
     let some : 0 < edges = ltb-true 0 edges outer.1 in
-    let place : ℕ = at + length (line_text (lines.Edge e)) in
-    let left = left_shape place k words attrs (edges - 1) ls (subst (λ z. Goes place z ls stages.Ended) (sym both.1) more) in
+    let left = left_shape ls _ k words attrs (edges - 1) (rw (← both.1) at more) in
     let no_words : words_in ls ≡ [] = none_of (words_in ls) words left.words_are none in
     let no_attrs : attrs_in ls ≡ [] = none_of (attrs_in ls) attrs left.attrs_are bare in
     record { shape = as_words k (lines.Edge e ∷ ls) (as_attrs (lines.Edge e ∷ ls) (one_edge e ls (to_edges ls (to_attrs k ls left.shape no_words) no_attrs))); words_are = left.words_are; attrs_are = left.attrs_are; edges_are = omega (arith, some, left.edges_are) }
-left_shape at k words attrs edges (lines.End ∷ ls) (is, (m, step, more)) =
+left_shape (lines.End ∷ ls) at k words attrs edges (is, (m, step, more)) =
     let both = cond_found ((words == 0) && (attrs == 0) && (edges == 0)) stages.Ended m step in
     let outer = and_parts ((words == 0) && (attrs == 0)) (edges == 0) both.0 in
     let tests = and_parts (words == 0) (attrs == 0) outer.0 in
     let none : words ≡ 0 = eqb-true words 0 tests.0 in
     let bare : attrs ≡ 0 = eqb-true attrs 0 tests.1 in
     let lone : edges ≡ 0 = eqb-true edges 0 outer.1 in
-    let place : ℕ = at + length (line_text lines.End) in
-    subst (λ z. Counted k words attrs edges (lines.End ∷ z)) (sym (ended place m ls (sym both.1) more))
+    subst (λ z. Counted k words attrs edges (lines.End ∷ z)) (sym (ended _ m ls (sym both.1) more))
     (record { shape = as_words k (lines.End ∷ []) (as_attrs (lines.End ∷ []) only_end); words_are = sym none; attrs_are = sym bare; edges_are = sym lone })
-left_shape at k words attrs edges (l ∷ ls) (is, (m, step, more)) = absurd (none_some m step)
+left_shape (l ∷ ls) at k words attrs edges (is, (m, step, more)) = absurd (none_some m step)
 
 -- the lines are those of a text
 pub record Lines (t : AnalysisText) (ls all : List Line) : Type 0 where
@@ -210,7 +199,7 @@ body_is t ls words entries attrs edges shape =
 -- behind the number of text 1
 text1_lines : (t : AnalysisText) (number : ℕ) (at : ℕ) (ls : List Line) → Holds t (lines.Analysis number ∷ ls) → Goes at (stages.Words 0) ls stages.Ended → Lines t (lines.Analysis number ∷ ls) (lines_of number t)
 text1_lines t number at ls holds goes =
-    let from = words_shape at 0 ls goes in
+    let from = words_shape ls at 0 goes in
     record {
       is = ap (λ z. lines.Analysis number ∷ z) (body_is t ls holds.words holds.entries holds.attrs holds.edges from.shape);
       some = subst (λ w. 0 < length w) (sym holds.words) (from.some refl);
@@ -220,7 +209,7 @@ text1_lines t number at ls holds goes =
 -- behind the counts of text 2
 text2_lines : (t : AnalysisText) (number words attrs edges : ℕ) (at : ℕ) (ls : List Line) → 1 ≤ words → Holds t (lines.Version ∷ lines.Analysis number ∷ lines.Counts words attrs edges ∷ ls) → Goes at (stages.Left 0 words attrs edges) ls stages.Ended → Lines t (lines.Version ∷ lines.Analysis number ∷ lines.Counts words attrs edges ∷ ls) (lines2_of number t)
 text2_lines t number words attrs edges at ls low holds goes =
-    let from = left_shape at 0 words attrs edges ls goes in
+    let from = left_shape ls at 0 words attrs edges goes in
     let w : words ≡ length t.words = sym from.words_are ∙ ap length (sym holds.words) in
     let a : attrs ≡ length t.attrs = sym from.attrs_are ∙ ap length (sym holds.attrs) in
     let e : edges ≡ length t.edges = sym from.edges_are ∙ ap length (sym holds.edges) in
@@ -238,25 +227,21 @@ Either t ls = (number : ℕ) × (Lines t ls (lines_of number t) ⊎ Lines t ls (
 third : (t : AnalysisText) (number at : ℕ) (ls : List Line) → Holds t (lines.Version ∷ lines.Analysis number ∷ ls) → Goes at stages.Numbered ls stages.Ended → Either t (lines.Version ∷ lines.Analysis number ∷ ls)
 third t number at [] holds goes = cc
 third t number at (lines.Counts words attrs edges ∷ ls) holds (is, (m, step, more)) =
-    let place : ℕ = at + length (line_text (lines.Counts words attrs edges)) in
-    (number, inr (text2_lines t number words attrs edges place ls is.0 holds (subst (λ z. Goes place z ls stages.Ended) (sym (some_same (stages.Left 0 words attrs edges) m step)) more)))
+    (number, inr (text2_lines t number words attrs edges _ ls is.0 holds (rw (← some_same (stages.Left 0 words attrs edges) m step) at more)))
 third t number at (l ∷ ls) holds (is, (m, step, more)) = absurd (none_some m step)
 
 second : (t : AnalysisText) (at : ℕ) (ls : List Line) → Holds t (lines.Version ∷ ls) → Goes at stages.Second ls stages.Ended → Either t (lines.Version ∷ ls)
 second t at [] holds goes = cc
 second t at (lines.Analysis number ∷ ls) holds (is, (m, step, more)) =
-    let place : ℕ = at + length (line_text (lines.Analysis number)) in
-    third t number place ls holds (subst (λ z. Goes place z ls stages.Ended) (sym (some_same stages.Numbered m step)) more)
+    third t number _ ls holds (rw (← some_same stages.Numbered m step) at more)
 second t at (l ∷ ls) holds (is, (m, step, more)) = absurd (none_some m step)
 
 pub all_lines : (t : AnalysisText) (at : ℕ) (ls : List Line) → Holds t ls → Goes at stages.Start ls stages.Ended → Either t ls
 all_lines t at [] holds goes = cc
 all_lines t at (lines.Version ∷ ls) holds (is, (m, step, more)) =
-    let place : ℕ = at + length (line_text lines.Version) in
-    second t place ls holds (subst (λ z. Goes place z ls stages.Ended) (sym (some_same stages.Second m step)) more)
+    second t _ ls holds (rw (← some_same stages.Second m step) at more)
 all_lines t at (lines.Analysis number ∷ ls) holds (is, (m, step, more)) =
-    let place : ℕ = at + length (line_text (lines.Analysis number)) in
-    (number, inl (text1_lines t number place ls holds (subst (λ z. Goes place z ls stages.Ended) (sym (some_same (stages.Words 0) m step)) more)))
+    (number, inl (text1_lines t number _ ls holds (rw (← some_same (stages.Words 0) m step) at more)))
 all_lines t at (l ∷ ls) holds (is, (m, step, more)) = absurd (none_some m step)
 
 has_lines : (bytes : List ℕ) (t : AnalysisText) (all : List Line) → (whole : Whole bytes t) → Lines t whole.lines all → HasLines bytes t all

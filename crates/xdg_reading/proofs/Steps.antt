@@ -60,3 +60,8 @@ and_found (Some x) rest y e = (x, refl, some_same (x, rest) y e)
 pub or_else_found : {X : Type 0} (a b : Option X) (y : X) → or_else a b ≡ Some y → (a ≡ Some y) ⊎ (b ≡ Some y)
 or_else_found None b y e = inr e
 or_else_found (Some x) b y e = inl e
+
+-- what can't be something is nothing
+pub nothing_if : {X : Type 0} (o : Option X) → ((x : X) → o ≡ Some x → ⊥) → o ≡ None
+nothing_if None lacks = refl
+nothing_if (Some x) lacks = absurd (lacks x refl)

@@ -17,6 +17,7 @@ use Rattle.xdg_reading.specs.Fitted.{has_entry, words_fault, lead, or_at, said_v
 use Rattle.xdg_reading.specs.Fits.{SaysValue, SayValues, WordOffends, this_word, later_word, AttrOffends, one_more, missing, this_attr, later_attr}
 use Rattle.xdg_reading.specs.Names.{same_texts, same_shown, value_number}
 use Rattle.xdg_reading.specs.Slots.{Asked}
+use Rattle.xdg_reading.proofs.Steps.{nothing_if}
 use Rattle.xdg_facts.proofs.Options.{some_same}
 
 -- entries
@@ -159,13 +160,9 @@ values_said behind (a ∷ asked) (line ∷ lines) (v ∷ values) differ say =
     ap (λ o. or_at o line.at (λ value. lead value (said_values behind asked lines))) (value_told a line v differ.0 say.0) ∙ ap (lead v) (values_said behind asked lines values differ.1 say.1)
 values_said behind asked lines values differ say = absurd say
 
-value_none : (asked : Asked) (line : AttrLine) (o : Option ℕ) → said_value asked line ≡ o → ((v : ℕ) → SaysValue asked line v → ⊥) → said_value asked line ≡ None
-value_none asked line None e lacks = e
-value_none asked line (Some v) e lacks = absurd (lacks v (value_said asked line v e))
-
 pub attr_told : (behind : ℕ) (asked : List Asked) (lines : List AttrLine) (at : ℕ) → AllDiffer asked → AttrOffends behind asked lines at → said_values behind asked lines ≡ Err at
 attr_told behind asked lines at differ (one_more line more) = refl
 attr_told behind asked lines at differ (missing a more) = refl
-attr_told behind asked lines at differ (this_attr a more line rest lacks) = ap (λ o. or_at o line.at (λ value. lead value (said_values behind more rest))) (value_none a line (said_value a line) refl lacks)
+attr_told behind asked lines at differ (this_attr a more line rest lacks) = ap (λ o. or_at o line.at (λ value. lead value (said_values behind more rest))) (nothing_if (said_value a line) (λ v e. lacks v (value_said a line v e)))
 attr_told behind asked lines at differ (later_attr a more line rest v place says later) =
     ap (λ o. or_at o line.at (λ value. lead value (said_values behind more rest))) (value_told a line v differ.0 says) ∙ ap (lead v) (attr_told behind more rest place differ.1 later)

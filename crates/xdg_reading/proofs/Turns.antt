@@ -13,10 +13,9 @@ use Rattle.xdg_problem.specs.Places.{numbers_from}
 use Rattle.xdg_reading.specs.declared.texts.AttrLine.{AttrLine}
 use Rattle.xdg_reading.specs.declared.texts.EdgeLine.{EdgeLine}
 use Rattle.xdg_reading.specs.Fitted.{has_entry, words_fault, lead, leads, or_at, said_value, said_values, said_edge, said_edges, precedes, follows}
-use Rattle.std.proofs.lemmas.List.Quantifiers.{position-Some}
-use Rattle.xdg_problem.specs.declared.parts.Shown.TheVariants as shown
-use Rattle.xdg_reading.specs.Names.{same_texts, same_shown, value_number}
+use Rattle.xdg_reading.specs.Names.{same_texts}
 use Rattle.xdg_reading.specs.Slots.{Asked}
+use Rattle.xdg_reading.proofs.Told.{value_said}
 use Rattle.xdg_facts.proofs.Lists.{from_place}
 
 -- texts of different numbers differ
@@ -68,18 +67,27 @@ words_at cs ws es k c w e in_cs in_ws in_es is_c is_w is_e =
     ap₂ (λ x y. words_fault x y (drop k es)) (from_place cs k c in_cs is_c) (from_place ws k w in_ws is_w)
     ∙ ap (λ z. words_fault (c ∷ drop (k + 1) cs) (w ∷ drop (k + 1) ws) z) (from_place es k e in_es is_e)
 
--- lists that grow
-pub leads_err : {X : Type 0} (xs : List X) (at : ℕ) → leads xs (Err at) ≡ Err at
+-- what is added to a list: the list goes on, ends, or is refused
+leads_err : {X : Type 0} (xs : List X) (at : ℕ) → leads xs (Err at) ≡ Err at
 leads_err [] at = refl
 leads_err (x ∷ xs) at = ap (lead x) (leads_err xs at)
 
-pub leads_ok : {X : Type 0} (xs ys : List X) → leads xs (Ok ys) ≡ Ok (xs ++ ys)
+leads_ok : {X : Type 0} (xs ys : List X) → leads xs (Ok ys) ≡ Ok (xs ++ ys)
 leads_ok [] ys = refl
 leads_ok (x ∷ xs) ys = ap (lead x) (leads_ok xs ys)
 
-pub leads_one : {X : Type 0} (xs : List X) (x : X) (r : Result (List X) ℕ) → leads (xs ++ x ∷ []) r ≡ leads xs (lead x r)
+leads_one : {X : Type 0} (xs : List X) (x : X) (r : Result (List X) ℕ) → leads (xs ++ x ∷ []) r ≡ leads xs (lead x r)
 leads_one [] x r = refl
 leads_one (y ∷ xs) x r = ap (lead y) (leads_one xs x r)
+
+refused : {X : Type 0} (xs : List X) (r all : Result (List X) ℕ) (at : ℕ) → leads xs r ≡ all → r ≡ Err at → all ≡ Err at
+refused xs r all at so_far e = sym so_far ∙ ap (leads xs) e ∙ leads_err xs at
+
+ended : {X : Type 0} (xs : List X) (r all : Result (List X) ℕ) → leads xs r ≡ all → r ≡ Ok [] → all ≡ Ok xs
+ended xs r all so_far e = sym so_far ∙ ap (leads xs) e ∙ leads_ok xs [] ∙ ap Ok (append-nil xs)
+
+one_more : {X : Type 0} (xs made : List X) (x : X) (r more all : Result (List X) ℕ) → leads xs r ≡ all → r ≡ lead x more → made ≡ xs ++ x ∷ [] → leads made more ≡ all
+one_more xs made x r more all so_far e is = ap (λ z. leads z more) is ∙ leads_one xs x more ∙ ap (leads xs) (sym e) ∙ so_far
 
 -- the attributes of one node more
 pub nodes_go : {X : Type 0} (f : ℕ → List X) (list made all : List X) (node n : ℕ) → list ++ flat_map f (numbers_from node (n - node)) ≡ all → node < n → made ≡ list ++ f node → made ++ flat_map f (numbers_from (node + 1) (n - (node + 1))) ≡ all
@@ -94,25 +102,21 @@ nodes_go f list made all node n so_far within is =
 -- the attributes
 pub values_extra : {X : Type 0} (f : X → Asked) (behind : ℕ) (slots : List X) (lines : List AttrLine) (k : ℕ) (line : AttrLine) (values : List ℕ) (all : Result (List ℕ) ℕ) → leads values (said_values behind (map f (drop k slots)) (drop k lines)) ≡ all → length slots ≤ k → k < length lines → line ≡ get_or lines k line → all ≡ Err line.at
 values_extra f behind slots lines k line values all so_far none within is =
-    sym so_far
-    ∙ ap₂ (λ x y. leads values (said_values behind (map f x) y)) (drop_all k slots none) (from_place lines k line within is)
-    ∙ leads_err values line.at
+    refused values _ all line.at so_far (ap₂ (λ x y. said_values behind (map f x) y) (drop_all k slots none) (from_place lines k line within is))
 
-values_at : {X : Type 0} (f : X → Asked) (behind : ℕ) (slots : List X) (lines : List AttrLine) (k : ℕ) (slot : X) (line : AttrLine) → k < length slots → k < length lines → slot ≡ get_or slots k slot → line ≡ get_or lines k line → said_values behind (map f (drop k slots)) (drop k lines) ≡ or_at (said_value (f slot) line) line.at (λ value. lead value (said_values behind (map f (drop (k + 1) slots)) (drop (k + 1) lines)))
-values_at f behind slots lines k slot line in_slots in_lines is_slot is_line = ap₂ (λ x y. said_values behind (map f x) y) (from_place slots k slot in_slots is_slot) (from_place lines k line in_lines is_line)
+values_at : {X : Type 0} (f : X → Asked) (behind : ℕ) (slots : List X) (lines : List AttrLine) (k : ℕ) (slot : X) (line : AttrLine) (said : Option ℕ) → k < length slots → k < length lines → slot ≡ get_or slots k slot → line ≡ get_or lines k line → said ≡ said_value (f slot) line
+    → said_values behind (map f (drop k slots)) (drop k lines) ≡ or_at said line.at (λ value. lead value (said_values behind (map f (drop (k + 1) slots)) (drop (k + 1) lines)))
+values_at f behind slots lines k slot line said in_slots in_lines is_slot is_line is =
+    ap₂ (λ x y. said_values behind (map f x) y) (from_place slots k slot in_slots is_slot) (from_place lines k line in_lines is_line)
+    ∙ ap (λ o. or_at o line.at (λ value. lead value (said_values behind (map f (drop (k + 1) slots)) (drop (k + 1) lines)))) (sym is)
 
 pub values_wrong : {X : Type 0} (f : X → Asked) (behind : ℕ) (slots : List X) (lines : List AttrLine) (k : ℕ) (slot : X) (line : AttrLine) (values : List ℕ) (all : Result (List ℕ) ℕ) → leads values (said_values behind (map f (drop k slots)) (drop k lines)) ≡ all → k < length slots → k < length lines → slot ≡ get_or slots k slot → line ≡ get_or lines k line → None ≡ said_value (f slot) line → all ≡ Err line.at
 values_wrong f behind slots lines k slot line values all so_far in_slots in_lines is_slot is_line said =
-    sym so_far
-    ∙ ap (leads values) (values_at f behind slots lines k slot line in_slots in_lines is_slot is_line ∙ ap (λ o. or_at o line.at (λ value. lead value (said_values behind (map f (drop (k + 1) slots)) (drop (k + 1) lines)))) (sym said))
-    ∙ leads_err values line.at
+    refused values _ all line.at so_far (values_at f behind slots lines k slot line None in_slots in_lines is_slot is_line said)
 
 pub values_go : {X : Type 0} (f : X → Asked) (behind : ℕ) (slots : List X) (lines : List AttrLine) (k : ℕ) (slot : X) (line : AttrLine) (value : ℕ) (values made : List ℕ) (all : Result (List ℕ) ℕ) → leads values (said_values behind (map f (drop k slots)) (drop k lines)) ≡ all → k < length slots → k < length lines → slot ≡ get_or slots k slot → line ≡ get_or lines k line → Some value ≡ said_value (f slot) line → made ≡ values ++ value ∷ [] → leads made (said_values behind (map f (drop (k + 1) slots)) (drop (k + 1) lines)) ≡ all
 values_go f behind slots lines k slot line value values made all so_far in_slots in_lines is_slot is_line said is =
-    ap (λ z. leads z (said_values behind (map f (drop (k + 1) slots)) (drop (k + 1) lines))) is
-    ∙ leads_one values value (said_values behind (map f (drop (k + 1) slots)) (drop (k + 1) lines))
-    ∙ sym (ap (leads values) (values_at f behind slots lines k slot line in_slots in_lines is_slot is_line ∙ ap (λ o. or_at o line.at (λ value. lead value (said_values behind (map f (drop (k + 1) slots)) (drop (k + 1) lines)))) (sym said)))
-    ∙ so_far
+    one_more values made value _ _ all so_far (values_at f behind slots lines k slot line (Some value) in_slots in_lines is_slot is_line said) is
 
 missing_at : (behind : ℕ) (asked : List Asked) → 0 < length asked → said_values behind asked [] ≡ Err behind
 missing_at behind [] some = absurd (omega (arith, some))
@@ -120,52 +124,35 @@ missing_at behind (a ∷ asked) some = refl
 
 pub values_short : {X : Type 0} (f : X → Asked) (behind : ℕ) (slots : List X) (lines : List AttrLine) (k : ℕ) (values : List ℕ) (all : Result (List ℕ) ℕ) → leads values (said_values behind (map f (drop k slots)) (drop k lines)) ≡ all → length lines ≤ k → k ≤ length lines → length lines < length slots → all ≡ Err behind
 values_short f behind slots lines k values all so_far done within short =
-    sym so_far
-    ∙ ap (λ y. leads values (said_values behind (map f (drop k slots)) y)) (drop_all k lines done)
-    ∙ ap (leads values) (missing_at behind (map f (drop k slots)) (let size : length (map f (drop k slots)) ≡ length (drop k slots) = length-map (drop k slots) f in omega (arith, size, length-drop k slots, done, within, short)))
-    ∙ leads_err values behind
+    refused values _ all behind so_far (ap (said_values behind (map f (drop k slots))) (drop_all k lines done)
+    ∙ missing_at behind (map f (drop k slots)) (let size : length (map f (drop k slots)) ≡ length (drop k slots) = length-map (drop k slots) f in omega (arith, size, length-drop k slots, done, within, short)))
 
 pub values_end : {X : Type 0} (f : X → Asked) (behind : ℕ) (slots : List X) (lines : List AttrLine) (k : ℕ) (values : List ℕ) (all : Result (List ℕ) ℕ) → leads values (said_values behind (map f (drop k slots)) (drop k lines)) ≡ all → length lines ≤ k → length slots ≤ length lines → all ≡ Ok values
 values_end f behind slots lines k values all so_far done enough =
-    sym so_far
-    ∙ ap₂ (λ x y. leads values (said_values behind (map f x) y)) (drop_all k slots (omega (arith, done, enough))) (drop_all k lines done)
-    ∙ leads_ok values []
-    ∙ ap Ok (append-nil values)
+    ended values _ all so_far (ap₂ (λ x y. said_values behind (map f x) y) (drop_all k slots (omega (arith, done, enough))) (drop_all k lines done))
 
 -- the edges
-edges_at : (parts : Parts) (before : Option Edge) (lines : List EdgeLine) (k : ℕ) (line : EdgeLine) → k < length lines → line ≡ get_or lines k line → said_edges parts before (drop k lines) ≡ or_at (said_edge parts line) line.at (λ e. cond (follows before e) (lead e (said_edges parts (Some e) (drop (k + 1) lines))) (Err line.at))
-edges_at parts before lines k line within is = ap (said_edges parts before) (from_place lines k line within is)
+edges_at : (parts : Parts) (before : Option Edge) (lines : List EdgeLine) (k : ℕ) (line : EdgeLine) (said : Option Edge) → k < length lines → line ≡ get_or lines k line → said ≡ said_edge parts line
+    → said_edges parts before (drop k lines) ≡ or_at said line.at (λ e. cond (follows before e) (lead e (said_edges parts (Some e) (drop (k + 1) lines))) (Err line.at))
+edges_at parts before lines k line said within is found =
+    ap (said_edges parts before) (from_place lines k line within is) ∙ ap (λ o. or_at o line.at (λ e. cond (follows before e) (lead e (said_edges parts (Some e) (drop (k + 1) lines))) (Err line.at))) (sym found)
 
 pub edges_wrong : (parts : Parts) (before : Option Edge) (lines : List EdgeLine) (k : ℕ) (line : EdgeLine) (edges : List Edge) (all : Result (List Edge) ℕ) → leads edges (said_edges parts before (drop k lines)) ≡ all → k < length lines → line ≡ get_or lines k line → None ≡ said_edge parts line → all ≡ Err line.at
-edges_wrong parts before lines k line edges all so_far within is said =
-    sym so_far
-    ∙ ap (leads edges) (edges_at parts before lines k line within is ∙ ap (λ o. or_at o line.at (λ e. cond (follows before e) (lead e (said_edges parts (Some e) (drop (k + 1) lines))) (Err line.at))) (sym said))
-    ∙ leads_err edges line.at
+edges_wrong parts before lines k line edges all so_far within is said = refused edges _ all line.at so_far (edges_at parts before lines k line None within is said)
 
 edges_said : (parts : Parts) (before : Option Edge) (lines : List EdgeLine) (k : ℕ) (line : EdgeLine) (e : Edge) (t : Bool) → k < length lines → line ≡ get_or lines k line → Some e ≡ said_edge parts line → t ≡ follows before e → said_edges parts before (drop k lines) ≡ cond t (lead e (said_edges parts (Some e) (drop (k + 1) lines))) (Err line.at)
 edges_said parts before lines k line e t within is said test =
-    edges_at parts before lines k line within is
-    ∙ ap (λ o. or_at o line.at (λ e. cond (follows before e) (lead e (said_edges parts (Some e) (drop (k + 1) lines))) (Err line.at))) (sym said)
-    ∙ ap (λ t. cond t (lead e (said_edges parts (Some e) (drop (k + 1) lines))) (Err line.at)) (sym test)
+    edges_at parts before lines k line (Some e) within is said ∙ ap (λ t. cond t (lead e (said_edges parts (Some e) (drop (k + 1) lines))) (Err line.at)) (sym test)
 
 pub edges_late : (parts : Parts) (before : Option Edge) (lines : List EdgeLine) (k : ℕ) (line : EdgeLine) (e : Edge) (edges : List Edge) (all : Result (List Edge) ℕ) → leads edges (said_edges parts before (drop k lines)) ≡ all → k < length lines → line ≡ get_or lines k line → Some e ≡ said_edge parts line → false ≡ follows before e → all ≡ Err line.at
-edges_late parts before lines k line e edges all so_far within is said test = sym so_far ∙ ap (leads edges) (edges_said parts before lines k line e false within is said test) ∙ leads_err edges line.at
+edges_late parts before lines k line e edges all so_far within is said test = refused edges _ all line.at so_far (edges_said parts before lines k line e false within is said test)
 
 pub edges_go : (parts : Parts) (before : Option Edge) (lines : List EdgeLine) (k : ℕ) (line : EdgeLine) (e : Edge) (edges made : List Edge) (all : Result (List Edge) ℕ) → leads edges (said_edges parts before (drop k lines)) ≡ all → k < length lines → line ≡ get_or lines k line → Some e ≡ said_edge parts line → true ≡ follows before e → made ≡ edges ++ e ∷ [] → leads made (said_edges parts (Some e) (drop (k + 1) lines)) ≡ all
-edges_go parts before lines k line e edges made all so_far within is said test made_is =
-    ap (λ z. leads z (said_edges parts (Some e) (drop (k + 1) lines))) made_is
-    ∙ leads_one edges e (said_edges parts (Some e) (drop (k + 1) lines))
-    ∙ sym (ap (leads edges) (edges_said parts before lines k line e true within is said test))
-    ∙ so_far
+edges_go parts before lines k line e edges made all so_far within is said test made_is = one_more edges made e _ _ all so_far (edges_said parts before lines k line e true within is said test) made_is
 
 pub edges_end : (parts : Parts) (before : Option Edge) (lines : List EdgeLine) (k : ℕ) (edges : List Edge) (all : Result (List Edge) ℕ) → leads edges (said_edges parts before (drop k lines)) ≡ all → length lines ≤ k → all ≡ Ok edges
-edges_end parts before lines k edges all so_far done = sym so_far ∙ ap (λ z. leads edges (said_edges parts before z)) (drop_all k lines done) ∙ leads_ok edges [] ∙ ap Ok (append-nil edges)
+edges_end parts before lines k edges all so_far done = ended edges _ all so_far (ap (said_edges parts before) (drop_all k lines done))
 
 -- the number of a value is in range
-within_some : (t : Bool) (o : Option ℕ) (v n : ℕ) → ((w : ℕ) → o ≡ Some w → w < n) → cond t o None ≡ Some v → v < n
-within_some true o v n small e = small v e
-within_some false o v n small e = cc
-
 pub said_within : (asked : Asked) (line : AttrLine) (v : ℕ) → said_value asked line ≡ Some v → v < length asked.attr.values
-unfolding said_value
-said_within asked line v = within_some (bytes_eq line.dim asked.dim && (line.node.0 == asked.node) && bytes_eq line.attr asked.attr.name) (value_number asked.attr.values line.value) v (length asked.attr.values) (λ w e. (position-Some (λ x. same_shown x line.value) asked.attr.values w (shown.Many []) e).0)
+said_within asked line v e = (value_said asked line v e).within

@@ -122,32 +122,32 @@ value_read (shown.Many (text ∷ texts)) rest has =
     ap (λ z. tuple_at z) (append_assoc (constant text ++ more_text texts) (93 ∷ []) (10 ∷ rest) ∙ append_assoc (constant text) (more_text texts) (93 ∷ 10 ∷ rest))
     ∙ tuple_read text texts rest
 
-pub record Value (bytes : List ℕ) (value : Shown) (rest : List ℕ) : Type 0 where
+pub record IsValue (value : Shown) (bytes rest : List ℕ) : Type 0 where
   pub parts : bytes ≡ value_text value ++ 10 ∷ rest
   pub has : HasConstant value
 
-tuple_spelled : (bytes : List ℕ) (value : Shown) (rest : List ℕ) → tuple_at bytes ≡ Some (value, rest) → Value (91 ∷ bytes) value rest
+tuple_spelled : (bytes : List ℕ) (value : Shown) (rest : List ℕ) → tuple_at bytes ≡ Some (value, rest) → IsValue value (91 ∷ bytes) rest
 unfolding tuple_at
 tuple_spelled bytes value rest read =
     let found = after_found (constants_at (length bytes) bytes) (λ texts rest. past (behind (10 ∷ []) rest) (λ rest. Some (shown.Many texts, rest))) (value, rest) read in
     let last = past_found (behind (10 ∷ []) found.rest) (λ rest. Some (shown.Many found.value, rest)) (value, rest) found.goes in
     let tuple = constants_spelled (length bytes) bytes found.value found.rest found.is in
-    subst (λ (p : Shown × List ℕ). Value (91 ∷ bytes) p.0 p.1) (some_same (pair (shown.Many found.value) last.rest) (pair value rest) last.goes)
+    subst (λ (p : Shown × List ℕ). IsValue p.0 (91 ∷ bytes) p.1) (some_same (pair (shown.Many found.value) last.rest) (pair value rest) last.goes)
     (record {
       parts = ap (λ z. 91 ∷ z) (tuple.parts ∙ ap (λ z. join_by constant (codes " ") found.value ++ 93 ∷ z) (it_stands (10 ∷ []) found.rest last.rest last.is) ∙ sym (append_assoc (join_by constant (codes " ") found.value) (93 ∷ []) (10 ∷ last.rest)));
       has = tuple.some;
     })
 
-one_spelled : (bytes : List ℕ) (value : Shown) (rest : List ℕ) → after {Y = Shown × List ℕ} (constant_at 10 bytes) (λ text rest. Some (shown.One text, rest)) ≡ Some (value, rest) → Value bytes value rest
+one_spelled : (bytes : List ℕ) (value : Shown) (rest : List ℕ) → after {Y = Shown × List ℕ} (constant_at 10 bytes) (λ text rest. Some (shown.One text, rest)) ≡ Some (value, rest) → IsValue value bytes rest
 one_spelled bytes value rest read =
     let found = after_found (constant_at 10 bytes) (λ text rest. Some (shown.One text, rest)) (value, rest) read in
-    subst (λ (p : Shown × List ℕ). Value bytes p.0 p.1) (some_same (pair (shown.One found.value) found.rest) (pair value rest) found.goes)
+    subst (λ (p : Shown × List ℕ). IsValue p.0 bytes p.1) (some_same (pair (shown.One found.value) found.rest) (pair value rest) found.goes)
     (record { parts = constant_spelled 10 found.value bytes found.rest found.is; has = tt })
 
 -- what is read as a value is written so
-pub value_spelled : (bytes : List ℕ) (value : Shown) (rest : List ℕ) → value_at bytes ≡ Some (value, rest) → Value bytes value rest
+pub value_spelled : (bytes : List ℕ) (value : Shown) (rest : List ℕ) → value_at bytes ≡ Some (value, rest) → IsValue value bytes rest
 unfolding value_at
 value_spelled bytes value rest read = by (past_or_found (behind (91 ∷ []) bytes) tuple_at (after (constant_at 10 bytes) (λ text rest. Some (shown.One text, rest))) (value, rest) read) where
-  by : Passed (behind (91 ∷ []) bytes) tuple_at (pair value rest) ⊎ (after {Y = Shown × List ℕ} (constant_at 10 bytes) (λ text rest. Some (shown.One text, rest)) ≡ Some (pair value rest)) → Value bytes value rest
-  by (inl mark) = subst (λ z. Value z value rest) (sym (it_stands (91 ∷ []) bytes mark.rest mark.is)) (tuple_spelled mark.rest value rest mark.goes)
+  by : Passed (behind (91 ∷ []) bytes) tuple_at (pair value rest) ⊎ (after {Y = Shown × List ℕ} (constant_at 10 bytes) (λ text rest. Some (shown.One text, rest)) ≡ Some (pair value rest)) → IsValue value bytes rest
+  by (inl mark) = subst (λ z. IsValue value z rest) (sym (it_stands (91 ∷ []) bytes mark.rest mark.is)) (tuple_spelled mark.rest value rest mark.goes)
   by (inr one) = one_spelled bytes value rest one

@@ -130,7 +130,7 @@ edges_count parts before [] [] say = refl
 edges_count parts before (x ∷ xs) (e ∷ edges) say = ap suc (edges_count parts (Some e) xs edges say.1)
 edges_count parts before xs edges say = absurd say
 
-words_count : (parts : Parts) (t : AnalysisText) → HasWords parts t → length t.words ≡ length parts.words
+pub words_count : (parts : Parts) (t : AnalysisText) → HasWords parts t → length t.words ≡ length parts.words
 words_count parts t words =
     let a : length (texts t.words) ≡ length t.words = length-map t.words (λ (w : SentenceWord). w.text) in
     let b : length (texts parts.words) ≡ length parts.words = length-map parts.words (λ (w : SentenceWord). w.text) in
