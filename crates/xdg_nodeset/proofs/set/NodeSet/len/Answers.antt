@@ -2,8 +2,5 @@ use Rattle.std.proofs.Common.{length, ap, ◌∙◌}
 use Rattle.xdg_nodeset.proofs.Masks.{members_are_nodes, counted}
 use Rattle.xdg_nodeset.proofs.set.NodeSet.len.Goals as goal
 
-pub returns-clause-value : goal.returns-clause-value
-returns-clause-value c = counted c.self.inside.bits c.self.invariant ∙ ap length c.self.view_is
-
-pub returns-clause-nodes : goal.returns-clause-nodes
-returns-clause-nodes c = rw (← c.self.view_is) (members_are_nodes c.self.inside.bits)
+pub returns : goal.returns
+returns c = record { value = counted c.self.inside.bits c.self.invariant ∙ ap length c.self.view_is; nodes = rw (← c.self.view_is) (members_are_nodes c.self.inside.bits) }
