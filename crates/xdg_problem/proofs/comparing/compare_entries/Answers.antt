@@ -5,13 +5,8 @@ use Rattle.xdg_facts.proofs.Compared.{Tells, compared, tells_less, tells_equal, 
 use Rattle.xdg_problem.proofs.EntryOrder.{compare_numbers, numbers_equal}
 use Rattle.xdg_problem.proofs.comparing.compare_entries.Goals as goal
 
-pub returns-clause-less : goal.returns-clause-less
-returns-clause-less c = tells_less _ _ _ (subst (λ o. Tells o (entry_numbers c.args.a.now) (entry_numbers c.args.b.now)) (sym (c.cmp.ensures ∙ compare_numbers entry_order.cmp-value.it (λ x y. refl) c.args.a.now c.args.b.now)) (compared (entry_numbers c.args.a.now) (entry_numbers c.args.b.now)))
-
-pub returns-clause-equal : goal.returns-clause-equal
-returns-clause-equal c =
-    let h = tells_equal _ _ _ (subst (λ o. Tells o (entry_numbers c.args.a.now) (entry_numbers c.args.b.now)) (sym (c.cmp.ensures ∙ compare_numbers entry_order.cmp-value.it (λ x y. refl) c.args.a.now c.args.b.now)) (compared (entry_numbers c.args.a.now) (entry_numbers c.args.b.now))) in
-    (λ e. numbers_equal _ _ (h.0 e), λ e. h.1 (ap entry_numbers e))
-
-pub returns-clause-greater : goal.returns-clause-greater
-returns-clause-greater c = tells_greater _ _ _ (subst (λ o. Tells o (entry_numbers c.args.a.now) (entry_numbers c.args.b.now)) (sym (c.cmp.ensures ∙ compare_numbers entry_order.cmp-value.it (λ x y. refl) c.args.a.now c.args.b.now)) (compared (entry_numbers c.args.a.now) (entry_numbers c.args.b.now)))
+pub returns : goal.returns
+returns c =
+    let told = subst (λ o. Tells o (entry_numbers c.args.a.now) (entry_numbers c.args.b.now)) (sym (c.cmp.ensures ∙ compare_numbers entry_order.cmp-value.it (λ x y. refl) c.args.a.now c.args.b.now)) (compared (entry_numbers c.args.a.now) (entry_numbers c.args.b.now)) in
+    let same = tells_equal _ _ _ told in
+    record { less = tells_less _ _ _ told; equal = (λ e. numbers_equal _ _ (same.0 e), λ e. same.1 (ap entry_numbers e)); greater = tells_greater _ _ _ told }
