@@ -1,6 +1,5 @@
 -- The rules of valency, bundle by bundle.
-use Rattle.std.proofs.Common.{◌≡◌, ℕ, ◌<◌, ◌+◌, ◌⊎◌, inl, inr, Bool, List, refl, sym, ◌∙◌, subst, arith}
-use Rattle.std.proofs.lemmas.Bool.{cases_lt}
+use Rattle.std.proofs.Common.{◌≡◌, ℕ, ◌<◌, ◌⊎◌, inl, inr, Bool, List, refl, sym, ◌∙◌, subst}
 use Rattle.xdg_problem.specs.declared.analysis.Edge.{Edge}
 use Rattle.xdg_problem.specs.declared.parts.Group.{Group}
 use Rattle.xdg_problem.specs.declared.parts.Parts.{Parts}
@@ -16,13 +15,12 @@ use Rattle.xdg_store.specs.States.{State, Known}
 use Rattle.xdg_propcore.specs.Passes.{Progress, Clears}
 use Rattle.xdg_propcore.specs.Sweeps.{Sweeps}
 use Rattle.xdg_propcore.proofs.Passing.{goes_both}
-use Rattle.xdg_propcore.proofs.Sweeping.{sweeps_skip, sweeps_both}
 use Rattle.xdg_graph.proofs.Remaining.{entry_below}
 use Rattle.xdg_pgraph.specs.declared.bundle.Way.{Way}
 use Rattle.xdg_pgraph.specs.declared.bundle.Way.TheVariants as ways
 use Rattle.xdg_pgraph.specs.declared.bundle.Bundle.{Bundle}
 use Rattle.xdg_graph.specs.declared.which.Which.TheVariants as whichs
-use Rattle.xdg_pgraph.specs.Bundles.{near_node, numbers_of, count_of, Barred, EdgeAt, IsBundleDone, IsLabelDone, AreLabelsDone}
+use Rattle.xdg_pgraph.specs.Bundles.{near_node, numbers_of, count_of, Barred, EdgeAt, IsBundleDone}
 use Rattle.xdg_pgraph.proofs.PlaneFacts.{which_place}
 
 -- ---- what is taken is taken by the rules
@@ -99,16 +97,3 @@ module _ (bundle : Bundle) (group : Group) (p q r : Progress) (old mid new : Sta
           edges = λ d v h e. a.gone y.0 d v (subst (λ box. EdgeAt bundle.way old.parts group box bundle.node bundle.label d v) (y.1 ∙ x.1) e) (subst (λ box. Has box d v) y.1 h);
         };
   }
-
--- ---- bundles, one after another
-
-pub next_both : (group : Group) (Done Next : List (List Bool) → Type 0) (M : Parts → List (List Bool) → Type 0) (p : Progress) (old : State) (q : Progress) (mid : State) (r : Progress) (new : State) → Sweeps group Done p old q mid → Sweeps group (M mid.parts) q mid r new → ((box : List (List Bool)) → Done box → M old.parts box → Next box) → Sweeps group Next p old r new
-next_both group Done Next M p old q mid r new a b next =
-    let both = sweeps_both group Done (M old.parts) p old q mid r new a (subst (λ parts. Sweeps group (M parts) q mid r new) a.goes.extends.same b) in
-    sweeps_skip group (λ box. Done box × M old.parts box) Next p old r new both (λ done. next new.now done.0 done.1)
-
-pub labels_next : (k : ℕ) (parts : Parts) (group : Group) (box : List (List Bool)) → AreLabelsDone k parts group box → IsLabelDone parts group k box → AreLabelsDone (k + 1) parts group box
-labels_next k parts group box before here l less = elim (cases_lt l k) [
-  | inl below ↦ before l below
-  | inr past ↦ (let e : l ≡ k = omega (arith, less, past) in subst (λ m. IsLabelDone parts group m box) (sym e) here)
-]

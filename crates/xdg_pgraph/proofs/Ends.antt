@@ -1,6 +1,6 @@
 -- The other nodes of the edges of a bundle, and how many there are.
-use Rattle.std.proofs.Common.{◌≡◌, ◌≢◌, ℕ, ◌<◌, ◌≤◌, ◌↔◌, ◌&&◌, inl, inr, Bool, true, IsTrue, List, length, map, refl, ◌∙◌, ap, subst, arith}
-use Rattle.std.specs.Prelude.{Contains, filter, ◌==◌}
+use Rattle.std.proofs.Common.{◌≡◌, ℕ, ◌<◌, ◌≤◌, ◌↔◌, ◌&&◌, inl, inr, Bool, true, IsTrue, List, length, map, refl, sym, ◌∙◌, ap, subst, arith}
+use Rattle.std.specs.Prelude.{Contains, cond, filter, ◌==◌}
 use Rattle.std.specs.List.{AllByRecursion}
 use Rattle.std.proofs.lemmas.Bool.{and_parts, and_from, eq-eqb, eqb-true}
 use Rattle.std.proofs.lemmas.List.Elements.{All-weaker, All-contains_itself, recursion_from_All}
@@ -10,13 +10,16 @@ use Rattle.xdg_nodeset.specs.Nodes.{IsNodes}
 use Rattle.xdg_problem.specs.declared.analysis.Edge.{Edge}
 use Rattle.xdg_problem.specs.declared.parts.Parts.{Parts}
 use Rattle.xdg_problem.specs.Analyses.{Before}
-use Rattle.xdg_problem.specs.Places.{edge, nodes, places}
+use Rattle.xdg_problem.specs.Arguments.{label_count}
+use Rattle.xdg_problem.specs.Paths.{IsDaughterBy}
+use Rattle.xdg_problem.specs.Places.{edge, places}
 use Rattle.xdg_problem.proofs.Edges.{edge_equal}
 use Rattle.xdg_problem.proofs.FilterFacts.{filter_contained}
+use Rattle.xdg_problem.proofs.Looking.{any_of}
 use Rattle.xdg_problem.proofs.Ordered.{Ordered, each_both, each_filter, each_passed, ordered_filter, contains_filter, contains_map}
 use Rattle.xdg_problem.proofs.PlaceOrder.{places_ordered}
 use Rattle.xdg_rules.proofs.Shrinking.{may_be, must_be}
-use Rattle.xdg_store.specs.States.{State, Known}
+use Rattle.xdg_store.specs.States.{State}
 use Rattle.xdg_pgraph.specs.declared.bundle.Way.{Way}
 use Rattle.xdg_pgraph.specs.declared.bundle.Way.TheVariants as ways
 use Rattle.xdg_graph.specs.declared.which.Which.{Which}
@@ -24,9 +27,8 @@ use Rattle.xdg_graph.specs.declared.which.Which.TheVariants as whichs
 use Rattle.xdg_pgraph.specs.declared.plane.Plane.{Plane}
 use Rattle.xdg_pgraph.specs.Bundles.{edge_to, near_node, far_node, count_of}
 use Rattle.xdg_pgraph.specs.Planes.{IsPlane}
-use Rattle.xdg_graph.specs.Edges.{Stands, edges_of}
-use Rattle.xdg_graph.proofs.Edges.{which_exact}
-use Rattle.xdg_pgraph.proofs.PlaneFacts.{edge_on, which_place}
+use Rattle.xdg_graph.specs.Edges.{edge_labels, edges_of}
+use Rattle.xdg_pgraph.proofs.PlaneFacts.{which_place}
 use Rattle.xdg_pgraph.proofs.Rising.{AreRising, rising_alike, nodes_rising, map_contained, map_rising}
 use Rattle.xdg_facts.specs.Rises.{has}
 use Rattle.xdg_facts.proofs.Rising.{contains_of_has, contains_has}
@@ -124,24 +126,18 @@ which_counted which way parts box dim node label ends is exact = ends_counted wa
 
 -- ---- what the store tells
 
-module _ (which : Which) (s : State) (plane : Plane) (plane_is : IsPlane s.parts plane) (known : Known s) (node label : ℕ) (within : node < plane.nodes) (small : label < plane.labels) (other : ℕ) (b : Bool) where
-  pub out_told : IsTrue b ↔ ((other < nodes s.parts) × (node ≢ other) × Stands which s.parts s.now (edge plane.dim.0 node label other)) → IsTrue b ↔ Contains (edges_of which s.parts s.now plane.dim.0) (edge plane.dim.0 node label other)
-  out_told exact = (
-    λ t. (let e = exact.0 t in (which_exact which s.parts s.now plane.dim.0 (edge plane.dim.0 node label other) known.is_box).1 (edge_on s.parts plane node label other plane_is within (let l = e.0 in let n = plane_is.nodes_is in omega (arith, l, n)) e.1 small, e.2)),
-    λ c.
-        let both = (which_exact which s.parts s.now plane.dim.0 (edge plane.dim.0 node label other) known.is_box).0 c in
-        let on = (plane_is.exact (edge plane.dim.0 node label other)).0 both.0 in
-        exact.1 ((let l = on.daughter in let n = plane_is.nodes_is in omega (arith, l, n)), on.differ, both.1),
-  )
+-- an edge from a node to another
+pub between_told : (which : Which) (parts : Parts) (box : List (List Bool)) (dim u l v : ℕ) (b : Bool) → IsTrue b ↔ IsDaughterBy (edges_of which parts box dim) u l v → IsTrue b ↔ Contains (edges_of which parts box dim) (edge dim u l v)
+between_told which parts box dim u l v b exact = (
+  λ t. (let (k, e, within, at, (m, k_is, d)) = exact.0 t in subst (Contains (edges_of which parts box dim)) (edge_equal e (edge dim u l v) (which_place which parts box dim e (k, within, at)).1 m k_is d) (k, within, at)),
+  λ c. exact.1 (any_of (λ e. (e.mother.0 ≡ u) × (e.label.0 ≡ l) × (e.daughter.0 ≡ v)) (edges_of which parts box dim) (edge dim u l v) c (refl, refl, refl)),
+)
 
-  pub in_told : IsTrue b ↔ ((other < nodes s.parts) × (other ≢ node) × Stands which s.parts s.now (edge plane.dim.0 other label node)) → IsTrue b ↔ Contains (edges_of which s.parts s.now plane.dim.0) (edge plane.dim.0 other label node)
-  in_told exact = (
-    λ t. (let e = exact.0 t in (which_exact which s.parts s.now plane.dim.0 (edge plane.dim.0 other label node) known.is_box).1 (edge_on s.parts plane other label node plane_is (let l = e.0 in let n = plane_is.nodes_is in omega (arith, l, n)) within e.1 small, e.2)),
-    λ c.
-        let both = (which_exact which s.parts s.now plane.dim.0 (edge plane.dim.0 other label node) known.is_box).0 c in
-        let on = (plane_is.exact (edge plane.dim.0 other label node)).0 both.0 in
-        exact.1 ((let l = on.mother in let n = plane_is.nodes_is in omega (arith, l, n)), on.differ, both.1),
-  )
+-- a label of a plane is one of the edges of its dimension
+pub label_known : (parts : Parts) (plane : Plane) (node label : ℕ) → IsPlane parts plane → node < plane.nodes → label < plane.labels → label < edge_labels parts plane.dim.0
+label_known parts plane node label plane_is within small =
+    let h = plane_is.edges node label within small in
+    subst (λ b. label < cond b (label_count parts plane.dim.0) 0) (sym h.graph) h.label_in
 
 -- the set has the other nodes of those edges of a bundle that may be, or must be
 abbrev pub TellsEnds : Which → State → ℕ → ℕ → ℕ → List ℕ → Way → Type 0

@@ -23,6 +23,7 @@ pub mod Single
 pub mod Reached
 pub mod Labels
 pub mod MustsStay
+pub mod Below
 pub mod Told
 pub mod Skipped
 pub mod Needing
@@ -30,8 +31,6 @@ pub mod Sources
 pub mod LabelCounts
 pub mod RootSets
 pub mod Resting
-pub mod Members
-pub mod Mothers
 pub mod Classing
 pub mod ClassRows
 pub mod Keeping

@@ -1,7 +1,7 @@
 -- Bundles of which nothing was lost: there valency takes no more than before.
-use Rattle.std.proofs.Common.{◌≡◌, ℕ, ◌<◌, inl, inr, Bool, true, false, List, [], ◌∷◌, ◌++◌, length, refl, sym, ◌∙◌, ap, subst, arith}
+use Rattle.std.proofs.Common.{◌≡◌, ℕ, ◌<◌, inl, inr, Bool, true, false, List, [], length, refl, sym, ◌∙◌, ap, subst, arith}
 use Rattle.std.specs.Prelude.{Contains, IsTrue, filter, nat_lt, not, slice_index_or, ◌==◌, ◌&&◌, ◌||◌, ◌↔◌}
-use Rattle.std.proofs.lemmas.Bool.{cases_Bool, cases_lt, false≢true}
+use Rattle.std.proofs.lemmas.Bool.{cases_Bool, cases_lt}
 use Rattle.std.proofs.lemmas.List.{get_or_past}
 use Rattle.std.proofs.lemmas.List.Elements.{All-weaker, All-contains_itself}
 use Rattle.xdg_nodeset.proofs.TableSets.{both, either as one_of}
@@ -19,10 +19,10 @@ use Rattle.xdg_problem.proofs.PlaceOrder.{is_place}
 use Rattle.std.proofs.lemmas.Bool.{eqb-true, lt-ltb, ltb-true}
 use Rattle.xdg_rules.specs.Rules.{has, HasNoneWithin, IsClosedFor, IsGreatest, IsLeast, may_edges, must_edges}
 use Rattle.xdg_rules.proofs.Shrinking.{may_be, must_be, may_is, may_of, must_is, must_of}
-use Rattle.xdg_store.specs.States.{State, Known}
+use Rattle.xdg_store.specs.States.{State}
 use Rattle.xdg_propcore.specs.Passes.{Progress, IsQuiet}
 use Rattle.xdg_propcore.specs.Sweeps.{Sweeps}
-use Rattle.xdg_propcore.proofs.Sweeping.{sweeps_start}
+use Rattle.xdg_propcore.proofs.Turns.{AreDone}
 use Rattle.xdg_propcore.specs.Touching.{HasAll, HasTouched, InTable, MarksEdge}
 use Rattle.xdg_propcore.specs.declared.touched.Touched.{Touched}
 use Rattle.xdg_pgraph.specs.Bundles.{EdgeAt, IsBundleDone, IsOpen, IsWayDone, count_of, near_node, numbers_of}
@@ -31,10 +31,9 @@ use Rattle.xdg_pgraph.proofs.EdgesStay.{both_same}
 use Rattle.xdg_pgraph.specs.Untouched.{AreOthersDone, IsTouched, side}
 use Rattle.xdg_pgraph.specs.declared.bundle.Way.{Way}
 use Rattle.xdg_pgraph.specs.declared.bundle.Way.TheVariants as ways
-use Rattle.xdg_pgraph.proofs.Bundled.{edge_takes, entry_takes, next_both}
+use Rattle.xdg_pgraph.proofs.Bundled.{edge_takes, entry_takes}
 use Rattle.xdg_pgraph.proofs.Ends.{counted, in_bundle, in_parts}
-use Rattle.xdg_pgraph.proofs.Members.{front_all, front_member, front_more}
-use Rattle.xdg_facts.proofs.Rising.{has_cases}
+use Rattle.xdg_facts.proofs.Rising.{no_member}
 use Rattle.xdg_facts.proofs.Truths.{either, same_and, same_flag}
 use Rattle.xdg_facts.specs.Rises.{has as has_node}
 use Rattle.xdg_propcore.proofs.Losing.{kept_or_lost}
@@ -155,12 +154,6 @@ others_stay t parts group old new principle lies touched closed way node label w
 pub others_none : (t : Touched) (parts : Parts) (group : Group) (box : List (List Bool)) → IsProblem parts → HasAll t → AreOthersDone t parts group box
 others_none t parts group box problem all way node label within known free = absurd (free (inl (all.entries node (let most = problem.most in omega (arith, within, most)))))
 
--- it is as it was where nothing was taken
-pub others_on : (t : Touched) (group : Group) (Done : List (List Bool) → Type 0) (p : Progress) (old : State) (q : Progress) (mid : State) → Sweeps group Done p old q mid → (IsQuiet p → AreOthersDone t old.parts group old.now) → IsQuiet q → AreOthersDone t mid.parts group mid.now
-others_on t group Done p old q mid a others quiet =
-    let same = a.goes.quiet quiet in
-    subst (λ box. AreOthersDone t mid.parts group box) (sym same.1) (subst (λ parts. AreOthersDone t parts group old.now) (sym a.goes.extends.same) (others same.0))
-
 -- ---- the nodes of which something was lost
 
 -- of the bundles with a label those nodes of the sentence that have lost an entry, or stand in the table
@@ -185,47 +178,18 @@ touched_in way t label node count edges lost all met edges_are lost_is all_is me
 
 -- ---- one node after another
 
--- at the nodes of a list up to those that are left the bundles with a label are done
-pub record SweptTo (way : Way) (label : ℕ) (parts : Parts) (group : Group) (first left : List ℕ) (p : Progress) (old : State) (q : Progress) (new : State) : Type 0 where
-  pub front : List ℕ
-  pub whole : front ++ left ≡ first
-  pub sweeps : Sweeps group (λ box. (v : ℕ) → has_node front v ≡ true → IsBundleDone way parts group v label box) p old q new
-
-module _ (way : Way) (label : ℕ) (group : Group) (first left rest : List ℕ) (p q r : Progress) (old mid new : State) where
-  pub swept_start : Known old → SweptTo way label old.parts group first first p old p old
-  swept_start known = record {
-    front = [];
-    whole = refl;
-    sweeps = sweeps_start group (λ box. (v : ℕ) → has_node [] v ≡ true → IsBundleDone way old.parts group v label box) p old known (λ v h. absurd (false≢true h));
-  }
-
-  pub swept_member : (k : ℕ) → left ≡ k ∷ rest → SweptTo way label old.parts group first left p old q mid → has_node first k ≡ true
-  swept_member k left_is a = front_member a.front left rest first k left_is a.whole
-
-  pub swept_more : (k : ℕ) → left ≡ k ∷ rest → SweptTo way label old.parts group first left p old q mid → Sweeps group (IsBundleDone way mid.parts group k label) q mid r new → SweptTo way label old.parts group first rest p old r new
-  swept_more k left_is a b = record {
-    front = a.front ++ k ∷ [];
-    whole = front_more a.front left rest first k left_is a.whole;
-    sweeps = next_both group (λ box. (v : ℕ) → has_node a.front v ≡ true → IsBundleDone way old.parts group v label box) (λ box. (v : ℕ) → has_node (a.front ++ k ∷ []) v ≡ true → IsBundleDone way old.parts group v label box) (λ parts. IsBundleDone way parts group k label) p old q mid r new a.sweeps b
-        (λ box before here v h. elim (has_cases a.front k v h) [
-          | inl there ↦ before v there
-          | inr same ↦ subst (λ n. IsBundleDone way old.parts group n label box) (sym same) here
-        ]);
-  }
-
-  -- at the others nothing is left to take
-  pub swept_all : (t : Touched) → label < label_count old.parts (first_dim group) → ((v : ℕ) → v < nodes old.parts → IsTouched way t v label → has_node first v ≡ true) → (IsQuiet p → AreOthersDone t old.parts group old.now) → left ≡ [] → SweptTo way label old.parts group first left p old q mid → Sweeps group (IsWayDone way old.parts group label) p old q mid
-  swept_all t known there others left_is a = record {
-    goes = a.sweeps.goes;
-    known = a.sweeps.known;
-    done = λ quiet node within.
-        let same = a.sweeps.goes.quiet quiet in
-        let here : AreOthersDone t old.parts group mid.now = subst (λ box. AreOthersDone t old.parts group box) (sym same.1) (others same.0) in
-        elim (either (has_node first node)) [
-          | inl swept ↦ a.sweeps.done quiet node (subst (λ s. has_node s node ≡ true) (sym (front_all a.front left first left_is a.whole)) swept)
-          | inr gone ↦ here way node label within known (λ touched. gone (there node within touched))
-        ];
-  }
+-- at the others nothing is left to take
+pub nodes_swept : (way : Way) (label : ℕ) (t : Touched) (group : Group) (first left : List ℕ) (p q : Progress) (old new : State) → label < label_count old.parts (first_dim group) → ((v : ℕ) → v < nodes old.parts → IsTouched way t v label → has_node first v ≡ true) → (IsQuiet p → AreOthersDone t old.parts group old.now) → left ≡ [] → Sweeps group (AreDone (λ v. IsBundleDone way old.parts group v label) first left) p old q new → Sweeps group (IsWayDone way old.parts group label) p old q new
+nodes_swept way label t group first left p q old new known there others none a = record {
+  goes = a.goes;
+  known = a.known;
+  done = λ quiet node within.
+      let same = a.goes.quiet quiet in
+      elim (either (has_node first node)) [
+        | inl swept ↦ a.done quiet node swept (no_member left node none)
+        | inr gone ↦ subst (λ box. AreOthersDone t old.parts group box) (sym same.1) (others same.0) way node label within known (λ touched. gone (there node within touched))
+      ];
+}
 
 -- ---- labels
 

@@ -7,7 +7,7 @@ use Rattle.xdg_problem.specs.declared.analysis.Edge.{Edge}
 use Rattle.xdg_problem.specs.declared.parts.Group.{Group}
 use Rattle.xdg_problem.specs.declared.parts.Parts.{Parts}
 use Rattle.xdg_problem.specs.Arguments.{first_dim}
-use Rattle.xdg_problem.specs.Boxes.{Has}
+use Rattle.xdg_problem.specs.Boxes.{Has, LiesIn}
 use Rattle.xdg_problem.specs.Problems.{IsGroup}
 use Rattle.xdg_rules.specs.Rules.{IsPlaceOn, Takes, OneMother, must_edges}
 use Rattle.xdg_rules.proofs.DecidingBoxes.{decided_edges}
@@ -16,7 +16,6 @@ use Rattle.xdg_propcore.specs.Passes.{Progress, Clears}
 use Rattle.xdg_propcore.proofs.Passing.{goes_none, goes_both}
 use Rattle.xdg_pgraph.specs.declared.found.Found.{Found}
 use Rattle.xdg_pgraph.specs.declared.found.Found.TheVariants as founds
-use Rattle.xdg_pgraph.specs.declared.plane.Plane.{Plane}
 use Rattle.xdg_pgraph.specs.Seeking.{Aims, Finds, ToNode, Into, IsOther}
 use Rattle.xdg_pgraph.specs.Ruling.{Runs, RunsFor}
 
@@ -70,44 +69,51 @@ RunsPart Whole Part dim p old q new =
 pub still_out : (left rest : List ℕ) (v w : ℕ) → left ≡ v ∷ rest → (w ≡ v → ⊥) → has rest w ≡ false → has left w ≡ false
 still_out left rest v w is other out = subst (λ s. has s w ≡ false) (sym is) (ap (λ b. b || has rest w) (ne_eqb v w (λ e. other (sym e))) ∙ out)
 
+-- what a rule takes at a node, of each value that it takes
+abbrev pub AtNode : (Parts → Group → List (List Bool) → ℕ → ℕ → Type 0) → Type 0
+AtNode Rule = (parts : Parts) (group : Group) (box : List (List Bool)) (d v : ℕ) → Rule parts group box d v → ℕ
+
+module _ (Rule : Parts → Group → List (List Bool) → ℕ → ℕ → Type 0) (node : AtNode Rule) where
+  -- the rule, for nodes outside a set
+  abbrev pub Outside : List ℕ → Parts → Group → List (List Bool) → ℕ → ℕ → Type 0
+  Outside left parts group box d v = (rule : Rule parts group box d v) × (has left (node parts group box d v rule) ≡ false)
+
+  module _ (dim : ℕ) (p q r : Progress) (old mid new : State) where
+    -- what it takes at one node more
+    pub outside_turn : (left rest : List ℕ) (w : ℕ) (Aim : ℕ → ℕ → Type 0) → left ≡ w ∷ rest → mid.parts ≡ old.parts
+        → ((group : Group) → first_dim group ≡ dim → LiesIn mid.now old.now → (d v : ℕ) → Aim d v → Rule old.parts group mid.now d v)
+        → ((group : Group) → first_dim group ≡ dim → (d v : ℕ) → (rule : Rule old.parts group mid.now d v) → node old.parts group mid.now d v rule ≡ w → Aim d v)
+        → RunsPart Rule (Outside left) dim p old q mid → Clears Aim q mid r new → RunsPart Rule (Outside rest) dim p old r new
+    outside_turn left rest w Aim first same to from before c group is on takes =
+        let a = before group is on takes in
+        runs_turn (Outside left old.parts group) (Outside rest old.parts group) Aim group p q r old mid new a c
+        (subst (λ z. IsGroup z group) (sym same) is)
+        (λ d v aim. subst (λ z. Takes z group mid.now d v) (sym same) (takes mid.now d v (to group on a.goes.extends.inside d v aim)))
+        (λ d v x. elim (cases_eq (node old.parts group mid.now d v x.0) w) [
+          | inl at ↦ inr (from group on d v x.0 at)
+          | inr other ↦ inl (x.0, still_out left rest w (node old.parts group mid.now d v x.0) first other x.1)
+        ])
+
+    pub outside_end : (left : List ℕ) → left ≡ [] → RunsPart Rule (Outside left) dim p old q mid → RunsFor Rule dim p old q mid
+    outside_end left none a group is on takes = runs_like (Outside left old.parts group) (Rule old.parts group) group p q old mid
+        (λ d v x. (x, ap (λ s. has s (node old.parts group mid.now d v x)) none))
+        (a group is on takes)
+
 -- ---- one mother
 
--- the rule, for daughters outside a set
-pub record OneMotherOutside (left : List ℕ) (parts : Parts) (group : Group) (box : List (List Bool)) (d v : ℕ) : Type 0 where
-  pub rule : OneMother parts group box d v
-  pub outside : has left rule.place.daughter.0 ≡ false
+abbrev pub its_daughter : AtNode OneMother
+its_daughter parts group box d v rule = rule.place.daughter.0
 
-module _ (plane : Plane) (p q r : Progress) (old mid new : State) where
-  abbrev dim : ℕ
-  dim = plane.dim.0
-
-  module _ (left rest : List ℕ) (w : ℕ) (found : Found) (first : left ≡ w ∷ rest) (same : mid.parts ≡ old.parts) (f : Finds (Into (must_edges old.parts mid.now dim) w) found) where
-    aim_is_rule : (group : Group) → first_dim group ≡ dim → (d v : ℕ) → Aims old.parts dim found (ToNode w) d v → OneMother old.parts group mid.now d v
-    aim_is_rule group on d v aim =
-        let o = other_of (Into (must_edges old.parts mid.now dim) w) found f aim.place aim.other in
-        record { place = aim.place; is = subst (λ k. IsPlaceOn old.parts k aim.place) (sym on) aim.is; says = aim.says; other = o.0; must = subst (λ k. Contains (must_edges old.parts mid.now k) o.0) (sym on) o.1.0; differs = o.2; both = aim.aimed ∙ sym o.1.1 }
-
-    rule_is_aim : (group : Group) → first_dim group ≡ dim → (d v : ℕ) → OneMotherOutside rest old.parts group mid.now d v → OneMotherOutside left old.parts group mid.now d v ⊎ Aims old.parts dim found (ToNode w) d v
-    rule_is_aim group on d v a = elim (cases_eq a.rule.place.daughter.0 w) [
-      | inl at ↦ inr (record {
-        place = a.rule.place;
-        is = subst (λ k. IsPlaceOn old.parts k a.rule.place) on a.rule.is;
+module _ (dim : ℕ) (p q r : Progress) (old mid new : State) (left rest : List ℕ) (w : ℕ) (found : Found) (first : left ≡ w ∷ rest) (same : mid.parts ≡ old.parts) (f : Finds (Into (must_edges old.parts mid.now dim) w) found) where
+  pub one_mother_turn : RunsPart OneMother (Outside OneMother its_daughter left) dim p old q mid → Clears (Aims old.parts dim found (ToNode w)) q mid r new → RunsPart OneMother (Outside OneMother its_daughter rest) dim p old r new
+  one_mother_turn = outside_turn OneMother its_daughter dim p q r old mid new left rest w (Aims old.parts dim found (ToNode w)) first same
+      (λ group on lies d v aim.
+      let o = other_of (Into (must_edges old.parts mid.now dim) w) found f aim.place aim.other in
+      record { place = aim.place; is = subst (λ k. IsPlaceOn old.parts k aim.place) (sym on) aim.is; says = aim.says; other = o.0; must = subst (λ k. Contains (must_edges old.parts mid.now k) o.0) (sym on) o.1.0; differs = o.2; both = aim.aimed ∙ sym o.1.1 })
+      (λ group on d v rule at. record {
+        place = rule.place;
+        is = subst (λ k. IsPlaceOn old.parts k rule.place) on rule.is;
         aimed = at;
-        other = is_other (Into (must_edges old.parts mid.now dim) w) found f a.rule.place a.rule.other (subst (λ k. Contains (must_edges old.parts mid.now k) a.rule.other) on a.rule.must, sym a.rule.both ∙ at) a.rule.differs;
-        says = a.rule.says;
+        other = is_other (Into (must_edges old.parts mid.now dim) w) found f rule.place rule.other (subst (λ k. Contains (must_edges old.parts mid.now k) rule.other) on rule.must, sym rule.both ∙ at) rule.differs;
+        says = rule.says;
       })
-      | inr other ↦ inl (record { rule = a.rule; outside = still_out left rest w a.rule.place.daughter.0 first other a.outside })
-    ]
-
-    pub one_mother_turn : RunsPart OneMother (OneMotherOutside left) dim p old q mid → Clears (Aims old.parts dim found (ToNode w)) q mid r new → RunsPart OneMother (OneMotherOutside rest) dim p old r new
-    one_mother_turn a b group is on takes = runs_turn (OneMotherOutside left old.parts group) (OneMotherOutside rest old.parts group) (Aims old.parts dim found (ToNode w)) group p q r old mid new
-        (a group is on takes)
-        b
-        (subst (λ z. IsGroup z group) (sym same) is)
-        (λ d v aim. subst (λ z. Takes z group mid.now d v) (sym same) (takes mid.now d v (aim_is_rule group on d v aim)))
-        (rule_is_aim group on)
-
-  pub one_mother_end : (left : List ℕ) → left ≡ [] → RunsPart OneMother (OneMotherOutside left) dim p old q mid → RunsFor OneMother dim p old q mid
-  one_mother_end left none a group is on takes = runs_like (OneMotherOutside left old.parts group) (OneMother old.parts group) group p q old mid
-      (λ d v x. record { rule = x; outside = ap (λ s. has s x.place.daughter.0) none })
-      (a group is on takes)

@@ -29,6 +29,10 @@ root_within n edges found w are is =
     let l = each_contained (λ i. (0 ≤ i) × (i < 0 + n)) (below n) w (numbers_within 0 n) c.0 in
     let r = l.1 in omega (arith, r)
 
+-- the roots by the edges of a dimension
+pub roots_same : (parts : Parts) (plane : Plane) (edges : ℕ → List Edge) (k : ℕ) → IsPlane parts plane → k ≡ plane.dim.0 → roots (nodes parts) (edges k) ≡ roots plane.nodes (edges plane.dim.0)
+roots_same parts plane edges k plane_is on = ap (λ j. roots (nodes parts) (edges j)) on ∙ ap (λ n. roots n (edges plane.dim.0)) (sym plane_is.nodes_is)
+
 -- no value
 abbrev Never : List (List Bool) → ℕ → ℕ → Type 0
 Never box d v = ⊥
@@ -42,7 +46,7 @@ module _ (plane : Plane) (p q : Progress) (old new : State) (plane_is : IsPlane 
   all_cleared TakesRule Aim c to from group is on takes = runs_turn Never (TakesRule old.parts group) Aim group p p q old old new (runs_none Never group p old (λ d v a. a)) c is (λ d v aim. takes old.now d v (to group on d v aim)) (λ d v a. inr (from group on d v a))
 
   must_roots : (group : Group) → first_dim group ≡ dim → roots (nodes old.parts) (must_edges old.parts old.now (first_dim group)) ≡ roots plane.nodes (must_edges old.parts old.now dim)
-  must_roots group on = ap (λ k. roots (nodes old.parts) (must_edges old.parts old.now k)) on ∙ ap (λ n. roots n (must_edges old.parts old.now dim)) (sym plane_is.nodes_is)
+  must_roots group on = roots_same old.parts plane (must_edges old.parts old.now) (first_dim group) plane_is on
 
   pub no_root_runs : (found : Roots) → RootsAre (roots plane.nodes (must_edges old.parts old.now dim)) found → found ≡ rootss.Nothing → Clears EachValue p old q new → RunsFor ForRoot dim p old q new
   no_root_runs found are is c = all_cleared ForRoot EachValue c (λ group on d v a. inr (must_roots group on ∙ subst (RootsAre (roots plane.nodes (must_edges old.parts old.now dim))) is are)) (λ group on d v a. tt)
@@ -63,12 +67,11 @@ module _ (plane : Plane) (p q : Progress) (old new : State) (plane_is : IsPlane 
   pub one_root_runs : (found : Roots) (w : ℕ) → RootsAre (roots plane.nodes (must_edges old.parts old.now dim)) found → found ≡ rootss.One w → Clears (Aims old.parts dim founds.More (ToNode w)) p old q new → RunsFor ForRoot dim p old q new
   one_root_runs found w are is c = one_root_clears w (subst (RootsAre (roots plane.nodes (must_edges old.parts old.now dim))) is are) c
 
-module _ (plane : Plane) (p : Progress) (old : State) (plane_is : IsPlane old.parts plane) where
-  none_for_root : (many : 2 ≤ length (roots plane.nodes (must_edges old.parts old.now plane.dim.0))) (group : Group) → first_dim group ≡ plane.dim.0 → (d v : ℕ) → ForRoot old.parts group old.now d v → ⊥
-  none_for_root many group on d v a = elim a [
-    | inl r ↦ (let e = ap length (sym r.root ∙ must_roots plane p p old old plane_is group on) in omega (arith, e, many))
-    | inr none ↦ (let e = ap length (sym none ∙ must_roots plane p p old old plane_is group on) in omega (arith, e, many))
-  ]
-
-  pub more_roots_run : (found : Roots) → RootsAre (roots plane.nodes (must_edges old.parts old.now plane.dim.0)) found → found ≡ rootss.More → RunsFor ForRoot plane.dim.0 p old p old
-  more_roots_run found are is group is_group on takes = runs_none (ForRoot old.parts group) group p old (none_for_root (subst (RootsAre (roots plane.nodes (must_edges old.parts old.now plane.dim.0))) is are) group on)
+  pub more_roots_run : (found : Roots) → RootsAre (roots plane.nodes (must_edges old.parts old.now dim)) found → found ≡ rootss.More → RunsFor ForRoot dim p old p old
+  more_roots_run found are is group is_group on takes =
+      let many : 2 ≤ length (roots plane.nodes (must_edges old.parts old.now dim)) = subst (RootsAre (roots plane.nodes (must_edges old.parts old.now dim))) is are in
+      let same = must_roots group on in
+      runs_none (ForRoot old.parts group) group p old (λ d v a. elim a [
+        | inl r ↦ (let e = ap length (sym r.root ∙ same) in omega (arith, e, many))
+        | inr none ↦ (let e = ap length (sym none ∙ same) in omega (arith, e, many))
+      ])

@@ -1,7 +1,7 @@
 -- Searches for edges, step by step.
 use Rattle.std.proofs.Common.{◌≡◌, ◌≢◌, ℕ, ◌+◌, ◌<◌, ◌≤◌, ◌⊎◌, ◌↔◌, ◌==◌, inl, inr, Bool, true, IsTrue, List, [], ◌∷◌, length, refl, sym, ◌∙◌, ap, subst, arith}
 use Rattle.std.specs.Prelude.{Contains}
-use Rattle.std.proofs.lemmas.Bool.{cases_eq, eq-eqb, eqb-true, false≢true}
+use Rattle.std.proofs.lemmas.Bool.{eq-eqb, eqb-true, false≢true}
 use Rattle.std.proofs.lemmas.List.{nil_from_length}
 use Rattle.xdg_facts.proofs.Truths.{either_true, or_false, or_here}
 use Rattle.xdg_nodeset.specs.Nodes.{IsNodes}
@@ -16,56 +16,40 @@ use Rattle.xdg_pgraph.specs.declared.plane.Plane.{Plane}
 use Rattle.xdg_pgraph.specs.Planes.{IsPlane, IsOnPlane}
 use Rattle.xdg_graph.specs.Edges.{edges_of}
 use Rattle.xdg_pgraph.specs.Seeking.{Finds, IsMore, Joins, Into, IntoWith, found_with, found_merged}
+use Rattle.xdg_pgraph.proofs.Below.{Below, below_apart, below_cases, below_last, below_more}
 use Rattle.xdg_pgraph.proofs.Looked.{finds_like, finds_with, finds_merged}
 use Rattle.xdg_pgraph.proofs.PlaneFacts.{which_place}
 use Rattle.xdg_facts.specs.Rises.{has, Rises}
 
--- the edges from a node to another with a label below a bound
-abbrev pub JoinsBelow : List Edge → ℕ → ℕ → ℕ → Edge → Type 0
-JoinsBelow edges u v l e = Joins edges u v e × (e.label.0 < l)
+-- those with one of the first labels
+abbrev pub FirstLabels : (Edge → Type 0) → ℕ → Edge → Type 0
+FirstLabels P l = Below (λ e. e.label.0) P l
 
--- the edges into a node with a label below a bound
-abbrev pub IntoBelow : List Edge → ℕ → ℕ → Edge → Type 0
-IntoBelow edges v l e = Into edges v e × (e.label.0 < l)
+found_all : (P : Edge → Type 0) (l : ℕ) (found : Found) → ((e : Edge) → P e → e.label.0 < l) → Finds (FirstLabels P l) found → Finds P found
+found_all P l found all = finds_like (FirstLabels P l) P found (λ e j. j.0) (λ e j. (j, all e j))
 
-module _ (edges : List Edge) (dim u v : ℕ) (on : (e : Edge) → Contains edges e → e.dim.0 ≡ dim) where
-  this_edge : (l : ℕ) (e : Edge) → Joins edges u v e → e.label.0 ≡ l → edge dim u l v ≡ e
-  this_edge l e j k = sym (edge_equal e (edge dim u l v) (on e j.0) j.1.0 k j.1.1)
+module _ (edges : List Edge) (dim u v : ℕ) (on : (e : Edge) → Contains edges e → e.dim.0 ≡ dim) (l : ℕ) (found : Found) (so_far : Finds (FirstLabels (Joins edges u v) l) found) where
+  abbrev First : ℕ → Edge → Type 0
+  First = FirstLabels (Joins edges u v)
 
   -- one label more
-  pub label_cases : (l : ℕ) (e : Edge) → JoinsBelow edges u v (l + 1) e → JoinsBelow edges u v l e ⊎ (edge dim u l v ≡ e)
-  label_cases l e j = elim (cases_eq e.label.0 l) [
-    | inl same ↦ inr (this_edge l e j.0 same)
-    | inr other ↦ inl (j.0, (let b = j.1 in omega (arith, b, other)))
+  label_cases : (e : Edge) → First (l + 1) e → First l e ⊎ (edge dim u l v ≡ e)
+  label_cases e j = elim (below_cases (λ f. f.label.0) (Joins edges u v) l e j) [
+    | inl before ↦ inl before
+    | inr (here, k) ↦ inr (sym (edge_equal e (edge dim u l v) (on e here.0) here.1.0 k here.1.1))
   ]
 
-  pub joined_hit : (l : ℕ) (found : Found) → Contains edges (edge dim u l v) → Finds (JoinsBelow edges u v l) found → Finds (JoinsBelow edges u v (l + 1)) (found_with found (edge dim u l v))
-  joined_hit l found c f = finds_with (JoinsBelow edges u v l) (JoinsBelow edges u v (l + 1)) found (edge dim u l v) (λ e j. (j.0, (let b = j.1 in omega (arith, b)))) ((c, (refl, refl)), omega arith) (label_cases l) (λ j. (let b = j.1 in omega (arith, b))) f
+  joined_hit : Contains edges (edge dim u l v) → Finds (First (l + 1)) (found_with found (edge dim u l v))
+  joined_hit c = finds_with (First l) (First (l + 1)) found (edge dim u l v) (below_more (λ e. e.label.0) (Joins edges u v) l) ((c, (refl, refl)), omega arith) label_cases (λ j. (let b = j.1 in omega (arith, b))) so_far
 
-  pub joined_miss : (l : ℕ) (found : Found) → (Contains edges (edge dim u l v) → ⊥) → Finds (JoinsBelow edges u v l) found → Finds (JoinsBelow edges u v (l + 1)) found
-  joined_miss l found none f = finds_like (JoinsBelow edges u v l) (JoinsBelow edges u v (l + 1)) found (λ e j. (j.0, (let b = j.1 in omega (arith, b)))) (λ e j. elim (label_cases l e j) [ inl k ↦ k | inr same ↦ absurd (none (subst (Contains edges) (sym same) j.0.0)) ]) f
+  joined_miss : (Contains edges (edge dim u l v) → ⊥) → Finds (First (l + 1)) found
+  joined_miss none = finds_like (First l) (First (l + 1)) found (below_more (λ e. e.label.0) (Joins edges u v) l) (λ e j. elim (label_cases e j) [ inl k ↦ k | inr same ↦ absurd (none (subst (Contains edges) (sym same) j.0.0)) ]) so_far
 
-  pub joined_all : (l : ℕ) (found : Found) → ((e : Edge) → Contains edges e → e.label.0 < l) → Finds (JoinsBelow edges u v l) found → Finds (Joins edges u v) found
-  joined_all l found all f = finds_like (JoinsBelow edges u v l) (Joins edges u v) found (λ e j. j.0) (λ e j. (j, all e j.0)) f
-
-module _ (edges : List Edge) (v : ℕ) where
-  with_cases : (l : ℕ) (e : Edge) → IntoBelow edges v (l + 1) e → IntoBelow edges v l e ⊎ IntoWith edges v l e
-  with_cases l e j = elim (cases_eq e.label.0 l) [
-    | inl same ↦ inr (j.0, same)
-    | inr other ↦ inl (j.0, (let b = j.1 in omega (arith, b, other)))
-  ]
-
-  pub into_more : (l : ℕ) (found more : Found) → Finds (IntoWith edges v l) more → Finds (IntoBelow edges v l) found → Finds (IntoBelow edges v (l + 1)) (found_merged found more)
-  into_more l found more j f = finds_merged (IntoBelow edges v l) (IntoWith edges v l) (IntoBelow edges v (l + 1)) found more (λ e k. (k.0, (let b = k.1 in omega (arith, b)))) (λ e k. (k.0, (let b = k.1 in omega (arith, b)))) (with_cases l) (λ e k n. (let b = k.1 in let c = n.1 in omega (arith, b, c))) f j
-
-  -- two are enough
-  pub into_two : (l : ℕ) (found : Found) → IsMore found → Finds (IntoBelow edges v l) found → Finds (Into edges v) found
-  into_two l founds.Nothing more f = absurd more
-  into_two l (founds.One e) more f = absurd more
-  into_two l founds.More more f = (f.0, f.1, f.2.0, f.3.0, f.4)
-
-  pub into_all : (l : ℕ) (found : Found) → ((e : Edge) → Contains edges e → e.label.0 < l) → Finds (IntoBelow edges v l) found → Finds (Into edges v) found
-  into_all l found all f = finds_like (IntoBelow edges v l) (Into edges v) found (λ e j. j.0) (λ e j. (j, all e j.0)) f
+-- two are enough
+pub into_two : (P : Edge → Type 0) (l : ℕ) (found : Found) → IsMore found → Finds (FirstLabels P l) found → Finds P found
+into_two P l founds.Nothing more f = absurd more
+into_two P l (founds.One e) more f = absurd more
+into_two P l founds.More more f = (f.0, f.1, f.2.0, f.3.0, f.4)
 
 -- ---- the edges with one label into a node, by the set of their mothers
 
@@ -115,14 +99,17 @@ module _ (which : Which) (parts : Parts) (box : List (List Bool)) (plane : Plane
   those_on : (e : Edge) → Contains those e → e.dim.0 ≡ plane.dim.0
   those_on e c = (which_place which parts box plane.dim.0 e c).1
 
-  pub joined_yes : (u v l : ℕ) (e : Edge) (found new : Found) → e ≡ edge plane.dim.0 u l v → Contains (edges_of which parts box e.dim.0) e → new ≡ found_with found e → Finds (JoinsBelow those u v l) found → Finds (JoinsBelow those u v (l + 1)) new
-  joined_yes u v l e found new is c new_is f = subst (Finds (JoinsBelow those u v (l + 1))) (sym (new_is ∙ ap (found_with found) is)) (joined_hit those plane.dim.0 u v those_on l found (subst (λ z. Contains (edges_of which parts box z.dim.0) z) is c) f)
+  pub joined_yes : (u v l : ℕ) (e : Edge) (found new : Found) → e ≡ edge plane.dim.0 u l v → Contains (edges_of which parts box e.dim.0) e → new ≡ found_with found e → Finds (FirstLabels (Joins those u v) l) found → Finds (FirstLabels (Joins those u v) (l + 1)) new
+  joined_yes u v l e found new is c new_is f = subst (Finds (FirstLabels (Joins those u v) (l + 1))) (sym (new_is ∙ ap (found_with found) is)) (joined_hit those plane.dim.0 u v those_on l found f (subst (λ z. Contains (edges_of which parts box z.dim.0) z) is c))
 
-  pub joined_not : (u v l : ℕ) (e : Edge) (found new : Found) → e ≡ edge plane.dim.0 u l v → (Contains (edges_of which parts box e.dim.0) e → ⊥) → new ≡ found → Finds (JoinsBelow those u v l) found → Finds (JoinsBelow those u v (l + 1)) new
-  joined_not u v l e found new is none new_is f = subst (Finds (JoinsBelow those u v (l + 1))) (sym new_is) (joined_miss those plane.dim.0 u v those_on l found (λ c. none (subst (λ z. Contains (edges_of which parts box z.dim.0) z) (sym is) c)) f)
+  pub joined_not : (u v l : ℕ) (e : Edge) (found : Found) → e ≡ edge plane.dim.0 u l v → (Contains (edges_of which parts box e.dim.0) e → ⊥) → Finds (FirstLabels (Joins those u v) l) found → Finds (FirstLabels (Joins those u v) (l + 1)) found
+  joined_not u v l e found is none f = joined_miss those plane.dim.0 u v those_on l found f (λ c. none (subst (λ z. Contains (edges_of which parts box z.dim.0) z) (sym is) c))
 
-  pub into_turn : (v l : ℕ) (found more new : Found) → Finds (IntoWith those v l) more → new ≡ found_merged found more → Finds (IntoBelow those v l) found → Finds (IntoBelow those v (l + 1)) new
-  into_turn v l found more new j new_is f = subst (Finds (IntoBelow those v (l + 1))) (sym new_is) (into_more those v l found more j f)
+  pub into_turn : (v l : ℕ) (found more new : Found) → Finds (IntoWith those v l) more → new ≡ found_merged found more → Finds (FirstLabels (Into those v) l) found → Finds (FirstLabels (Into those v) (l + 1)) new
+  into_turn v l found more new j new_is f =
+      let label : Edge → ℕ = λ e. e.label.0 in
+      subst (Finds (FirstLabels (Into those v) (l + 1))) (sym new_is)
+      (finds_merged (FirstLabels (Into those v) l) (IntoWith those v l) (FirstLabels (Into those v) (l + 1)) found more (below_more label (Into those v) l) (below_last label (Into those v) l) (below_cases label (Into those v) l) (below_apart label (Into those v) l) f j)
 
   module _ (v l : ℕ) (mothers : List ℕ) (exact : (m : ℕ) → IsTrue (has mothers m) ↔ Contains those (edge plane.dim.0 m l v)) where
     pub none_found : mothers ≡ [] → Finds (IntoWith those v l) founds.Nothing
@@ -138,8 +125,8 @@ module _ (which : Which) (parts : Parts) (box : List (List Bool)) (plane : Plane
     those_plane : (e : Edge) → Contains those e → IsOnPlane plane e
     those_plane e c = (plane_is.exact e).0 (which_place which parts box plane.dim.0 e c)
 
-    pub joined_end : (u v l : ℕ) (found : Found) → plane.labels ≤ l → Finds (JoinsBelow those u v l) found → Finds (Joins those u v) found
-    joined_end u v l found all f = joined_all those plane.dim.0 u v those_on l found (λ e c. (let k = (those_plane e c).label in omega (arith, k, all))) f
+    pub joined_end : (u v l : ℕ) (found : Found) → plane.labels ≤ l → Finds (FirstLabels (Joins those u v) l) found → Finds (Joins those u v) found
+    joined_end u v l found all = found_all (Joins those u v) l found (λ e j. (let k = (those_plane e j.0).label in omega (arith, k, all)))
 
-    pub into_end : (v l : ℕ) (found : Found) → plane.labels ≤ l → Finds (IntoBelow those v l) found → Finds (Into those v) found
-    into_end v l found all f = into_all those v l found (λ e c. (let k = (those_plane e c).label in omega (arith, k, all))) f
+    pub into_end : (v l : ℕ) (found : Found) → plane.labels ≤ l → Finds (FirstLabels (Into those v) l) found → Finds (Into those v) found
+    into_end v l found all = found_all (Into those v) l found (λ e j. (let k = (those_plane e j.0).label in omega (arith, k, all)))

@@ -1,23 +1,22 @@
 -- The one edge that may lead into a node.
-use Rattle.std.proofs.Common.{◌≡◌, ℕ, ◌≤◌, ◌⊎◌, inl, inr, Bool, false, List, [], ◌∷◌, length, refl, sym, ◌∙◌, ap, subst, arith}
+use Rattle.std.proofs.Common.{◌≡◌, ℕ, ◌≤◌, inl, inr, Bool, false, List, [], ◌∷◌, length, refl, sym, ◌∙◌, ap, subst, arith}
 use Rattle.std.specs.Prelude.{Contains, filter, ◌==◌}
-use Rattle.std.proofs.lemmas.Bool.{cases_eq, eq-eqb, eqb-true}
+use Rattle.std.proofs.lemmas.Bool.{eq-eqb, eqb-true}
 use Rattle.std.proofs.lemmas.List.Sums.{length-filter}
 use Rattle.xdg_problem.specs.declared.analysis.Edge.{Edge}
 use Rattle.xdg_problem.specs.declared.parts.Group.{Group}
 use Rattle.xdg_problem.specs.declared.parts.Parts.{Parts}
 use Rattle.xdg_problem.specs.Analyses.{Before, IsPlace}
 use Rattle.xdg_problem.specs.Arguments.{first_dim}
-use Rattle.xdg_problem.specs.Boxes.{IsBox, edge_decision}
+use Rattle.xdg_problem.specs.Boxes.{IsBox, LiesIn, edge_decision}
 use Rattle.xdg_problem.specs.Paths.{mothers, roots}
 use Rattle.xdg_problem.specs.Places.{nodes}
-use Rattle.xdg_problem.specs.Problems.{IsGroup}
 use Rattle.xdg_problem.specs.Vectors.{shape}
 use Rattle.xdg_problem.proofs.Edges.{before_differ}
 use Rattle.xdg_problem.proofs.FilterFacts.{filter_contained}
 use Rattle.xdg_problem.proofs.Ordered.{Ordered, ordered_filter, contains_head, contains_none}
 use Rattle.xdg_problem.proofs.PlaceOrder.{places_ordered, is_place}
-use Rattle.xdg_rules.specs.Rules.{Takes, OnlyMother, may_edges}
+use Rattle.xdg_rules.specs.Rules.{OnlyMother, may_edges}
 use Rattle.xdg_rules.proofs.Among.{roots_among}
 use Rattle.xdg_rules.proofs.Keeping.{counts_one, counts_two}
 use Rattle.xdg_rules.proofs.Shrinking.{may_be, may_among}
@@ -32,9 +31,10 @@ use Rattle.xdg_graph.specs.declared.which.Which.TheVariants as whichs
 use Rattle.xdg_pgraph.specs.declared.plane.Plane.{Plane}
 use Rattle.xdg_pgraph.specs.Planes.{IsPlane}
 use Rattle.xdg_pgraph.specs.Seeking.{Finds, Into, NoneOnly, Only, RootsAre}
-use Rattle.xdg_pgraph.specs.Ruling.{Runs, RunsFor, ForOthers}
+use Rattle.xdg_pgraph.specs.Ruling.{RunsFor, ForOthers}
 use Rattle.xdg_pgraph.proofs.PlaneFacts.{which_place}
-use Rattle.xdg_pgraph.proofs.Ruled.{RunsPart, runs_none, runs_turn, runs_like, still_out}
+use Rattle.xdg_pgraph.proofs.Ruled.{AtNode, Outside, RunsPart, outside_turn, runs_none}
+use Rattle.xdg_pgraph.proofs.RuledRoots.{all_cleared, roots_same}
 use Rattle.xdg_facts.proofs.Lists.{contains_more}
 use Rattle.xdg_facts.specs.Rises.{has}
 
@@ -78,75 +78,53 @@ module _ (parts : Parts) (box : List (List Bool)) (dim w : ℕ) where
 
 -- ---- the rule, for daughters outside a set
 
-pub record OnlyMotherOutside (left : List ℕ) (parts : Parts) (group : Group) (box : List (List Bool)) (d v : ℕ) : Type 0 where
-  pub rule : OnlyMother parts group box d v
-  pub outside : has left rule.place.daughter.0 ≡ false
+abbrev pub only_daughter : AtNode OnlyMother
+only_daughter parts group box d v rule = rule.place.daughter.0
 
 module _ (plane : Plane) (p q r : Progress) (old mid new : State) (root : ℕ) (there : Contains (roots plane.nodes (may_edges old.parts old.now plane.dim.0)) root) where
   abbrev dim : ℕ
   dim = plane.dim.0
 
-  pub only_start : (left : List ℕ) → ((v : ℕ) → has left v ≡ false → NoneOnly old.parts old.now dim v) → RunsPart OnlyMother (OnlyMotherOutside left) dim p old p old
+  pub only_start : (left : List ℕ) → ((v : ℕ) → has left v ≡ false → NoneOnly old.parts old.now dim v) → RunsPart OnlyMother (Outside OnlyMother only_daughter left) dim p old p old
   only_start left none group is on takes = record {
     goes = goes_none group p old;
-    done = λ z d v x h. none x.rule.place.daughter.0 x.outside d v (record {
-      place = x.rule.place;
-      among = subst (λ k. Contains (may_edges old.parts old.now k) x.rule.place) on x.rule.may;
+    done = λ z d v x h. none x.0.place.daughter.0 x.1 d v (record {
+      place = x.0.place;
+      among = subst (λ k. Contains (may_edges old.parts old.now k) x.0.place) on x.0.may;
       into = refl;
-      one = subst (λ k. mothers (may_edges old.parts old.now k) x.rule.place.daughter.0 ≡ 1) on x.rule.only;
-      says = x.rule.says;
+      one = subst (λ k. mothers (may_edges old.parts old.now k) x.0.place.daughter.0 ≡ 1) on x.0.only;
+      says = x.0.says;
     }) h;
   }
 
   module _ (left rest : List ℕ) (w : ℕ) (first : left ≡ w ∷ rest) (plane_is : IsPlane old.parts plane) (same : mid.parts ≡ old.parts) (known : Known mid) where
-    abbrev Here : ℕ → ℕ → Type 0
-    Here = Only old.parts (may_edges old.parts mid.now dim) w
+    root_stays : LiesIn mid.now old.now → Contains (roots (nodes old.parts) (may_edges old.parts mid.now dim)) root
+    root_stays lies = roots_among (may_edges old.parts mid.now dim) (may_edges old.parts old.now dim) (may_among old.parts mid.now old.now (subst (λ z. IsBox (shape z) mid.now) same known.is_box) lies dim) (nodes old.parts) root
+        (subst (λ n. Contains (roots n (may_edges old.parts old.now dim)) root) plane_is.nodes_is there)
 
-    module _ (group : Group) (on : first_dim group ≡ dim) (a : Runs (OnlyMotherOutside left old.parts group) group p old q mid) where
-      root_stays : Contains (roots (nodes old.parts) (may_edges old.parts mid.now (first_dim group))) root
-      root_stays = subst (λ k. Contains (roots (nodes old.parts) (may_edges old.parts mid.now k)) root) (sym on)
-          (roots_among (may_edges old.parts mid.now dim) (may_edges old.parts old.now dim) (may_among old.parts mid.now old.now (subst (λ z. IsBox (shape z) mid.now) same known.is_box) a.goes.extends.inside dim) (nodes old.parts) root (subst (λ n. Contains (roots n (may_edges old.parts old.now dim)) root) plane_is.nodes_is there))
-
-      here_rule : (d v : ℕ) → Here d v → OnlyMother old.parts group mid.now d v
-      here_rule d v h = record {
-        place = h.place;
-        may = subst (λ k. Contains (may_edges old.parts mid.now k) h.place) (sym on) h.among;
-        says = h.says;
-        only = subst (λ k. mothers (may_edges old.parts mid.now k) h.place.daughter.0 ≡ 1) (sym on) (ap (mothers (may_edges old.parts mid.now dim)) h.into ∙ h.one);
-        other = root;
-        root = root_stays;
-      }
-
-      rule_here : (d v : ℕ) → OnlyMotherOutside rest old.parts group mid.now d v → OnlyMotherOutside left old.parts group mid.now d v ⊎ Here d v
-      rule_here d v x = elim (cases_eq x.rule.place.daughter.0 w) [
-        | inl at ↦ inr (record {
-          place = x.rule.place;
-          among = subst (λ k. Contains (may_edges old.parts mid.now k) x.rule.place) on x.rule.may;
-          into = at;
-          one = ap (mothers (may_edges old.parts mid.now dim)) (sym at) ∙ subst (λ k. mothers (may_edges old.parts mid.now k) x.rule.place.daughter.0 ≡ 1) on x.rule.only;
-          says = x.rule.says;
+    pub only_turn : RunsPart OnlyMother (Outside OnlyMother only_daughter left) dim p old q mid → Clears (Only old.parts (may_edges old.parts mid.now dim) w) q mid r new → RunsPart OnlyMother (Outside OnlyMother only_daughter rest) dim p old r new
+    only_turn = outside_turn OnlyMother only_daughter dim p q r old mid new left rest w (Only old.parts (may_edges old.parts mid.now dim) w) first same
+        (λ group on lies d v h. record {
+          place = h.place;
+          may = subst (λ k. Contains (may_edges old.parts mid.now k) h.place) (sym on) h.among;
+          says = h.says;
+          only = subst (λ k. mothers (may_edges old.parts mid.now k) h.place.daughter.0 ≡ 1) (sym on) (ap (mothers (may_edges old.parts mid.now dim)) h.into ∙ h.one);
+          other = root;
+          root = subst (λ k. Contains (roots (nodes old.parts) (may_edges old.parts mid.now k)) root) (sym on) (root_stays lies);
         })
-        | inr other ↦ inl (record { rule = x.rule; outside = still_out left rest w x.rule.place.daughter.0 first other x.outside })
-      ]
-
-    pub only_turn : RunsPart OnlyMother (OnlyMotherOutside left) dim p old q mid → Clears Here q mid r new → RunsPart OnlyMother (OnlyMotherOutside rest) dim p old r new
-    only_turn before c group is on takes =
-        let a = before group is on takes in
-        runs_turn (OnlyMotherOutside left old.parts group) (OnlyMotherOutside rest old.parts group) Here group p q r old mid new a c
-        (subst (λ z. IsGroup z group) (sym same) is)
-        (λ d v h. subst (λ z. Takes z group mid.now d v) (sym same) (takes mid.now d v (here_rule group on a d v h)))
-        (rule_here group on a)
-
-  pub only_end : (left : List ℕ) → left ≡ [] → RunsPart OnlyMother (OnlyMotherOutside left) dim p old q mid → RunsFor OnlyMother dim p old q mid
-  only_end left none a group is on takes = runs_like (OnlyMotherOutside left old.parts group) (OnlyMother old.parts group) group p q old mid
-      (λ d v x. record { rule = x; outside = ap (λ s. has s x.place.daughter.0) none })
-      (a group is on takes)
+        (λ group on d v rule at. record {
+          place = rule.place;
+          among = subst (λ k. Contains (may_edges old.parts mid.now k) rule.place) on rule.may;
+          into = at;
+          one = ap (mothers (may_edges old.parts mid.now dim)) (sym at) ∙ subst (λ k. mothers (may_edges old.parts mid.now k) rule.place.daughter.0 ≡ 1) on rule.only;
+          says = rule.says;
+        })
 
 -- ---- by the number of the roots
 
 module _ (plane : Plane) (p q : Progress) (old new : State) (plane_is : IsPlane old.parts plane) where
   may_roots : (box : List (List Bool)) (group : Group) → first_dim group ≡ plane.dim.0 → roots (nodes old.parts) (may_edges old.parts box (first_dim group)) ≡ roots plane.nodes (may_edges old.parts box plane.dim.0)
-  may_roots box group on = ap (λ k. roots (nodes old.parts) (may_edges old.parts box k)) on ∙ ap (λ n. roots n (may_edges old.parts box plane.dim.0)) (sym plane_is.nodes_is)
+  may_roots box group on = roots_same old.parts plane (may_edges old.parts box) (first_dim group) plane_is on
 
   pub no_root_left : (found : Roots) → RootsAre (roots plane.nodes (may_edges old.parts old.now plane.dim.0)) found → found ≡ rootss.Nothing → RunsFor ForOthers plane.dim.0 p old p old
   no_root_left found are is group is_group on takes =
@@ -169,7 +147,6 @@ module _ (plane : Plane) (p q : Progress) (old new : State) (plane_is : IsPlane 
       }
 
   pub more_roots_left : (found : Roots) → RootsAre (roots plane.nodes (may_edges old.parts old.now plane.dim.0)) found → found ≡ rootss.More → Clears EachValue p old q new → RunsFor ForOthers plane.dim.0 p old q new
-  more_roots_left found are is c group is_group on takes =
-      let two : 2 ≤ length (roots plane.nodes (may_edges old.parts old.now plane.dim.0)) = subst (RootsAre (roots plane.nodes (may_edges old.parts old.now plane.dim.0))) is are in
-      let e = ap length (may_roots old.now group on) in
-      runs_turn (λ box d v. ⊥) (ForOthers old.parts group) EachValue group p p q old old new (runs_none (λ box d v. ⊥) group p old (λ d v a. a)) c is_group (λ d v aim. takes old.now d v (inr (omega (arith, two, e)))) (λ d v a. inr tt)
+  more_roots_left found are is c = all_cleared plane p q old new plane_is ForOthers EachValue c
+      (λ group on d v aim. (let two : 2 ≤ length (roots plane.nodes (may_edges old.parts old.now plane.dim.0)) = subst (RootsAre (roots plane.nodes (may_edges old.parts old.now plane.dim.0))) is are in let e = ap length (may_roots old.now group on) in inr (omega (arith, two, e))))
+      (λ group on d v a. tt)

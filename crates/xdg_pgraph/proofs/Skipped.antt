@@ -11,7 +11,7 @@ use Rattle.xdg_rules.specs.Rules.{IsPlaceOn, OneMother, SaysPresent, may_edges, 
 use Rattle.xdg_rules.proofs.Shrinking.{may_of, must_is}
 use Rattle.xdg_store.specs.States.{State}
 use Rattle.xdg_propcore.specs.Passes.{Progress, Clears, IsQuiet}
-use Rattle.xdg_propcore.proofs.Passing.{goes_none}
+use Rattle.xdg_propcore.proofs.Passing.{clears_gone, goes_none}
 use Rattle.xdg_pgraph.specs.declared.entered.Entered.{Entered}
 use Rattle.xdg_pgraph.specs.declared.found.Found.TheVariants as founds
 use Rattle.xdg_graph.specs.declared.which.Which.TheVariants as whichs
@@ -24,7 +24,7 @@ use Rattle.xdg_pgraph.specs.Planes.{IsPlane}
 use Rattle.xdg_pgraph.specs.Seeking.{Aims, ToNode}
 use Rattle.xdg_pgraph.proofs.Labels.{LabelInto}
 use Rattle.xdg_pgraph.proofs.Told.{entered_within}
-use Rattle.xdg_pgraph.proofs.Ruled.{OneMotherOutside, RunsPart}
+use Rattle.xdg_pgraph.proofs.Ruled.{Outside, RunsPart, its_daughter}
 use Rattle.xdg_facts.proofs.Rising.{head_in}
 use Rattle.xdg_facts.specs.Rises.{has}
 
@@ -69,37 +69,22 @@ crowded_within parts box plane must may all left rest v plane_is m is within fir
 
 -- no edge that may be leads into a node
 pub none_enters : (dim w : ℕ) (p : Progress) (s : State) (incoming : Incoming) → AreOf s.parts s.now dim incoming → has incoming.may.some w ≡ false → Clears (Aims s.parts dim founds.More (ToNode w)) p s p s
-none_enters dim w p s incoming are none = record {
-  same = refl;
-  inside = λ d v h. h;
-  quiet = λ z. (z, refl);
-  gone = λ z d v aim h. false≢true (sym none ∙ (are.may.once w).1 (aim.place, place_may s.parts s.now dim aim.place d v aim.is aim.says h, aim.aimed));
-  goes = λ group around is lies takes. goes_none group p s;
-}
-
--- more is aimed at, of which nothing remained at first
-pub clears_skip : (A B : ℕ → ℕ → Type 0) (p q : Progress) (old new : State) → ((d v : ℕ) → A d v → B d v) → ((d v : ℕ) → B d v → Has old.now d v → A d v) → Clears A p old q new → Clears B p old q new
-clears_skip A B p q old new to from c = record {
-  same = c.same;
-  inside = c.inside;
-  quiet = c.quiet;
-  gone = λ z d v b h. c.gone z d v (from d v b (c.inside d v h)) h;
-  goes = λ group around is lies takes. c.goes group around is lies (λ d v a. takes d v (to d v a));
-}
+none_enters dim w p s incoming are none = clears_gone (Aims s.parts dim founds.More (ToNode w)) p s
+    (λ d v aim h. false≢true (sym none ∙ (are.may.once w).1 (aim.place, place_may s.parts s.now dim aim.place d v aim.is aim.says h, aim.aimed)))
 
 module _ (plane : Plane) (p q : Progress) (old mid : State) (must may : Entered) (w : ℕ) where
   abbrev dim : ℕ
   dim = plane.dim.0
 
   -- into a node that isn't crowded no edge is to be taken
-  pub one_mother_start : (left : List ℕ) → Tells (Contains (must_edges old.parts old.now dim)) must → Tells (Contains (may_edges old.parts old.now dim)) may → ((n : ℕ) → has left n ≡ (has must.some n && has may.more n)) → RunsPart OneMother (OneMotherOutside left) dim p old p old
+  pub one_mother_start : (left : List ℕ) → Tells (Contains (must_edges old.parts old.now dim)) must → Tells (Contains (may_edges old.parts old.now dim)) may → ((n : ℕ) → has left n ≡ (has must.some n && has may.more n)) → RunsPart OneMother (Outside OneMother its_daughter left) dim p old p old
   one_mother_start left m y is group is_group on takes = record {
     goes = goes_none group p old;
     done = λ z d v x h.
-        let other = subst (λ k. Contains (must_edges old.parts old.now k) x.rule.other) on x.rule.must in
-        crowded (Contains (must_edges old.parts old.now dim)) (Contains (may_edges old.parts old.now dim)) must may left x.rule.place.daughter.0 m y is x.outside x.rule.place x.rule.other other (must_may old.parts old.now dim x.rule.other other)
-        (place_may old.parts old.now dim x.rule.place d v (subst (λ k. IsPlaceOn old.parts k x.rule.place) on x.rule.is) x.rule.says h)
-        refl (sym x.rule.both) x.rule.differs;
+        let other = subst (λ k. Contains (must_edges old.parts old.now k) x.0.other) on x.0.must in
+        crowded (Contains (must_edges old.parts old.now dim)) (Contains (may_edges old.parts old.now dim)) must may left x.0.place.daughter.0 m y is x.1 x.0.place x.0.other other (must_may old.parts old.now dim x.0.other other)
+        (place_may old.parts old.now dim x.0.place d v (subst (λ k. IsPlaceOn old.parts k x.0.place) on x.0.is) x.0.says h)
+        refl (sym x.0.both) x.0.differs;
   }
 
   pub label_skip : (u : ℕ) (both_there : List ℕ) → Tells (Leaving (must_edges old.parts old.now dim) u) must → Tells (Leaving (may_edges old.parts old.now dim) u) may → ((n : ℕ) → has both_there n ≡ (has must.some n && has may.more n)) → has both_there w ≡ false → RunsFor (OneLabelOf (LabelInto u w)) dim p old q mid → RunsFor (OneLabelOf (LabelInto u (w + 1))) dim p old q mid

@@ -15,20 +15,18 @@ use Rattle.xdg_pgraph.specs.declared.entered.Count.{Count}
 use Rattle.xdg_pgraph.specs.declared.entered.Count.TheVariants as counts
 use Rattle.xdg_pgraph.specs.declared.entered.Entered.{Entered}
 use Rattle.xdg_pgraph.specs.declared.found.Found.TheVariants as founds
-use Rattle.xdg_graph.specs.declared.which.Which.{Which}
 use Rattle.xdg_pgraph.specs.declared.incoming.Counts.{Counts}
 use Rattle.xdg_pgraph.specs.declared.incoming.Incoming.{Incoming}
-use Rattle.xdg_pgraph.specs.declared.plane.Plane.{Plane}
 use Rattle.xdg_pgraph.specs.Entering.{Enters, Tells, more_of, some_of}
 use Rattle.xdg_pgraph.specs.Incomings.{AreCounts, AreOf, CountsSettle, IsCount}
 use Rattle.xdg_pgraph.specs.Musts.{IsSettled}
-use Rattle.xdg_graph.specs.Edges.{edges_of}
 use Rattle.xdg_pgraph.specs.Seeking.{Into, NoneOnly}
 use Rattle.xdg_pgraph.proofs.Single.{not_more}
 use Rattle.xdg_pgraph.proofs.Skipped.{must_may}
 use Rattle.xdg_pgraph.proofs.Ruled.{still_out}
 use Rattle.xdg_facts.proofs.Rising.{head_in}
-use Rattle.xdg_pgraph.proofs.Told.{ToBelow, all_turn, more_told, one_told}
+use Rattle.xdg_pgraph.proofs.Below.{Below}
+use Rattle.xdg_pgraph.proofs.Told.{told_next, more_told, one_told}
 
 -- ---- a node more
 
@@ -63,18 +61,15 @@ count_told edges w this counts.More this_is two = more_told edges w founds.More 
 cross : (p q r s : Bool) → (q && s) ≡ false → (p || r) ≡ (p || (r || (q && s)))
 cross p q r s none = ap (λ z. p || z) (sym (or_false r)) ∙ ap (λ z. p || (r || z)) (sym none)
 
-module _ (which : Which) (parts : Parts) (box : List (List Bool)) (plane : Plane) (w : ℕ) (a c : Entered) (this : List ℕ) (count : Count) where
-  abbrev some_edges : List Edge
-  some_edges = edges_of which parts box plane.dim.0
-
+module _ (edges : List Edge) (w : ℕ) (a c : Entered) (this : List ℕ) (count : Count) where
   -- the nodes below a bound, and one more
-  pub count_turn : ((n : ℕ) → has this n ≡ (n == w)) → ((n : ℕ) → has c.some n ≡ (has a.some n || (has this n && some_of count))) → ((n : ℕ) → has c.more n ≡ (has a.more n || (has this n && more_of count))) → Tells (ToBelow some_edges w) a → IsCount (Into some_edges w) count → Tells (ToBelow some_edges (w + 1)) c
+  pub count_turn : ((n : ℕ) → has this n ≡ (n == w)) → ((n : ℕ) → has c.some n ≡ (has a.some n || (has this n && some_of count))) → ((n : ℕ) → has c.more n ≡ (has a.more n || (has this n && more_of count))) → Tells (Below (λ e. e.daughter.0) (Contains edges) w) a → IsCount (Into edges w) count → Tells (Below (λ e. e.daughter.0) (Contains edges) (w + 1)) c
   count_turn this_is some_is more_is below here =
       let b : Entered = entered_of this count in
-      all_turn which parts box plane w a b c
+      told_next (λ e. e.daughter.0) (Contains edges) w a b c
       (λ n. some_is n ∙ ap (λ z. has a.some n || z) (sym (some_by this count n)))
       (λ n. more_is n ∙ ap (λ z. has a.more n || z) (sym (more_by this count n)) ∙ cross (has a.more n) (has a.some n) (has b.more n) (has b.some n) (apart_at n))
-      below (count_told some_edges w this count this_is here)
+      below (count_told edges w this count this_is here)
     where
       apart_at : (n : ℕ) → (has a.some n && has (entered_of this count).some n) ≡ false
       apart_at n = false_from_ne_true (has a.some n && has (entered_of this count).some n) (λ t.

@@ -1,85 +1,86 @@
 -- Edges that are taken away, step by step.
-use Rattle.std.proofs.Common.{◌≡◌, ◌≢◌, ℕ, ◌+◌, ◌<◌, ◌≤◌, ◌⊎◌, inl, inr, refl, sym, ◌∙◌, subst, arith}
-use Rattle.std.proofs.lemmas.Bool.{cases_eq}
+use Rattle.std.proofs.Common.{◌≡◌, ℕ, ◌<◌, ◌≤◌, ◌↔◌, true, IsTrue, List, refl, ap, subst, arith}
+use Rattle.std.specs.Prelude.{Contains}
+use Rattle.xdg_facts.specs.Rises.{has}
 use Rattle.xdg_problem.specs.declared.analysis.Edge.{Edge}
 use Rattle.xdg_problem.specs.declared.parts.Parts.{Parts}
+use Rattle.xdg_problem.specs.Analyses.{IsPlace}
 use Rattle.xdg_problem.specs.Boxes.{edge_decision}
 use Rattle.xdg_problem.specs.Places.{edge}
 use Rattle.xdg_problem.proofs.Edges.{edge_equal}
-use Rattle.xdg_rules.specs.Rules.{IsPlaceOn, SaysPresent}
+use Rattle.xdg_problem.proofs.PlaceOrder.{place_is}
+use Rattle.xdg_rules.specs.Rules.{IsPlaceOn, SaysPresent, may_edges}
 use Rattle.xdg_store.specs.States.{State}
 use Rattle.xdg_propcore.specs.Passes.{Progress, Clears}
-use Rattle.xdg_propcore.proofs.Passing.{clears_like, clears_both}
+use Rattle.xdg_propcore.proofs.Aimed.{ByOne}
+use Rattle.xdg_propcore.proofs.Passing.{clears_like, clears_more, clears_none}
 use Rattle.xdg_pgraph.specs.declared.found.Found.{Found}
 use Rattle.xdg_pgraph.specs.declared.plane.Plane.{Plane}
 use Rattle.xdg_pgraph.specs.Planes.{IsPlane}
-use Rattle.xdg_pgraph.specs.Seeking.{Aims, FromTo, IsOther}
-use Rattle.xdg_pgraph.proofs.PlaneFacts.{edge_on}
-
--- an edge from a node to another with a label below a bound
-abbrev pub FromToBelow : ℕ → ℕ → ℕ → Edge → Type 0
-FromToBelow u v l e = FromTo u v e × (e.label.0 < l)
+use Rattle.xdg_pgraph.specs.Seeking.{Aims, FromTo, IsOther, ToNode, ToWith}
+use Rattle.xdg_pgraph.proofs.Skipped.{place_may}
 
 -- the same edges, told in another way
 pub aims_like : (parts : Parts) (dim : ℕ) (others : Found) (P Q : Edge → Type 0) → ((e : Edge) → IsPlaceOn parts dim e → P e → Q e) → (d v : ℕ) → Aims parts dim others P d v → Aims parts dim others Q d v
 aims_like parts dim others P Q to d v a = record { place = a.place; is = a.is; aimed = to a.place a.is a.aimed; other = a.other; says = a.says }
 
-module _ (parts : Parts) (plane : Plane) (others : Found) (p q r : Progress) (old mid new : State) (same : old.parts ≡ parts) (is : IsPlane parts plane) where
-  abbrev dim : ℕ
-  dim = plane.dim.0
+-- ---- one edge
 
-  module _ (u v l : ℕ) where
-    pub this_edge : (e : Edge) → IsPlaceOn parts dim e → FromTo u v e → e.label.0 ≡ l → edge dim u l v ≡ e
-    this_edge e on j k = sym (edge_equal e (edge dim u l v) on.1 j.0 k j.1)
+module _ (parts : Parts) (e : Edge) (others : Found) (p : Progress) where
+  abbrev This : ℕ → ℕ → Type 0
+  This = Aims parts e.dim.0 others (λ f. f ≡ e)
 
-    label_cases : (e : Edge) → IsPlaceOn parts dim e → FromToBelow u v (l + 1) e → FromToBelow u v l e ⊎ (edge dim u l v ≡ e)
-    label_cases e on j = elim (cases_eq e.label.0 l) [
-      | inl k ↦ inr (this_edge e on j.0 k)
-      | inr other ↦ inl (j.0, (let b = j.1 in omega (arith, b, other)))
-    ]
+  pub edge_taken : (q : Progress) (old new : State) → IsPlace parts e → IsOther others e → Clears (λ d v. (d ≡ edge_decision parts e) × (v ≡ 0)) p old q new → Clears This p old q new
+  edge_taken q old new is other = clears_like (λ d v. (d ≡ edge_decision parts e) × (v ≡ 0)) This p q old new
+      (λ d v t. record { place = e; is = (place_is parts e is, refl); aimed = refl; other = other; says = t })
+      (λ d v a. subst (λ f. SaysPresent parts f d v) a.aimed a.says)
 
-    abbrev This : ℕ → ℕ → Type 0
-    This d x = (d ≡ edge_decision mid.parts (edge dim u l v)) × (x ≡ 0)
+  -- it is the only one of the others
+  pub edge_left : (s : State) → (IsOther others e → ⊥) → Clears This p s p s
+  edge_left s only = clears_none This p s (λ d v a. only (subst (IsOther others) a.aimed a.other))
 
-    pub label_taken : u < plane.nodes → v < plane.nodes → u ≢ v → l < plane.labels → mid.parts ≡ parts → IsOther others (edge dim u l v) → Clears (Aims parts dim others (FromToBelow u v l)) p old q mid → Clears This q mid r new → Clears (Aims parts dim others (FromToBelow u v (l + 1))) p old r new
-    label_taken m d n k stays other a b = clears_both (Aims parts dim others (FromToBelow u v l)) This (Aims parts dim others (FromToBelow u v (l + 1))) p q r old mid new
-        (aims_like parts dim others (FromToBelow u v l) (FromToBelow u v (l + 1)) (λ e on j. (j.0, (let b = j.1 in omega (arith, b)))))
-        (λ e x t. record { place = edge dim u l v; is = edge_on parts plane u l v is m d n k; aimed = ((refl, refl), omega arith); other = other; says = subst (λ z. (e ≡ edge_decision z (edge dim u l v)) × (x ≡ 0)) stays t })
-        (λ e x aim. elim (label_cases aim.place aim.is aim.aimed) [
-          | inl j ↦ inl (record { place = aim.place; is = aim.is; aimed = j; other = aim.other; says = aim.says })
-          | inr k ↦ inr (subst (λ z. (e ≡ edge_decision z (edge dim u l v)) × (x ≡ 0)) (sym stays) (subst (λ z. SaysPresent parts z e x) (sym k) aim.says))
-        ])
-        a b
+-- ---- edges one after another
 
-    pub label_left : (IsOther others (edge dim u l v) → ⊥) → Clears (Aims parts dim others (FromToBelow u v l)) p old q mid → Clears (Aims parts dim others (FromToBelow u v (l + 1))) p old q mid
-    label_left none = clears_like (Aims parts dim others (FromToBelow u v l)) (Aims parts dim others (FromToBelow u v (l + 1))) p q old mid
-        (aims_like parts dim others (FromToBelow u v l) (FromToBelow u v (l + 1)) (λ e on j. (j.0, (let b = j.1 in omega (arith, b)))))
-        (λ e x aim. elim (label_cases aim.place aim.is aim.aimed) [
-          | inl j ↦ record { place = aim.place; is = aim.is; aimed = j; other = aim.other; says = aim.says }
-          | inr k ↦ absurd (none (subst (IsOther others) (sym k) aim.other))
-        ])
+-- the edges for each of some numbers are others
+module _ (parts : Parts) (dim : ℕ) (others : Found) (Q : ℕ → Type 0) (P : ℕ → Edge → Type 0) (R : Edge → Type 0) (to : (x : ℕ) (e : Edge) → IsPlaceOn parts dim e → Q x → P x e → R e) (p q : Progress) (old new : State) where
+  abbrev Those : ℕ → ℕ → Type 0
+  Those = ByOne Q (λ x. Aims parts dim others (P x))
 
-    pub labels_done : plane.labels ≤ l → Clears (Aims parts dim others (FromToBelow u v l)) p old q mid → Clears (Aims parts dim others (FromTo u v)) p old q mid
-    labels_done all = clears_like (Aims parts dim others (FromToBelow u v l)) (Aims parts dim others (FromTo u v)) p q old mid
-        (aims_like parts dim others (FromToBelow u v l) (FromTo u v) (λ e on j. j.0))
-        (aims_like parts dim others (FromTo u v) (FromToBelow u v l) (λ e on j. (j, (let k = ((is.exact e).0 on).label in omega (arith, k, all)))))
+  there : (d v : ℕ) → Those d v → Aims parts dim others R d v
+  there d v t = aims_like parts dim others (P t.0) R (λ e on x. to t.0 e on t.1 x) d v t.2
 
--- ---- as the code goes
+  pub aims_all : ((e : Edge) → IsPlaceOn parts dim e → R e → (x : ℕ) × Q x × P x e) → Clears Those p old q new → Clears (Aims parts dim others R) p old q new
+  aims_all from = clears_like Those (Aims parts dim others R) p q old new there
+      (λ d v a. (let t = from a.place a.is a.aimed in (t.0, t.1, record { place = a.place; is = a.is; aimed = t.2; other = a.other; says = a.says })))
 
-pub forbids : (parts : Parts) (plane : Plane) (others : Found) (p q r : Progress) (old mid new : State) (u v l : ℕ) (e : Edge) → old.parts ≡ parts → IsPlane parts plane → u < plane.nodes → v < plane.nodes → u ≢ v → l < plane.labels → e ≡ edge plane.dim.0 u l v → IsOther others e → Clears (Aims parts plane.dim.0 others (FromToBelow u v l)) p old q mid → Clears (λ d x. (d ≡ edge_decision mid.parts e) × (x ≡ 0)) q mid r new → Clears (Aims parts plane.dim.0 others (FromToBelow u v (l + 1))) p old r new
-forbids parts plane others p q r old mid new u v l e same is m d n k e_is other a b = label_taken parts plane others p q r old mid new same is u v l m d n k (a.same ∙ same) (subst (IsOther others) e_is other) a (subst (λ z. Clears (λ y x. (y ≡ edge_decision mid.parts z) × (x ≡ 0)) q mid r new) e_is b)
+  -- of those that may be
+  pub aims_may : ((e : Edge) → Contains (may_edges parts old.now dim) e → IsPlaceOn parts dim e → R e → (x : ℕ) × Q x × P x e) → Clears Those p old q new → Clears (Aims parts dim others R) p old q new
+  aims_may from = clears_more Those (Aims parts dim others R) p q old new there
+      (λ d v a h. (let t = from a.place (place_may parts old.now dim a.place d v a.is a.says h) a.is a.aimed in (t.0, t.1, record { place = a.place; is = a.is; aimed = t.2; other = a.other; says = a.says })))
 
--- some edges, and then others
-pub aims_join : (parts : Parts) (dim : ℕ) (others : Found) (P Q R : Edge → Type 0) (p q r : Progress) (old mid new : State) → old.parts ≡ parts → ((e : Edge) → P e → R e) → ((e : Edge) → Q e → R e) → ((e : Edge) → IsPlaceOn parts dim e → R e → P e ⊎ Q e) → Clears (Aims parts dim others P) p old q mid → Clears (Aims mid.parts dim others Q) q mid r new → Clears (Aims parts dim others R) p old r new
-aims_join parts dim others P Q R p q r old mid new same first second each a b = clears_both (Aims parts dim others P) (Aims parts dim others Q) (Aims parts dim others R) p q r old mid new
-    (aims_like parts dim others P R (λ e on x. first e x))
-    (aims_like parts dim others Q R (λ e on x. second e x))
-    (λ d v aim. elim (each aim.place aim.is aim.aimed) [
-      | inl x ↦ inl (record { place = aim.place; is = aim.is; aimed = x; other = aim.other; says = aim.says })
-      | inr x ↦ inr (record { place = aim.place; is = aim.is; aimed = x; other = aim.other; says = aim.says })
-    ])
-    a (subst (λ z. Clears (Aims z dim others Q) q mid r new) (a.same ∙ same) b)
+-- one of some edges
+abbrev pub OneOf : ℕ → Found → (ℕ → Edge) → Parts → ℕ → ℕ → ℕ → Type 0
+OneOf dim others at parts x = Aims parts dim others (λ e. e ≡ at x)
 
--- the same edges, told in another way
-pub aims_same : (parts : Parts) (dim : ℕ) (others : Found) (P Q : Edge → Type 0) (p q : Progress) (old new : State) → ((e : Edge) → IsPlaceOn parts dim e → P e → Q e) → ((e : Edge) → IsPlaceOn parts dim e → Q e → P e) → Clears (Aims parts dim others P) p old q new → Clears (Aims parts dim others Q) p old q new
-aims_same parts dim others P Q p q old new to from = clears_like (Aims parts dim others P) (Aims parts dim others Q) p q old new (aims_like parts dim others P Q to) (aims_like parts dim others Q P from)
+-- the edges from a node to another, label by label
+pub labels_joined : (parts : Parts) (plane : Plane) (others : Found) (u v l : ℕ) (p q : Progress) (old new : State) → IsPlane parts plane → plane.labels ≤ l → Clears (ByOne (λ x. x < l) (OneOf plane.dim.0 others (λ x. edge plane.dim.0 u x v) parts)) p old q new → Clears (Aims parts plane.dim.0 others (FromTo u v)) p old q new
+labels_joined parts plane others u v l p q old new is all = aims_all parts plane.dim.0 others (λ x. x < l) (λ x e. e ≡ edge plane.dim.0 u x v) (FromTo u v)
+    (λ x e on less same. (ap (λ (f : Edge). f.mother.0) same, ap (λ (f : Edge). f.daughter.0) same))
+    p q old new
+    (λ e on j. (e.label.0, (let k = ((is.exact e).0 on).label in omega (arith, k, all)), edge_equal e (edge plane.dim.0 u e.label.0 v) on.1 j.0 refl j.1))
+
+-- those into a node, label by label
+pub labels_entering : (parts : Parts) (plane : Plane) (others : Found) (v l : ℕ) (p q : Progress) (old new : State) → IsPlane parts plane → plane.labels ≤ l → Clears (ByOne (λ x. x < l) (λ x. Aims parts plane.dim.0 others (ToWith v x))) p old q new → Clears (Aims parts plane.dim.0 others (ToNode v)) p old q new
+labels_entering parts plane others v l p q old new is all = aims_all parts plane.dim.0 others (λ x. x < l) (λ x. ToWith v x) (ToNode v)
+    (λ x e on less with. with.0)
+    p q old new
+    (λ e on into. (e.label.0, (let k = ((is.exact e).0 on).label in omega (arith, k, all)), (into, refl)))
+
+-- those with a label into a node, mother by mother
+pub mothers_with : (dim : ℕ) (others : Found) (v l : ℕ) (mothers : List ℕ) (p q : Progress) (old new : State) → ((x : ℕ) → IsTrue (has mothers x) ↔ Contains (may_edges old.parts old.now dim) (edge dim x l v)) → Clears (ByOne (λ x. has mothers x ≡ true) (OneOf dim others (λ x. edge dim x l v) old.parts)) p old q new → Clears (Aims old.parts dim others (ToWith v l)) p old q new
+mothers_with dim others v l mothers p q old new exact = aims_may old.parts dim others (λ x. has mothers x ≡ true) (λ x e. e ≡ edge dim x l v) (ToWith v l)
+    (λ x e on there same. (ap (λ (f : Edge). f.daughter.0) same, ap (λ (f : Edge). f.label.0) same))
+    p q old new
+    (λ e may on with.
+    let same = edge_equal e (edge dim e.mother.0 l v) on.1 refl with.1 with.0 in
+    (e.mother.0, (exact e.mother.0).1 (subst (Contains (may_edges old.parts old.now dim)) same may), same))

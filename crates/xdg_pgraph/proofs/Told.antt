@@ -1,7 +1,7 @@
 -- The nodes into which some edges lead, step by step.
 use Rattle.std.proofs.Common.{◌≡◌, ◌≢◌, ℕ, ◌+◌, ◌<◌, ◌≤◌, ◌⊎◌, ◌↔◌, ◌||◌, ◌&&◌, ◌==◌, inl, inr, Bool, true, IsTrue, List, [], refl, sym, ◌∙◌, subst, arith}
 use Rattle.std.specs.Prelude.{Contains}
-use Rattle.std.proofs.lemmas.Bool.{cases_eq, eq-eqb, eqb-true, false≢true}
+use Rattle.std.proofs.lemmas.Bool.{eq-eqb, eqb-true, false≢true}
 use Rattle.xdg_nodeset.proofs.TableSets.{either, both}
 use Rattle.xdg_problem.specs.declared.analysis.Edge.{Edge}
 use Rattle.xdg_problem.specs.declared.parts.Parts.{Parts}
@@ -16,6 +16,7 @@ use Rattle.xdg_pgraph.specs.Entering.{Enters, EnterTwice, Tells, Leaving, Labell
 use Rattle.xdg_pgraph.specs.Planes.{IsPlane, IsOnPlane}
 use Rattle.xdg_graph.specs.Edges.{edges_of}
 use Rattle.xdg_pgraph.specs.Seeking.{Finds, Into, ToNode}
+use Rattle.xdg_pgraph.proofs.Below.{At, Below, below_apart, below_cases, below_last, below_more, below_none}
 use Rattle.xdg_pgraph.proofs.PlaneFacts.{which_place}
 use Rattle.xdg_facts.specs.Rises.{has}
 
@@ -86,13 +87,17 @@ module _ (P Q R : Edge → Type 0) (a b c : Entered) (first : (e : Edge) → P e
     );
   }
 
--- the edges out of a node with a label below a bound
-abbrev pub LeavingBelow : List Edge → ℕ → ℕ → Edge → Type 0
-LeavingBelow edges u l e = Leaving edges u e × (e.label.0 < l)
+-- the edges with a number below a bound, one number after another
+module _ (number : Edge → ℕ) (P : Edge → Type 0) where
+  pub told_none : (a : Entered) → Tells (λ e. ⊥) a → Tells (Below number P 0) a
+  told_none a = tells_like (λ e. ⊥) (Below number P 0) a (λ e x. absurd x) (below_none number P)
 
--- the edges into the nodes below a bound
-abbrev pub ToBelow : List Edge → ℕ → Edge → Type 0
-ToBelow edges w e = Contains edges e × (e.daughter.0 < w)
+  pub told_next : (k : ℕ) (a b c : Entered) → ((n : ℕ) → has c.some n ≡ (has a.some n || has b.some n)) → ((n : ℕ) → has c.more n ≡ (has a.more n || (has b.more n || (has a.some n && has b.some n)))) → Tells (Below number P k) a → Tells (At number P k) b → Tells (Below number P (k + 1)) c
+  told_next k a b c some_is more_is p q = tells_both (Below number P k) (At number P k) (Below number P (k + 1)) a b c
+      (below_more number P k) (below_last number P k) (below_cases number P k) (below_apart number P k) p q some_is more_is
+
+  told_all : (k : ℕ) (a : Entered) → ((e : Edge) → P e → number e < k) → Tells (Below number P k) a → Tells P a
+  told_all k a all = tells_like (Below number P k) P a (λ e x. x.0) (λ e x. (x, all e x))
 
 -- the edges into one node
 module _ (edges : List Edge) (w : ℕ) (found : Found) (there : Finds (Into edges w) found) where
@@ -143,37 +148,15 @@ module _ (which : Which) (parts : Parts) (box : List (List Bool)) (plane : Plane
     this : (v : ℕ) (e : Edge) → Labelled those u l e → ToNode v e → e ≡ edge plane.dim.0 u l v
     this v e k into = edge_equal e (edge plane.dim.0 u l v) (which_place which parts box plane.dim.0 e k.0.0).1 k.0.1 k.1 into
 
-  pub from_start : (u : ℕ) (a : Entered) → Tells (λ e. ⊥) a → Tells (LeavingBelow those u 0) a
-  from_start u a t = tells_like (λ e. ⊥) (LeavingBelow those u 0) a (λ e x. absurd x) (λ e x. (let l = x.1 in omega (arith, l))) t
-
-  pub from_turn : (u l : ℕ) (a b c : Entered) → ((n : ℕ) → has c.some n ≡ (has a.some n || has b.some n)) → ((n : ℕ) → has c.more n ≡ (has a.more n || (has b.more n || (has a.some n && has b.some n)))) → Tells (LeavingBelow those u l) a → Tells (Labelled those u l) b → Tells (LeavingBelow those u (l + 1)) c
-  from_turn u l a b c some_is more_is p q = tells_both (LeavingBelow those u l) (Labelled those u l) (LeavingBelow those u (l + 1)) a b c
-      (λ e x. (x.0, (let k = x.1 in omega (arith, k))))
-      (λ e x. (x.0, (let k = x.1 in omega (arith, k))))
-      (λ e x. elim (cases_eq e.label.0 l) [ inl same ↦ inr (x.0, same) | inr other ↦ inl (x.0, (let k = x.1 in omega (arith, k, other))) ])
-      (λ e x y. (let k = x.1 in let n = y.1 in omega (arith, k, n)))
-      p q some_is more_is
-
-  pub all_start : (a : Entered) → Tells (λ e. ⊥) a → Tells (ToBelow those 0) a
-  all_start a t = tells_like (λ e. ⊥) (ToBelow those 0) a (λ e x. absurd x) (λ e x. (let l = x.1 in omega (arith, l))) t
-
-  pub all_turn : (w : ℕ) (a b c : Entered) → ((n : ℕ) → has c.some n ≡ (has a.some n || has b.some n)) → ((n : ℕ) → has c.more n ≡ (has a.more n || (has b.more n || (has a.some n && has b.some n)))) → Tells (ToBelow those w) a → Tells (Into those w) b → Tells (ToBelow those (w + 1)) c
-  all_turn w a b c some_is more_is p q = tells_both (ToBelow those w) (Into those w) (ToBelow those (w + 1)) a b c
-      (λ e x. (x.0, (let k = x.1 in omega (arith, k))))
-      (λ e x. (x.0, (let k = x.1 in omega (arith, k))))
-      (λ e x. elim (cases_eq e.daughter.0 w) [ inl same ↦ inr (x.0, same) | inr other ↦ inl (x.0, (let k = x.1 in omega (arith, k, other))) ])
-      (λ e x y. (let k = x.1 in let n = y.1 in omega (arith, k, n)))
-      p q some_is more_is
-
   module _ (plane_is : IsPlane parts plane) where
     those_plane : (e : Edge) → Contains those e → IsOnPlane plane e
     those_plane e c = (plane_is.exact e).0 (which_place which parts box plane.dim.0 e c)
 
-    pub from_end : (u l : ℕ) (a : Entered) → plane.labels ≤ l → Tells (LeavingBelow those u l) a → Tells (Leaving those u) a
-    from_end u l a all t = tells_like (LeavingBelow those u l) (Leaving those u) a (λ e x. x.0) (λ e x. (x, (let k = (those_plane e x.0).label in omega (arith, k, all)))) t
+    pub from_end : (u l : ℕ) (a : Entered) → plane.labels ≤ l → Tells (Below (λ e. e.label.0) (Leaving those u) l) a → Tells (Leaving those u) a
+    from_end u l a all = told_all (λ e. e.label.0) (Leaving those u) l a (λ e x. (let k = (those_plane e x.0).label in omega (arith, k, all)))
 
-    pub all_end : (w : ℕ) (a : Entered) → plane.nodes ≤ w → Tells (ToBelow those w) a → Tells (Contains those) a
-    all_end w a all t = tells_like (ToBelow those w) (Contains those) a (λ e x. x.0) (λ e x. (x, (let k = (those_plane e x).daughter in omega (arith, k, all)))) t
+    pub all_end : (w : ℕ) (a : Entered) → plane.nodes ≤ w → Tells (Below (λ e. e.daughter.0) (Contains those) w) a → Tells (Contains those) a
+    all_end w a all = told_all (λ e. e.daughter.0) (Contains those) w a (λ e x. (let k = (those_plane e x).daughter in omega (arith, k, all)))
 
     -- no edge leads from a node to itself
     pub leaves_other : (u v : ℕ) (a : Entered) → Tells (Leaving those u) a → has a.some v ≡ true → u ≢ v

@@ -6,13 +6,12 @@ ghost use Rattle.xdg_facts.specs.Rises.{has};
 ghost use Rattle.xdg_problem.specs.declared.parts.Group.{Group as Use};
 ghost use Rattle.xdg_store.specs.States.{Known};
 ghost use Rattle.xdg_graph.specs.Edges.{edges_of};
-ghost use Rattle.xdg_pgraph.specs.declared.bundle.Way.TheVariants as ways;
 ghost use Rattle.xdg_pgraph.specs.Bundles.{HasFarNodes, argument_of, edge_to, numbers_of};
 ghost use Rattle.xdg_pgraph.specs.Planes.{IsPlane};
 
 use crate::plane::Plane;
 use xdg_base::{LabelId, List, NodeId};
-use xdg_graph::Which;
+use xdg_graph::{Which, daughters_by, mothers_by};
 use xdg_nodeset::NodeSet;
 use xdg_problem::{Edge, Feat, Group};
 use xdg_store::Store;
@@ -89,43 +88,7 @@ pub(crate) fn numbers_at(candidates: &[List<Feat>], bundle: Bundle, place: u16) 
     numbers.as_slice()
 }
 
-/// The other nodes of the edges of a bundle that may be present.
-fn may_ends(store: &Store, plane: &Plane, bundle: Bundle) -> NodeSet
-    requires plane { IsPlane store.now.parts plane.now }
-    requires known { Known store.now }
-    requires node { bundle.node < plane.now.nodes }
-    requires label { bundle.label < plane.now.labels }
-    ensures { (other : ℕ)
-        → IsTrue (has result other)
-        ↔ Contains (edges_of Which.May store.now.parts store.now.now plane.now.dim.0) (edge_to bundle.way plane.now.dim.0 bundle.node bundle.label other) }
-{
-    let node = NodeId(bundle.node);
-    let label = LabelId(bundle.label);
-    match bundle.way {
-        Way::Out => store.daughters_may(plane.dim, node, label),
-        Way::In => store.mothers_may(plane.dim, node, label),
-    }
-}
-
-/// The other nodes of those that must be present.
-fn must_ends(store: &Store, plane: &Plane, bundle: Bundle) -> NodeSet
-    requires plane { IsPlane store.now.parts plane.now }
-    requires known { Known store.now }
-    requires node { bundle.node < plane.now.nodes }
-    requires label { bundle.label < plane.now.labels }
-    ensures { (other : ℕ)
-        → IsTrue (has result other)
-        ↔ Contains (edges_of Which.Must store.now.parts store.now.now plane.now.dim.0) (edge_to bundle.way plane.now.dim.0 bundle.node bundle.label other) }
-{
-    let node = NodeId(bundle.node);
-    let label = LabelId(bundle.label);
-    match bundle.way {
-        Way::Out => store.daughters_must(plane.dim, node, label),
-        Way::In => store.mothers_must(plane.dim, node, label),
-    }
-}
-
-/// The other nodes of the edges of a bundle; a dimension without edges has none.
+/// The other nodes of the edges of a bundle that may be present, or that must be; a dimension without edges has none.
 pub(crate) fn ends(store: &Store, plane: &Plane, which: Which, bundle: Bundle) -> NodeSet
     requires plane { IsPlane store.now.parts plane.now }
     requires known { Known store.now }
@@ -137,61 +100,25 @@ pub(crate) fn ends(store: &Store, plane: &Plane, which: Which, bundle: Bundle) -
     if bundle.label >= plane.labels {
         return NodeSet::empty();
     }
-    match which {
-        Which::May => may_ends(store, plane, bundle),
-        Which::Must => must_ends(store, plane, bundle),
-    }
-}
-
-/// The daughters of the edges with a label out of a node.
-fn far_daughters(store: &Store, plane: &Plane, node: u8, label: u8) -> FarNodes
-    requires plane { IsPlane store.now.parts plane.now }
-    requires known { Known store.now }
-    requires node { node < plane.now.nodes }
-    requires label { label < plane.now.labels }
-    ensures { HasFarNodes store.now.parts store.now.now plane.now.dim.0 ways.Out node label result }
-{
-    let mother = NodeId(node);
-    let label = LabelId(label);
-    FarNodes {
-        may: store.daughters_may(plane.dim, mother, label),
-        must: store.daughters_must(plane.dim, mother, label),
-    }
-}
-
-/// The mothers of those into it.
-fn far_mothers(store: &Store, plane: &Plane, node: u8, label: u8) -> FarNodes
-    requires plane { IsPlane store.now.parts plane.now }
-    requires known { Known store.now }
-    requires node { node < plane.now.nodes }
-    requires label { label < plane.now.labels }
-    ensures { HasFarNodes store.now.parts store.now.now plane.now.dim.0 ways.In node label result }
-{
-    let daughter = NodeId(node);
-    let label = LabelId(label);
-    FarNodes {
-        may: store.mothers_may(plane.dim, daughter, label),
-        must: store.mothers_must(plane.dim, daughter, label),
+    let node = NodeId(bundle.node);
+    let label = LabelId(bundle.label);
+    match bundle.way {
+        Way::Out => daughters_by(store, which, plane.dim, node, label),
+        Way::In => mothers_by(store, which, plane.dim, node, label),
     }
 }
 
 impl FarNodes {
-    /// Those of a bundle; a dimension without edges has none.
+    /// Those of a bundle.
     pub(crate) fn of(store: &Store, plane: &Plane, bundle: Bundle) -> FarNodes
         requires plane { IsPlane store.now.parts plane.now }
         requires known { Known store.now }
         requires node { bundle.node < plane.now.nodes }
         ensures { HasFarNodes store.now.parts store.now.now plane.now.dim.0 bundle.way bundle.node bundle.label result }
     {
-        if bundle.label >= plane.labels {
-            return FarNodes {
-                may: NodeSet::empty(),
-                must: NodeSet::empty(),
-            };
-        }
-        match bundle.way {
-            Way::Out => far_daughters(store, plane, bundle.node, bundle.label),
-            Way::In => far_mothers(store, plane, bundle.node, bundle.label),
+        FarNodes {
+            may: ends(store, plane, Which::May, bundle),
+            must: ends(store, plane, Which::Must, bundle),
         }
     }
 }

@@ -38,9 +38,10 @@ pub(crate) fn joined(store: &Store, plane: &Plane, which: Which, mother: u8, dau
     let mut found = Found::Nothing;
     for label in 0..plane.labels {
         let edge = plane.edge(mother, label, daughter);
-        if is_among(store, which, edge) {
-            found = found.with(edge);
+        if !is_among(store, which, edge) {
+            continue;
         }
+        found = found.with(edge);
     }
     found
 }

@@ -51,9 +51,10 @@ fn one_label_from(store: &mut Store, pass: &mut Pass, plane: &Plane, mother: u8)
         .some
         .meet(&entered_from(store, plane, Which::May, mother).more);
     for daughter in 0..plane.nodes {
-        if doubled.contains(NodeId(daughter)) {
-            one_label_between(store, pass, plane, mother, daughter);
+        if !doubled.contains(NodeId(daughter)) {
+            continue;
         }
+        one_label_between(store, pass, plane, mother, daughter);
     }
 }
 

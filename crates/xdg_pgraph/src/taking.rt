@@ -1,19 +1,34 @@
 //! Taking edges away.
 
-ghost use Rattle.std.specs.Prelude.{◌≢◌, ◌<◌};
+ghost use Rattle.std.specs.Prelude.{◌≡◌, ◌≢◌, ◌<◌};
+ghost use Rattle.xdg_problem.specs.Analyses.{IsPlace};
 ghost use Rattle.xdg_rules.specs.Rules.{may_edges};
 ghost use Rattle.xdg_store.specs.States.{Known};
 ghost use Rattle.xdg_propcore.specs.Passes.{Clears};
 ghost use Rattle.xdg_pgraph.specs.Seeking.{Aims, FromTo, Only, ToNode, ToWith};
 ghost use Rattle.xdg_pgraph.specs.Planes.{IsPlane};
 
+use crate::bundle::{Bundle, Way, ends};
 use crate::finding::entering;
 use crate::found::Found;
 use crate::plane::Plane;
-use xdg_base::{LabelId, NodeId};
 use xdg_graph::Which;
+use xdg_problem::Edge;
 use xdg_propcore::Pass;
 use xdg_store::Store;
+
+/// Takes away that an edge is present, unless it is the only one of some edges.
+fn forbid_other(store: &mut Store, pass: &mut Pass, edge: Edge, others: Found)
+    requires place { IsPlace store.old.parts edge }
+    requires known { Known store.old }
+    ensures clears { Clears (Aims store.old.parts edge.dim.0 others (λ e. e ≡ edge)) pass.old store.old pass.new store.new }
+    ensures known { Known store.new }
+{
+    if !others.has_other(edge) {
+        return;
+    }
+    pass.forbid(store, edge);
+}
 
 /// Takes away that an edge from a node to another is present, each that isn't the only one of some edges.
 pub(crate) fn forbid_joined(
@@ -33,10 +48,7 @@ pub(crate) fn forbid_joined(
     ensures known { Known store.new }
 {
     for label in 0..plane.labels {
-        let edge = plane.edge(mother, label, daughter);
-        if others.has_other(edge) {
-            pass.forbid(store, edge);
-        }
+        forbid_other(store, pass, plane.edge(mother, label, daughter), others);
     }
 }
 
@@ -53,17 +65,17 @@ fn forbid_labelled(
     requires plane { IsPlane store.old.parts plane.now }
     requires known { Known store.old }
     requires daughter { daughter < plane.now.nodes }
-    requires label { label < plane.now.labels }
     ensures clears { Clears (Aims store.old.parts plane.now.dim.0 others (ToWith daughter label)) pass.old store.old pass.new store.new }
     ensures known { Known store.new }
 {
-    let mothers = store.mothers_may(plane.dim, NodeId(daughter), LabelId(label));
+    let bundle = Bundle {
+        way: Way::In,
+        node: daughter,
+        label,
+    };
+    let mothers = ends(store, plane, Which::May, bundle);
     for mother in mothers.iter() {
-        let edge = plane.edge(mother.0, label, daughter);
-        if !others.has_other(edge) {
-            continue;
-        }
-        pass.forbid(store, edge);
+        forbid_other(store, pass, plane.edge(mother.0, label, daughter), others);
     }
 }
 

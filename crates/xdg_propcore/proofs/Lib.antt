@@ -21,5 +21,6 @@ pub mod NamedKinds
 pub mod Unseen
 pub mod Stepping
 pub mod Turns
+pub mod Aimed
 pub mod SeenEdges
 pub mod ByRules

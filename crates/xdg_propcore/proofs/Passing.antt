@@ -178,25 +178,33 @@ clears_taken change p q old new d kind kinds Taken known within kind_is r kinds_
 known_before : (change : Change) (old new : State) (d : ℕ) (Taken : ℕ → Type 0) → RemovesAll change old new d Taken → Known new → IsProblem old.parts
 known_before change old new d Taken r known = subst IsProblem (removal_extends change old new d Taken r).same known.problem
 
--- nothing is aimed at
-pub clears_none : (Aim : ℕ → ℕ → Type 0) (p : Progress) (s : State) → ((d v : ℕ) → Aim d v → ⊥) → Clears Aim p s p s
-clears_none Aim p s none = record {
+-- none of what is aimed at remains
+pub clears_gone : (Aim : ℕ → ℕ → Type 0) (p : Progress) (s : State) → ((d v : ℕ) → Aim d v → Has s.now d v → ⊥) → Clears Aim p s p s
+clears_gone Aim p s none = record {
   same = refl;
   inside = λ d v h. h;
   quiet = λ q. (q, refl);
-  gone = λ q d v aim h. none d v aim;
+  gone = λ q d v aim h. none d v aim h;
   goes = λ group around is lies takes. goes_none group p s;
+}
+
+-- nothing is aimed at
+pub clears_none : (Aim : ℕ → ℕ → Type 0) (p : Progress) (s : State) → ((d v : ℕ) → Aim d v → ⊥) → Clears Aim p s p s
+clears_none Aim p s none = clears_gone Aim p s (λ d v aim h. none d v aim)
+
+-- more values, of which no other remains
+pub clears_more : (A B : ℕ → ℕ → Type 0) (p q : Progress) (old new : State) → ((d v : ℕ) → A d v → B d v) → ((d v : ℕ) → B d v → Has old.now d v → A d v) → Clears A p old q new → Clears B p old q new
+clears_more A B p q old new to from c = record {
+  same = c.same;
+  inside = c.inside;
+  quiet = c.quiet;
+  gone = λ z d v aim h. c.gone z d v (from d v aim (c.inside d v h)) h;
+  goes = λ group around is lies takes. c.goes group around is lies (λ d v aim. takes d v (to d v aim));
 }
 
 -- the same values, told in another way
 pub clears_like : (A B : ℕ → ℕ → Type 0) (p q : Progress) (old new : State) → ((d v : ℕ) → A d v → B d v) → ((d v : ℕ) → B d v → A d v) → Clears A p old q new → Clears B p old q new
-clears_like A B p q old new to from c = record {
-  same = c.same;
-  inside = c.inside;
-  quiet = c.quiet;
-  gone = λ z d v aim. c.gone z d v (from d v aim);
-  goes = λ group around is lies takes. c.goes group around is lies (λ d v aim. takes d v (to d v aim));
-}
+clears_like A B p q old new to from = clears_more A B p q old new to (λ d v aim h. from d v aim)
 
 -- some values, and then others
 pub clears_both : (A B C : ℕ → ℕ → Type 0) (p q r : Progress) (old mid new : State) → ((d v : ℕ) → A d v → C d v) → ((d v : ℕ) → B d v → C d v) → ((d v : ℕ) → C d v → A d v ⊎ B d v) → Clears A p old q mid → Clears B q mid r new → Clears C p old r new

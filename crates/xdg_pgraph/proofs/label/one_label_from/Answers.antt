@@ -1,17 +1,14 @@
-use Rattle.std.proofs.Common.{◌≡◌, ◌+◌, ◌∙◌, refl, sym, subst, arith}
+use Rattle.std.proofs.Common.{◌≡◌, ◌∙◌, refl, sym, subst, arith}
 use Rattle.std.proofs.lemmas.Bool.{and_parts}
 use Rattle.xdg_rules.specs.Rules.{must_edges}
-use Rattle.xdg_store.specs.States.{Known}
 use Rattle.xdg_propcore.specs.Passes.{Clears}
 use Rattle.xdg_graph.specs.declared.which.Which.TheVariants as whichs
 use Rattle.xdg_pgraph.specs.Planes.{IsPlane}
-use Rattle.xdg_pgraph.specs.Ruling.{RunsFor, OneLabelOf}
 use Rattle.xdg_pgraph.specs.Seeking.{Doubled}
 use Rattle.xdg_pgraph.proofs.Labels.{LabelInto, label_start, label_like, label_turn}
 use Rattle.xdg_pgraph.proofs.Skipped.{label_skip}
 use Rattle.xdg_pgraph.proofs.Told.{leaves_other}
 use Rattle.xdg_pgraph.proofs.label.one_label_from.Goals as goal
-use Rattle.xdg_pgraph.proofs.label.one_label_from.Goals.{then-contains, else-contains}
 use Rattle.xdg_facts.specs.Rises.{has}
 
 pub loop-daughter-init : goal.loop-daughter-init
@@ -22,24 +19,19 @@ one_label_between-requires-clause-plane c = subst (λ z. IsPlane z c.args.plane.
 
 pub one_label_between-requires-clause-differ : goal.one_label_between-requires-clause-differ
 one_label_between-requires-clause-differ c = leaves_other whichs.Must c.args.store.now.parts c.args.store.now.now c.args.plane.now c.requires.plane c.args.mother c.loop-daughter.daughter c.entered_from-must.result c.entered_from-must.ensures
-    (and_parts (has c.entered_from-must.result.some c.loop-daughter.daughter) (has c.entered_from.result.more c.loop-daughter.daughter) (sym (c.meet-doubled.ensures.members c.loop-daughter.daughter) ∙ sym c.contains.ensures.value ∙ c.if-contains.true)).0
+    (and_parts (has c.entered_from-must.result.some c.loop-daughter.daughter) (has c.entered_from.result.more c.loop-daughter.daughter) (sym (c.meet-doubled.ensures.members c.loop-daughter.daughter) ∙ sym c.if-not-contains.ensures.value)).0
+
+pub loop-daughter-preserved-then-not-contains : goal.loop-daughter-preserved-then-not-contains
+loop-daughter-preserved-then-not-contains c = (label_skip c.args.plane.now c.args.pass.now c.loop-daughter.pass c.args.store.now c.loop-daughter.store c.entered_from-must.result c.entered_from.result c.loop-daughter.daughter c.args.mother c.meet-doubled.result c.entered_from-must.ensures c.entered_from.ensures c.meet-doubled.ensures.members (sym c.if-not-contains.ensures.value) c.loop-daughter.invariant.0, c.loop-daughter.invariant.1, c.loop-daughter.invariant.2)
 
 pub loop-daughter-preserved : goal.loop-daughter-preserved
 loop-daughter-preserved c =
-    let s0 = c.args.store.now in
-    let plane = c.args.plane.now in
-    let same = c.loop-daughter.invariant.1 in
-    elim c.if-contains.branch [
-      | then-contains w ↦
-          let done = label_turn plane c.args.pass.now c.loop-daughter.pass w.one_label_between.new.pass s0 c.loop-daughter.store w.one_label_between.new.store c.args.mother c.loop-daughter.daughter same c.loop-daughter.invariant.0
-          (subst (λ z. Clears (Doubled z plane.dim.0 (must_edges z c.loop-daughter.store.now plane.dim.0) c.args.mother c.loop-daughter.daughter) c.loop-daughter.pass c.loop-daughter.store w.one_label_between.new.pass w.one_label_between.new.store) same w.one_label_between.ensures.clears) in
-          subst (λ p. RunsFor (OneLabelOf (LabelInto c.args.mother (c.loop-daughter.daughter + 1))) plane.dim.0 c.args.pass.now s0 p c.if-contains.store × (c.if-contains.store.parts ≡ s0.parts) × Known c.if-contains.store) (sym w.pass-is)
-          (subst (λ s. RunsFor (OneLabelOf (LabelInto c.args.mother (c.loop-daughter.daughter + 1))) plane.dim.0 c.args.pass.now s0 w.one_label_between.new.pass s × (s.parts ≡ s0.parts) × Known s) (sym w.store-is) (done, w.one_label_between.ensures.clears.same ∙ same, w.one_label_between.ensures.known))
-      | else-contains w ↦
-          let done = label_skip plane c.args.pass.now c.loop-daughter.pass s0 c.loop-daughter.store c.entered_from-must.result c.entered_from.result c.loop-daughter.daughter c.args.mother c.meet-doubled.result c.entered_from-must.ensures c.entered_from.ensures c.meet-doubled.ensures.members (sym c.contains.ensures.value ∙ w.if-contains.false) c.loop-daughter.invariant.0 in
-          subst (λ p. RunsFor (OneLabelOf (LabelInto c.args.mother (c.loop-daughter.daughter + 1))) plane.dim.0 c.args.pass.now s0 p c.if-contains.store × (c.if-contains.store.parts ≡ s0.parts) × Known c.if-contains.store) (sym w.pass-is)
-          (subst (λ s. RunsFor (OneLabelOf (LabelInto c.args.mother (c.loop-daughter.daughter + 1))) plane.dim.0 c.args.pass.now s0 c.loop-daughter.pass s × (s.parts ≡ s0.parts) × Known s) (sym w.store-is) (done, same, c.loop-daughter.invariant.2))
-    ]
+    let same = c.loop-daughter.invariant.1 in (
+      label_turn c.args.plane.now c.args.pass.now c.loop-daughter.pass c.one_label_between.new.pass c.args.store.now c.loop-daughter.store c.one_label_between.new.store c.args.mother c.loop-daughter.daughter same c.loop-daughter.invariant.0
+          (subst (λ z. Clears (Doubled z c.args.plane.now.dim.0 (must_edges z c.loop-daughter.store.now c.args.plane.now.dim.0) c.args.mother c.loop-daughter.daughter) c.loop-daughter.pass c.loop-daughter.store c.one_label_between.new.pass c.one_label_between.new.store) same c.one_label_between.ensures.clears),
+      c.one_label_between.ensures.clears.same ∙ same,
+      c.one_label_between.ensures.known,
+    )
 
 pub returns-clause-runs : goal.returns-clause-runs
 returns-clause-runs c = label_like c.args.plane.now c.args.pass.now c.loop-daughter.pass c.loop-daughter.pass c.args.store.now c.loop-daughter.store c.loop-daughter.store (LabelInto c.args.mother c.loop-daughter.daughter) (λ e. e.mother.0 ≡ c.args.mother) c.requires.plane (λ e x. x.0) (λ e on x. (x, (let k = on.daughter in let t = c.loop-daughter-test.false in omega (arith, k, t)))) c.loop-daughter.invariant.0

@@ -1,8 +1,9 @@
+use Rattle.std.specs.Prelude.{◌<◌}
 use Rattle.xdg_store.specs.States.{Known}
 use Rattle.xdg_propcore.specs.Passes.{Clears}
-use Rattle.xdg_pgraph.specs.Seeking.{Aims}
-use Rattle.xdg_pgraph.proofs.Mothers.{ToBelow}
+use Rattle.xdg_propcore.proofs.Aimed.{ByOne}
+use Rattle.xdg_pgraph.specs.Seeking.{Aims, ToWith}
 use Rattle.xdg_pgraph.proofs.taking.forbid_entering.Given as goal
 
 abbrev pub invariant-loop-label : goal.invariant-loop-label
-invariant-loop-label l = Clears (Aims l.fn.store.parts l.plane.dim.0 l.others (ToBelow l.daughter l.label)) l.fn.pass l.fn.store l.pass l.store × Known l.store
+invariant-loop-label l = Clears (ByOne (λ x. x < l.label) (λ x. Aims l.fn.store.parts l.plane.dim.0 l.others (ToWith l.daughter x))) l.fn.pass l.fn.store l.pass l.store × Known l.store

@@ -20,4 +20,4 @@ returns-in-One-clause-runs c = (
 pub returns-in-More-clause-runs : goal.returns-in-More-clause-runs
 returns-in-More-clause-runs c = (
     let must = must_edges c.args.store.now.parts c.args.store.now.now c.args.plane.now.dim.0 in
-    more_roots_run c.args.plane.now c.args.pass.now c.args.store.now c.requires.plane c.find_roots.result (c.find_roots.ensures must c.requires.incoming.must.once) c.in-More.is)
+    more_roots_run c.args.plane.now c.args.pass.now c.args.pass.now c.args.store.now c.args.store.now c.requires.plane c.find_roots.result (c.find_roots.ensures must c.requires.incoming.must.once) c.in-More.is)

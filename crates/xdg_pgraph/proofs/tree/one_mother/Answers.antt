@@ -1,10 +1,10 @@
 use Rattle.std.proofs.Common.{◌≡◌, ◌∙◌, ℕ, ◌∷◌, List, ap, refl, sym, subst}
 use Rattle.xdg_facts.specs.Rises.{has}
-use Rattle.xdg_rules.specs.Rules.{must_edges}
+use Rattle.xdg_rules.specs.Rules.{OneMother, must_edges}
 use Rattle.xdg_propcore.specs.Passes.{Clears}
 use Rattle.xdg_pgraph.specs.Planes.{IsPlane}
 use Rattle.xdg_pgraph.specs.Seeking.{Aims, Finds, Into, ToNode}
-use Rattle.xdg_pgraph.proofs.Ruled.{one_mother_end, one_mother_turn}
+use Rattle.xdg_pgraph.proofs.Ruled.{its_daughter, one_mother_turn, outside_end}
 use Rattle.xdg_facts.proofs.Rising.{tail_in}
 use Rattle.xdg_pgraph.proofs.Skipped.{crowded_within, one_mother_start, stays_both}
 use Rattle.xdg_pgraph.proofs.tree.one_mother.Goals as goal
@@ -53,7 +53,7 @@ loop-daughter-preserved c =
       tt,
       tt,
       (λ w h. c.loop-daughter.invariant.2 w (tail_in c.loop-daughter.daughter-iterator c.next.new.self v w first h)),
-      one_mother_turn plane c.args.pass.now c.loop-daughter.pass c.forbid_entering.new.pass s0 c.loop-daughter.store c.forbid_entering.new.store c.loop-daughter.daughter-iterator c.next.new.self v found first same
+      one_mother_turn plane.dim.0 c.args.pass.now c.loop-daughter.pass c.forbid_entering.new.pass s0 c.loop-daughter.store c.forbid_entering.new.store c.loop-daughter.daughter-iterator c.next.new.self v found first same
           (subst (λ z. Finds (Into (must_edges z c.loop-daughter.store.now plane.dim.0) v) found) same c.entering-musts.ensures)
           c.loop-daughter.invariant.3
           (subst (λ z. Clears (Aims z plane.dim.0 found (ToNode v)) c.loop-daughter.pass c.loop-daughter.store c.forbid_entering.new.pass c.forbid_entering.new.store) same c.forbid_entering.ensures.clears),
@@ -63,7 +63,7 @@ loop-daughter-preserved c =
     )
 
 pub returns-clause-runs : goal.returns-clause-runs
-returns-clause-runs c = one_mother_end c.args.plane.now c.args.pass.now c.loop-daughter.pass c.loop-daughter.pass c.args.store.now c.loop-daughter.store c.loop-daughter.store c.loop-daughter.daughter-iterator c.in-None.ensures.steps.0 c.loop-daughter.invariant.3
+returns-clause-runs c = outside_end OneMother its_daughter c.args.plane.now.dim.0 c.args.pass.now c.loop-daughter.pass c.loop-daughter.pass c.args.store.now c.loop-daughter.store c.loop-daughter.store c.loop-daughter.daughter-iterator c.in-None.ensures.steps.0 c.loop-daughter.invariant.3
 
 pub returns-clause-quiet : goal.returns-clause-quiet
 returns-clause-quiet c z = (c.loop-daughter.invariant.6 z).1

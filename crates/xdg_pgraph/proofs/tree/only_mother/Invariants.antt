@@ -4,8 +4,8 @@ use Rattle.xdg_facts.specs.Rises.{has}
 use Rattle.xdg_problem.specs.Paths.{roots}
 use Rattle.xdg_rules.specs.Rules.{OnlyMother, may_edges}
 use Rattle.xdg_store.specs.States.{Known}
-use Rattle.xdg_pgraph.proofs.Ruled.{RunsPart}
-use Rattle.xdg_pgraph.proofs.Single.{OnlyMotherOutside}
+use Rattle.xdg_pgraph.proofs.Ruled.{Outside, RunsPart}
+use Rattle.xdg_pgraph.proofs.Single.{only_daughter}
 use Rattle.xdg_pgraph.proofs.tree.only_mother.Given as goal
 
 abbrev pub invariant-loop-daughter : goal.invariant-loop-daughter
@@ -13,6 +13,6 @@ invariant-loop-daughter l =
     (goal.iterator-loop-daughter).can_next l.daughter-iterator
     × (goal.iterator-loop-daughter).is_finite l.daughter-iterator
     × ((v : ℕ) → has l.daughter-iterator v ≡ true → has l.initial.daughter-iterator v ≡ true)
-    × ((root : ℕ) → Contains (roots l.plane.nodes (may_edges l.fn.store.parts l.fn.store.now l.plane.dim.0)) root → RunsPart OnlyMother (OnlyMotherOutside l.daughter-iterator) l.plane.dim.0 l.fn.pass l.fn.store l.pass l.store)
+    × ((root : ℕ) → Contains (roots l.plane.nodes (may_edges l.fn.store.parts l.fn.store.now l.plane.dim.0)) root → RunsPart OnlyMother (Outside OnlyMother only_daughter l.daughter-iterator) l.plane.dim.0 l.fn.pass l.fn.store l.pass l.store)
     × (l.store.parts ≡ l.fn.store.parts)
     × Known l.store

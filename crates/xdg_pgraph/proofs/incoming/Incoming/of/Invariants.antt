@@ -1,10 +1,10 @@
-use Rattle.xdg_graph.specs.declared.which.Which.TheVariants as whichs
+use Rattle.std.specs.Prelude.{Contains}
+use Rattle.xdg_rules.specs.Rules.{may_edges, must_edges}
 use Rattle.xdg_pgraph.specs.Entering.{Tells}
-use Rattle.xdg_graph.specs.Edges.{edges_of}
-use Rattle.xdg_pgraph.proofs.Told.{ToBelow}
+use Rattle.xdg_pgraph.proofs.Below.{Below}
 use Rattle.xdg_pgraph.proofs.incoming.Incoming.of.Given as goal
 
 abbrev pub invariant-loop-daughter : goal.invariant-loop-daughter
 invariant-loop-daughter l =
-    Tells (ToBelow (edges_of whichs.May l.store.parts l.store.now l.plane.dim.0) l.daughter) l.may
-    × Tells (ToBelow (edges_of whichs.Must l.store.parts l.store.now l.plane.dim.0) l.daughter) l.must
+    Tells (Below (λ e. e.daughter.0) (Contains (may_edges l.store.parts l.store.now l.plane.dim.0)) l.daughter) l.may
+    × Tells (Below (λ e. e.daughter.0) (Contains (must_edges l.store.parts l.store.now l.plane.dim.0)) l.daughter) l.must
