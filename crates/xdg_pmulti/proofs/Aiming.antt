@@ -1,7 +1,7 @@
 -- What loops over nodes and labels take, and what the rules take by tables.
 use Rattle.std.proofs.Common.{◌≡◌, ℕ, ◌<◌, ◌≤◌, ◌⊎◌, ◌↔◌, ◌&&◌, get_or, inl, inr, Bool, true, IsTrue, List, [], ◌∷◌, refl, sym, ◌∙◌, ap, subst, arith}
 use Rattle.std.specs.Prelude.{not, Contains, All}
-use Rattle.std.proofs.lemmas.Bool.{cases_Bool, and_parts, and_from, not-true, not_from_false, both_ways, false_from_ne_true}
+use Rattle.std.proofs.lemmas.Bool.{and_parts, and_from, not-true, not_from_false, both_ways, false_from_ne_true}
 use Rattle.std.proofs.lemmas.List.Elements.{All-weaker, All-contains_itself}
 use Rattle.xdg_nodeset.specs.Tables.{In}
 use Rattle.xdg_problem.proofs.Walks.{closed_above}
@@ -16,19 +16,20 @@ use Rattle.xdg_problem.specs.Places.{edge, nodes}
 use Rattle.xdg_problem.specs.Vectors.{shape}
 use Rattle.xdg_problem.proofs.Edges.{edge_equal}
 use Rattle.xdg_problem.proofs.Looking.{any_of}
-use Rattle.xdg_problem.proofs.PlaceOrder.{is_place, place_is}
+use Rattle.xdg_problem.proofs.PlaceOrder.{is_place}
 use Rattle.xdg_problem.proofs.TreeTests.{above_within}
 use Rattle.xdg_rules.specs.Rules.{IsPlaceOn, ClimbingReach, BarriersReach, may_edges, must_edges}
 use Rattle.xdg_rules.proofs.Shrinking.{may_exact, must_exact}
 use Rattle.xdg_store.specs.States.{State, Known}
 use Rattle.xdg_propcore.specs.Passes.{Progress, Clears}
-use Rattle.xdg_propcore.proofs.Passing.{clears_like}
+use Rattle.xdg_propcore.proofs.Aimed.{ByOne, Passed, passed_member}
+use Rattle.xdg_propcore.proofs.Passing.{clears_like, clears_more}
 use Rattle.xdg_graph.specs.Edges.{edges_of, edge_labels}
 use Rattle.xdg_graph.specs.declared.which.Which.TheVariants as whichs
 use Rattle.xdg_graph.proofs.Edges.{stands_by}
 use Rattle.xdg_graph.proofs.Labelled.{label_below}
 use Rattle.xdg_pmulti.specs.Aims.{AreNodes, Beyond, Blocks, Forbids, From, IsStopped, Leaves, Out, StoppedBy, Stops}
-use Rattle.xdg_pmulti.proofs.Forbidding.{ByOne, Passed, clears_wider, forbids_same, one_edge, passed_all, passed_more, passed_set}
+use Rattle.xdg_pmulti.proofs.Forbidding.{forbids_all, forbids_like, forbids_same}
 use Rattle.xdg_facts.specs.Rises.{has}
 
 -- ---- the edges with a label out of a node
@@ -42,13 +43,6 @@ pub record IsBeyond (parts : Parts) (box : List (List Bool)) (dim u l : ℕ) (wi
   pub mask : List ℕ
   pub daughters : (x : ℕ) → IsTrue (has mask x) ↔ IsDaughterBy (may_edges parts box dim) u l x
   pub first_is : (x : ℕ) → has first x ≡ (has mask x && not (has within x))
-
-pub is_beyond : (parts : Parts) (box : List (List Bool)) (dim u l : ℕ) (within mask rest items first : List ℕ) → ((x : ℕ) → IsTrue (has mask x) ↔ IsDaughterBy (edges_of whichs.May parts box dim) u l x) → ((x : ℕ) → has rest x ≡ (has mask x && not (has within x))) → items ≡ rest → first ≡ items → IsBeyond parts box dim u l within first
-is_beyond parts box dim u l within mask rest items first daughters rest_is same is = record {
-  mask = mask;
-  daughters = daughters;
-  first_is = λ x. ap (λ s. has s x) (is ∙ same) ∙ rest_is x;
-}
 
 module _ (parts : Parts) (box : List (List Bool)) (dim u l : ℕ) (within first : List ℕ) (box_is : IsBox (shape parts) box) (are : IsBeyond parts box dim u l within first) where
   pub beyond_place : (v : ℕ) → has first v ≡ true → IsPlace parts (edge dim u l v)
@@ -67,46 +61,38 @@ module _ (parts : Parts) (box : List (List Bool)) (dim u l : ℕ) (within first 
   edge_beyond e v h same = subst (Beyond u l within) (sym same) (refl, (refl, beyond_outside v h))
 
 -- the edges that the loop takes are those beyond the set
-pub beyond_all : (dim u l : ℕ) (within first left : List ℕ) (p q : Progress) (old new : State) → Known old → IsBeyond old.parts old.now dim u l within first → left ≡ [] → Passed old.parts dim (To dim u l) first left p old q new → Clears (Forbids old.parts dim (Beyond u l within)) p old q new
-beyond_all dim u l within first left p q old new known are left_is a =
-    clears_wider (Forbids old.parts dim (ByOne (λ x. has first x ≡ true) (To dim u l))) (Forbids old.parts dim (Beyond u l within)) p q old new
-    (λ d v f. record { place = f.place; is = f.is; goes = edge_beyond old.parts old.now dim u l within first known.is_box are f.place f.goes.0 f.goes.1 f.goes.2; says = f.says })
-    (λ d v f. elim (cases_Bool (has first f.place.daughter.0)) [
-      | inl h ↦ inl (record { place = f.place; is = f.is; goes = (f.place.daughter.0, h, edge_equal f.place (edge dim u l f.place.daughter.0) f.is.1 f.goes.1.0 f.goes.0 refl); says = f.says })
-      | inr none ↦ inr (λ remains. both_ways (has first f.place.daughter.0) none (beyond_first old.parts old.now dim u l within first known.is_box are f.place f.is f.goes (subst (λ k. Has old.now k 0) f.says.0 (subst (λ k. Has old.now d k) f.says.1 remains))))
-    ])
-    (passed_all old.parts dim (To dim u l) first left p q old new left_is a)
+pub beyond_all : (dim u l : ℕ) (within first : List ℕ) (p q : Progress) (old new : State) → Known old → IsBeyond old.parts old.now dim u l within first → Clears (ByOne (λ x. has first x ≡ true) (λ x. Forbids old.parts dim (To dim u l x))) p old q new → Clears (Forbids old.parts dim (Beyond u l within)) p old q new
+beyond_all dim u l within first p q old new known are = clears_more (ByOne (λ x. has first x ≡ true) (λ x. Forbids old.parts dim (To dim u l x))) (Forbids old.parts dim (Beyond u l within)) p q old new
+    (λ d v t. forbids_like old.parts dim (To dim u l t.0) (Beyond u l within) (λ e on same. edge_beyond old.parts old.now dim u l within first known.is_box are e t.0 t.1 same) d v t.2)
+    (λ d v f h. (
+      f.place.daughter.0,
+      beyond_first old.parts old.now dim u l within first known.is_box are f.place f.is f.goes (subst (λ k. Has old.now k 0) f.says.0 (subst (λ k. Has old.now d k) f.says.1 h)),
+      record { place = f.place; is = f.is; goes = edge_equal f.place (edge dim u l f.place.daughter.0) f.is.1 f.goes.1.0 f.goes.0 refl; says = f.says },
+    ))
 
-pub to_taken : (dim u l : ℕ) (first left rest : List ℕ) (within : List ℕ) (v : ℕ) (p q r : Progress) (old mid new : State) → Known old → IsBeyond old.parts old.now dim u l within first → has first v ≡ true → left ≡ v ∷ rest → Passed old.parts dim (To dim u l) first left p old q mid → Clears (λ d x. (d ≡ edge_decision mid.parts (edge dim u l v)) × (x ≡ 0)) q mid r new → Passed old.parts dim (To dim u l) first rest p old r new
-to_taken dim u l first left rest within v p q r old mid new known are h left_is a b =
-    let place = beyond_place old.parts old.now dim u l within first known.is_box are v h in
-    passed_more dim (To dim u l) first left rest v p q r old mid new left_is a
-    (one_edge mid.parts dim (edge dim u l v) q r mid new (subst (λ z. IsPlaceOn z dim (edge dim u l v)) (sym a.clears.same) (place_is old.parts (edge dim u l v) place, refl)) b)
-
--- the edge is a place still
-pub to_place : (dim u l : ℕ) (within first left : List ℕ) (v : ℕ) (p q : Progress) (old mid : State) → Known old → IsBeyond old.parts old.now dim u l within first → has first v ≡ true → Passed old.parts dim (To dim u l) first left p old q mid → IsPlace mid.parts (edge dim u l v)
-to_place dim u l within first left v p q old mid known are h a = subst (λ z. IsPlace z (edge dim u l v)) (sym a.clears.same) (beyond_place old.parts old.now dim u l within first known.is_box are v h)
+-- the next edge is a place still
+pub to_place : (dim u l : ℕ) (within set items first left rest : List ℕ) (v : ℕ) (p q : Progress) (old mid : State) → Known old → IsBeyond old.parts old.now dim u l within set → items ≡ set → first ≡ items → left ≡ v ∷ rest → Passed (λ parts x. Forbids parts dim (To dim u l x)) first left p old q mid → IsPlace mid.parts (edge dim u l v)
+to_place dim u l within set items first left rest v p q old mid known are same at is a = subst (λ z. IsPlace z (edge dim u l v)) (sym a.clears.same)
+    (beyond_place old.parts old.now dim u l within set known.is_box are v (passed_member (λ parts x. Forbids parts dim (To dim u l x)) set items first left rest v p q old mid same at is a))
 
 -- ---- loops over mothers, labels and barriers
 
 -- out of the members of a set
-pub out_all : (parts : Parts) (dim l : ℕ) (mothers within items first left : List ℕ) (p q : Progress) (old new : State) → items ≡ mothers → first ≡ items → left ≡ [] → Passed parts dim (λ u. Beyond u l within) first left p old q new → Clears (Forbids parts dim (Out mothers l within)) p old q new
-out_all parts dim l mothers within items first left p q old new same is left_is a =
-    forbids_same parts dim (ByOne (λ x. has mothers x ≡ true) (λ u. Beyond u l within)) (Out mothers l within) p q old new
-    (λ e on g. (subst (λ x. has mothers x ≡ true) (sym g.2.1.0) g.1, g.2.0, g.2.1.1))
+pub out_all : (parts : Parts) (dim l : ℕ) (mothers within : List ℕ) (p q : Progress) (old new : State) → Clears (ByOne (λ u. has mothers u ≡ true) (λ u. Forbids parts dim (Beyond u l within))) p old q new → Clears (Forbids parts dim (Out mothers l within)) p old q new
+out_all parts dim l mothers within p q old new = forbids_all parts dim (λ u. has mothers u ≡ true) (λ u. Beyond u l within) (Out mothers l within) p q old new
+    (λ u e on there g. (subst (λ x. has mothers x ≡ true) (sym g.1.0) there, g.0, g.1.1))
     (λ e on g. (e.mother.0, g.0, (g.1, (refl, g.2))))
-    (passed_set parts dim (λ u. Beyond u l within) mothers items first left p q old new same is left_is a)
 
 -- with each label
-pub from_all : (parts : Parts) (dim u k : ℕ) (within : List ℕ) (p q : Progress) (old new : State) → edge_labels parts dim ≤ k → Clears (Forbids parts dim (ByOne (λ l. l < k) (λ l. Beyond u l within))) p old q new → Clears (Forbids parts dim (From u within)) p old q new
-from_all parts dim u k within p q old new all = forbids_same parts dim (ByOne (λ l. l < k) (λ l. Beyond u l within)) (From u within) p q old new
-    (λ e on g. g.2.1)
+pub from_all : (parts : Parts) (dim u k : ℕ) (within : List ℕ) (p q : Progress) (old new : State) → edge_labels parts dim ≤ k → Clears (ByOne (λ l. l < k) (λ l. Forbids parts dim (Beyond u l within))) p old q new → Clears (Forbids parts dim (From u within)) p old q new
+from_all parts dim u k within p q old new all = forbids_all parts dim (λ l. l < k) (λ l. Beyond u l within) (From u within) p q old new
+    (λ l e on less g. g.1)
     (λ e on g. (e.label.0, (let b = label_below parts e (is_place parts e on.0) in let same = ap (edge_labels parts) on.1 in omega (arith, b, same, all)), (refl, g)))
 
 -- out of each node
-pub leaves_all : (parts : Parts) (dim k : ℕ) (table : List (List ℕ)) (p q : Progress) (old new : State) → nodes parts ≤ k → Clears (Forbids parts dim (ByOne (λ u. u < k) (λ u. From u (get_or table u [])))) p old q new → Clears (Forbids parts dim (Leaves table)) p old q new
-leaves_all parts dim k table p q old new all = forbids_same parts dim (ByOne (λ u. u < k) (λ u. From u (get_or table u []))) (Leaves table) p q old new
-    (λ e on g. subst (λ u. In table u e.daughter.0 → ⊥) (sym g.2.0) g.2.1)
+pub leaves_all : (parts : Parts) (dim k : ℕ) (table : List (List ℕ)) (p q : Progress) (old new : State) → nodes parts ≤ k → Clears (ByOne (λ u. u < k) (λ u. Forbids parts dim (From u (get_or table u [])))) p old q new → Clears (Forbids parts dim (Leaves table)) p old q new
+leaves_all parts dim k table p q old new all = forbids_all parts dim (λ u. u < k) (λ u. From u (get_or table u [])) (Leaves table) p q old new
+    (λ u e on less g. subst (λ x. In table x e.daughter.0 → ⊥) (sym g.0) g.1)
     (λ e on g. (e.mother.0, (let m = (is_place parts e on.0).mother in omega (arith, m, all)), (refl, g)))
 
 -- a node and those below it are nodes of the sentence
@@ -126,17 +112,15 @@ barrier_out parts dim l barrier over near mothers within p q old new under withi
     (λ e on g. ((under e.mother.0).1 g.1.0, g.0, (λ i. g.1.1 (subst (λ s. has s e.daughter.0 ≡ true) within_is i))))
 
 -- each of them
-pub stopped_all : (parts : Parts) (dim l : ℕ) (barriers items first left : List ℕ) (over near : List (List ℕ)) (p q : Progress) (old new : State) → items ≡ barriers → first ≡ items → left ≡ [] → Passed parts dim (ByBarrier l over near) first left p old q new → Clears (Forbids parts dim (StoppedBy barriers l over near)) p old q new
-stopped_all parts dim l barriers items first left over near p q old new same is left_is a =
-    forbids_same parts dim (ByOne (λ x. has barriers x ≡ true) (ByBarrier l over near)) (StoppedBy barriers l over near) p q old new
-    (λ e on g. (g.2.0, (g.0, g.1, g.2.1)))
+pub stopped_all : (parts : Parts) (dim l : ℕ) (barriers : List ℕ) (over near : List (List ℕ)) (p q : Progress) (old new : State) → Clears (ByOne (λ x. has barriers x ≡ true) (λ x. Forbids parts dim (ByBarrier l over near x))) p old q new → Clears (Forbids parts dim (StoppedBy barriers l over near)) p old q new
+stopped_all parts dim l barriers over near p q old new = forbids_all parts dim (λ x. has barriers x ≡ true) (ByBarrier l over near) (StoppedBy barriers l over near) p q old new
+    (λ x e on there g. (g.0, (x, there, g.1)))
     (λ e on g. (g.1.0, g.1.1, (g.0, g.1.2)))
-    (passed_set parts dim (ByBarrier l over near) barriers items first left p q old new same is left_is a)
 
 -- at each label
-pub blocked_all : (parts : Parts) (dim k : ℕ) (barred over near : List (List ℕ)) (p q : Progress) (old new : State) → edge_labels parts dim ≤ k → Clears (Forbids parts dim (ByOne (λ l. l < k) (λ l. StoppedBy (get_or barred l []) l over near))) p old q new → Clears (Forbids parts dim (IsStopped barred over near)) p old q new
-blocked_all parts dim k barred over near p q old new all = forbids_same parts dim (ByOne (λ l. l < k) (λ l. StoppedBy (get_or barred l []) l over near)) (IsStopped barred over near) p q old new
-    (λ e on g. (g.2.1.0, subst (λ l. In barred l g.2.1.0) (sym g.2.0) g.2.1.1, g.2.1.2))
+pub blocked_all : (parts : Parts) (dim k : ℕ) (barred over near : List (List ℕ)) (p q : Progress) (old new : State) → edge_labels parts dim ≤ k → Clears (ByOne (λ l. l < k) (λ l. Forbids parts dim (StoppedBy (get_or barred l []) l over near))) p old q new → Clears (Forbids parts dim (IsStopped barred over near)) p old q new
+blocked_all parts dim k barred over near p q old new all = forbids_all parts dim (λ l. l < k) (λ l. StoppedBy (get_or barred l []) l over near) (IsStopped barred over near) p q old new
+    (λ l e on less g. (g.1.0, subst (λ x. In barred x g.1.0) (sym g.0) g.1.1, g.1.2))
     (λ e on g. (e.label.0, (let b = label_below parts e (is_place parts e on.0) in let same = ap (edge_labels parts) on.1 in omega (arith, b, same, all)), (refl, (g.0, g.1, g.2))))
 
 -- ---- the rules
