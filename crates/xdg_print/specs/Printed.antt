@@ -1,5 +1,5 @@
 -- A text that is written word by word and line by line.
-use Rattle.std.specs.Prelude.{ℕ, Bool, true, false, nat_lt, if◌then◌else◌, List, [], ◌∷◌, ◌++◌, flat_map, Some, None}
+use Rattle.std.specs.Prelude.{ℕ, Bool, true, false, if◌then◌else◌, List, [], ◌∷◌, ◌++◌, flat_map, Some, None}
 use Rattle.xdg_ast.specs.declared.token.Kind.{Kind}
 use Rattle.xdg_ast.specs.declared.token.Kind.TheVariants as k
 use Rattle.xdg_ast.specs.declared.names.Name.{Name}
@@ -7,10 +7,9 @@ use Rattle.xdg_ast.specs.declared.names.Pair.{Pair}
 use Rattle.xdg_ast.specs.declared.grammar.DimPartKind.{DimPartKind}
 use Rattle.xdg_ast.specs.declared.grammar.StatementKind.TheVariants as s
 use Rattle.xdg_ast.specs.declared.names.Spanned.{Spanned}
-use Rattle.xdg_ast.specs.Language as language
 use Rattle.xdg_ast.specs.Words.{Word, mark}
 use Rattle.xdg_ast.specs.Trees.{single, conjunction, disjunction, Phrase, name_word, pair_words}
-use Rattle.xdg_ast.specs.Canon.{text_of, gap, spelling, Line, statement_lines}
+use Rattle.xdg_ast.specs.Canon.{gap, spelling, Line, statement_lines}
 use Rattle.xdg_print.specs.declared.printer.Printer.{Printer}
 
 -- after one more word
@@ -56,7 +55,3 @@ name_pairs_words pairs = flat_map (pair_words (λ name. name_word name ∷ [])) 
 -- the lines of a dimension
 abbrev pub dim_lines : Name → List (Spanned DimPartKind) → List Line
 dim_lines name parts = statement_lines (s.DefDim name parts)
-
--- the text of a keyword, and nothing of a sign
-abbrev pub keyword_text : Kind → List ℕ
-keyword_text kind = if nat_lt (language.number kind) 26 then text_of kind else []

@@ -6,42 +6,9 @@ ghost use Rattle.std.specs.List.{flat_map};
 ghost use Rattle.xdg_base.specs.Spelling.{escaped};
 ghost use Rattle.xdg_ast.specs.Words.{mark};
 ghost use Rattle.xdg_ast.specs.Canon.{spelling, is_tight_behind, is_tight_before, takes_types, is_tight};
-ghost use Rattle.xdg_print.specs.Printed.{keyword_text};
 
 use xdg_ast::Kind;
 use xdg_base::{OutOfMemory, Text};
-
-/// How a keyword is spelled. Of other words it tells nothing.
-fn keyword(kind: Kind) -> &'static str
-    ensures { result.now ≡ keyword_text kind }
-{
-    match kind {
-        Kind::DefDim => "defdim",
-        Kind::DefType => "deftype",
-        Kind::DefLabelType => "deflabeltype",
-        Kind::DefAttrsType => "defattrstype",
-        Kind::DefEntryType => "defentrytype",
-        Kind::UsePrinciple => "useprinciple",
-        Kind::Dims => "dims",
-        Kind::Args => "args",
-        Kind::Output => "output",
-        Kind::UseOutput => "useoutput",
-        Kind::DefClass => "defclass",
-        Kind::DefEntry => "defentry",
-        Kind::Dim => "dim",
-        Kind::UseDim => "usedim",
-        Kind::Tuple => "tuple",
-        Kind::Set => "set",
-        Kind::ISet => "iset",
-        Kind::Valency => "valency",
-        Kind::Map => "map",
-        Kind::Card => "card",
-        Kind::Bool => "bool",
-        Kind::Int => "int",
-        Kind::String => "string",
-        _ => "",
-    }
-}
 
 /// How a keyword or a sign is spelled, and a constant or a number that says nothing.
 #[tactic(auto, unfolding(xdg_ast::specs::Canon::spelling))]
@@ -67,7 +34,7 @@ pub(crate) fn mark_text(kind: Kind) -> &'static str
         Kind::Question => "?",
         Kind::Star => "*",
         Kind::Plus => "+",
-        _ => keyword(kind),
+        _ => kind.keyword(),
     }
 }
 
