@@ -1,5 +1,5 @@
 -- The faults of the pass over kinds and sizes are those of the rules.
-use Rattle.std.proofs.Common.{◌≡◌, inl, inr, ℕ, List, ◌∷◌, ◌++◌, Option, None, Some, refl, sym, ap, subst, ◌∙◌}
+use Rattle.std.proofs.Common.{◌≡◌, ◌↔◌, inl, inr, ℕ, List, ◌∷◌, ◌++◌, Option, None, Some, refl, sym, ap, subst, ◌∙◌}
 use Rattle.std.specs.Prelude.{slice_get}
 use Rattle.xdg_base.specs.declared.faults.Cause.TheVariants as causes
 use Rattle.xdg_base.specs.declared.faults.Fault.{Fault}
@@ -9,11 +9,11 @@ use Rattle.xdg_names.proofs.First.{tells_as, first-tells}
 use Rattle.xdg_types.specs.Parts.{Statement, used_places}
 use Rattle.xdg_types.specs.Kinds.{sites, reaching, IsNinthDimension, KindOffends}
 use Rattle.xdg_typing.specs.KindFaults.{site_faults, faults_in, ninth_use_faults, all_faults}
-use Rattle.xdg_typing.proofs.KindRows.{site_sound, site_complete}
-use Rattle.xdg_typing.proofs.RecordRows.{between, at_place}
+use Rattle.xdg_typing.proofs.KindRows.{site_exact}
+use Rattle.xdg_typing.proofs.RecordRows.{at_place, between, in_either}
 use Rattle.xdg_typing.proofs.Walked.{joined}
 use Rattle.xdg_facts.specs.Membership.{In}
-use Rattle.xdg_facts.proofs.In.{in_append, in_left, in_right, in_flat_map, flat_map_in}
+use Rattle.xdg_facts.proofs.In.{in_flat_map, flat_map_in}
 
 ninth_use : (found : Option ℕ) (f : Fault) → In (ninth_use_faults found) f → (place : ℕ) × ((found ≡ Some place) × (f ≡ reaching causes.TooWide place 9))
 ninth_use None f h = absurd h
@@ -32,21 +32,14 @@ module _ (names : List ℕ → Shape) (statements : List Statement) where
       ap (λ ns. slice_get ns 8) h.parts ∙ ap (λ k. slice_get (h.before ++ h.ninth ∷ h.after) k) (sym h.eight) ∙ at_place h.before h.ninth h.after in
       subst (λ o. In (ninth_use_faults o) f) (sym is) (inl (sym h.fault))
 
-  sound : (f : Fault) → In (all_faults names statements) f → KindOffends names statements f
-  sound f h = elim (in_append (ninth_use_faults (slice_get (used_places statements) 8)) (faults_in names (sites statements)) f h) [
-    | inl n ↦ inl (ninth_sound f n)
-    | inr s ↦ (let r = in_flat_map (site_faults names) (sites statements) f s in inr (r.0, (r.1.0, site_sound names r.0 f r.1.1)))
-  ]
-
-  complete : (f : Fault) → KindOffends names statements f → In (all_faults names statements) f
-  complete f h = elim h [
-    | inl n ↦ in_left (ninth_use_faults (slice_get (used_places statements) 8)) (faults_in names (sites statements)) f (ninth_complete f n)
-    | inr s ↦ in_right (ninth_use_faults (slice_get (used_places statements) 8)) (faults_in names (sites statements)) f
-        (flat_map_in (site_faults names) (sites statements) s.0 f s.1.0 (site_complete names s.0 f s.1.1))
-  ]
+  exact : (f : Fault) → In (all_faults names statements) f ↔ KindOffends names statements f
+  exact f = in_either (ninth_use_faults (slice_get (used_places statements) 8)) (faults_in names (sites statements)) f (ninth_sound f, ninth_complete f) (
+    λ s. (let r = in_flat_map (site_faults names) (sites statements) f s in (r.0, (r.1.0, (site_exact names r.0 f).0 r.1.1))),
+    λ s. flat_map_in (site_faults names) (sites statements) s.0 f s.1.0 ((site_exact names s.0 f).1 s.1.1),
+  )
 
   kinds_tell : Tells (KindOffends names statements) (first (all_faults names statements))
-  kinds_tell = tells_as (In (all_faults names statements)) (KindOffends names statements) sound complete (first (all_faults names statements)) (first-tells (all_faults names statements))
+  kinds_tell = tells_as (In (all_faults names statements)) (KindOffends names statements) (λ f. (exact f).0) (λ f. (exact f).1) (first (all_faults names statements)) (first-tells (all_faults names statements))
 
   -- what the pass answers
   pub both_tell : (uses in_types found : Option Fault) → uses ≡ first (ninth_use_faults (slice_get (used_places statements) 8)) → in_types ≡ first (faults_in names (sites statements))

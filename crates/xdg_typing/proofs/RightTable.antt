@@ -14,17 +14,17 @@ use Rattle.xdg_domain.specs.Shapes.{Shape, text, fields, Fields, no_field, field
 use Rattle.xdg_domain.proofs.Constants.{domain_differs}
 use Rattle.xdg_names.proofs.Texts.{place_of-has_text, place_of-Some, among_has}
 use Rattle.xdg_types.specs.declared.table.DimType.{DimType}
-use Rattle.xdg_types.specs.Written.{Tree, nothing, recorded, named, Members, no_member, member_then, member_names, tree}
-use Rattle.xdg_types.specs.Parts.{TypeTerm, DimPart, Statement, Dimension, dimensions, dim_names, used_name, used_names, used_places, label_type, attrs_type, entry_type, in_parts}
+use Rattle.xdg_types.specs.Written.{Tree, nothing, recorded, named, Members, no_member, member_then, member_names, tree, uses, lists}
+use Rattle.xdg_types.specs.Parts.{TypeTerm, DimPart, Statement, Dimension, dimensions, dim_names, type_in, used_name, used_names, used_places, label_type, attrs_type, entry_type, in_parts}
 use Rattle.xdg_types.specs.Meaning.{meaning, fields_meaning, as_domain}
-use Rattle.xdg_types.specs.Kinds.{an_attribute, the_labels, the_attributes, the_features, inside, inside_members, inside_attributes, is_record, is_attribute, field_count, HasOther, reaching}
+use Rattle.xdg_types.specs.Kinds.{an_attribute, the_labels, the_attributes, the_features, inside, inside_members, inside_attributes, part_sites, is_record, is_attribute, field_count, HasOther, reaching}
 use Rattle.xdg_types.specs.Table.{Typed, typed, typed_fields, fields_in, first_meaning, IsDim, AreDims, AreUsed, firsts, AreAttributes, AreFeatures, KeepsDim, KeepDims, ArePlaces, IsTable}
 use Rattle.xdg_typing.specs.Used.{found, places}
 use Rattle.xdg_typing.specs.Branches.{Naming}
 use Rattle.xdg_typing.specs.Right.{AreRight}
 use Rattle.xdg_types.proofs.Elements.{not_more, among_or_not, part_at}
 use Rattle.xdg_types.proofs.Made.{names_in, names_made}
-use Rattle.xdg_typing.proofs.RightTypes.{IsFine, AreFine, as_type, domain_of, attribute_of, kind_of, right_type, right_attributes}
+use Rattle.xdg_typing.proofs.RightTypes.{IsFine, AreFine, AllOnce, HaveTypes, as_type, domain_of, attribute_of, kind_of, right_type, right_attributes}
 use Rattle.xdg_typing.proofs.RightText.{Stands, type_stands, site_fine, differ_once, lists_once, uses_right}
 use Rattle.xdg_facts.specs.Membership.{In, Differ}
 use Rattle.xdg_facts.proofs.In.{in_left, in_right, in_flat_map}
@@ -39,9 +39,6 @@ firsts_typed (one ∷ all) = ap (λ ts. one.0 ∷ ts) (firsts_typed all)
 -- each as it is where a domain is wanted
 abbrev pub domains_in : Typed → Typed
 domains_in all = map (λ one. (one.0, as_domain one.1)) all
-
-domains_length : (all : Typed) → length (domains_in all) ≡ length all
-domains_length all = length-map all _
 
 firsts_domains : (all : Typed) → firsts (domains_in all) ≡ firsts all
 firsts_domains [] = refl
@@ -144,7 +141,7 @@ attributes_of s k h few =
     let r = record_only s k in
     let right = subst IsType r.1 h in
     let all = few r.0 r.1 in
-    let len = domains_length (typed_fields r.0) in
+    let len : length (domains_in (typed_fields r.0)) ≡ length (typed_fields r.0) = length-map (typed_fields r.0) _ in
     subst (λ u. RightAttributes (domains_in (fields_in u))) (sym r.1) (record {
       differ = subst Differ (sym (firsts_domains (typed_fields r.0) ∙ firsts_fields r.0)) right.0;
       few = omega (arith, len, fields_length r.0, all.0);
@@ -184,49 +181,41 @@ module _ (names : Naming) where
   few_attributes at other fine all = λ fs e. absurd cc
 
 module _ (statements : List Statement) (names : Naming) (right : AreRight statements names) where
-  labels_right : (dim : Dimension) → In (dimensions statements) dim → RightLabels (constants (as_domain (first_meaning names (in_parts label_type dim.1))))
-  labels_right dim defined = elim (first_or_none p.LabelType names dim.1 (in_parts label_type dim.1) (in_part label_type p.LabelType label_part dim.1)) [
-    | inl none ↦ subst (λ s. RightLabels (constants (as_domain s))) (sym none) (record { differ = tt; few = omega arith })
+  -- what holds of no type, and of each that stands in the text with nothing wrong, holds of the first of a part
+  first_right : (kind : TypeTerm → DimPartKind) (which : DimPartKind → List TypeTerm) → ((k : DimPartKind) (type : TypeTerm) → In (which k) type → k ≡ kind type) → ((type : TypeTerm) → In (type_in (kind type)) type)
+      → (R : Shape → Type 0) → R (fields no_field)
+      → ((type : TypeTerm) → AreFine names (part_sites (kind type)) → AllOnce names (lists (tree type.kind)) → HaveTypes names (uses (tree type.kind)) → R (meaning names (tree type.kind)))
+      → (dim : Dimension) → In (dimensions statements) dim → R (first_meaning names (in_parts which dim.1))
+  first_right kind which told own R none right_one dim defined = elim (first_or_none kind names dim.1 (in_parts which dim.1) (in_part which kind told dim.1)) [
+    | inl is ↦ subst R (sym is) none
     | inr w ↦
-        let s : Stands statements names right (p.LabelType w.type) = record { dim = dim; part = w.part; defined = defined; among = w.among; is = w.is } in
-        let fine = site_fine statements names right (p.LabelType w.type) s in
-        let stands = type_stands statements names right (p.LabelType w.type) s w.type (inl refl) in
-        let here = fine _ (inl refl) in
-        let t = tree w.type.kind in
-        let is_right = as_type (meaning names t) (right_type names the_labels w.type.span.start t here (λ site i. fine site (inr i)) (lists_once statements names right w.type stands) (uses_right statements names right w.type stands)) in
-        subst (λ u. RightLabels (constants (as_domain u))) (sym w.first) (record {
-          differ = domain_differs (as_domain (meaning names t)) (domain_of (as_domain (meaning names t)) (kind_of names the_labels w.type.span.start t here) is_right);
-          few = not_more 32 (length (constants (as_domain (meaning names t)))) (λ h. here _ (inr (inr (inl (record { wanted = refl; many = h; fault = refl })))));
-        })
+        let s : Stands statements names right (kind w.type) = record { dim = dim; part = w.part; defined = defined; among = w.among; is = w.is } in
+        let stands = type_stands statements names right (kind w.type) s w.type (own w.type) in
+        subst R (sym w.first) (right_one w.type (site_fine statements names right (kind w.type) s) (lists_once statements names right w.type stands) (uses_right statements names right w.type stands))
   ]
+
+  labels_right : (dim : Dimension) → In (dimensions statements) dim → RightLabels (constants (as_domain (first_meaning names (in_parts label_type dim.1))))
+  labels_right = first_right p.LabelType label_type label_part (λ type. inl refl) (λ s. RightLabels (constants (as_domain s))) (record { differ = tt; few = omega arith }) (λ type fine once used.
+      let here = fine _ (inl refl) in
+      let t = tree type.kind in
+      let is_right = as_type (meaning names t) (right_type names the_labels type.span.start t here (λ site i. fine site (inr i)) once used) in
+      record {
+        differ = domain_differs (as_domain (meaning names t)) (domain_of (as_domain (meaning names t)) (kind_of names the_labels type.span.start t here) is_right);
+        few = not_more 32 (length (constants (as_domain (meaning names t)))) (λ h. here _ (inr (inr (inl (record { wanted = refl; many = h; fault = refl })))));
+      })
 
   features_right : (dim : Dimension) → In (dimensions statements) dim → RightFeatures (fields_in (first_meaning names (in_parts entry_type dim.1)))
-  features_right dim defined = elim (first_or_none p.EntryType names dim.1 (in_parts entry_type dim.1) (in_part entry_type p.EntryType entry_part dim.1)) [
-    | inl none ↦ subst (λ s. RightFeatures (fields_in s)) (sym none) (record { differ = tt; right = tt })
-    | inr w ↦
-        let s : Stands statements names right (p.EntryType w.type) = record { dim = dim; part = w.part; defined = defined; among = w.among; is = w.is } in
-        let fine = site_fine statements names right (p.EntryType w.type) s in
-        let stands = type_stands statements names right (p.EntryType w.type) s w.type (inl refl) in
-        let here = fine _ (inl refl) in
-        let t = tree w.type.kind in
-        subst (λ u. RightFeatures (fields_in u)) (sym w.first) (features_of (meaning names t) (kind_of names the_features w.type.span.start t here)
-        (right_type names the_features w.type.span.start t here (λ site i. fine site (inr i)) (lists_once statements names right w.type stands) (uses_right statements names right w.type stands)))
-  ]
+  features_right = first_right p.EntryType entry_type entry_part (λ type. inl refl) (λ s. RightFeatures (fields_in s)) (record { differ = tt; right = tt }) (λ type fine once used.
+      let here = fine _ (inl refl) in
+      let t = tree type.kind in
+      features_of (meaning names t) (kind_of names the_features type.span.start t here) (right_type names the_features type.span.start t here (λ site i. fine site (inr i)) once used))
 
   attributes_right : (dim : Dimension) → In (dimensions statements) dim → RightAttributes (domains_in (fields_in (first_meaning names (in_parts attrs_type dim.1))))
-  attributes_right dim defined = elim (first_or_none p.AttrsType names dim.1 (in_parts attrs_type dim.1) (in_part attrs_type p.AttrsType attrs_part dim.1)) [
-    | inl none ↦ subst (λ s. RightAttributes (domains_in (fields_in s))) (sym none) (record { differ = tt; few = omega arith; right = tt })
-    | inr w ↦
-        let s : Stands statements names right (p.AttrsType w.type) = record { dim = dim; part = w.part; defined = defined; among = w.among; is = w.is } in
-        let fine = site_fine statements names right (p.AttrsType w.type) s in
-        let stands = type_stands statements names right (p.AttrsType w.type) s w.type (inl refl) in
-        let here = fine _ (inl refl) in
-        let t = tree w.type.kind in
-        let within : AreFine names (inside_attributes t) = λ site i. fine site (inr i) in
-        subst (λ u. RightAttributes (domains_in (fields_in u))) (sym w.first) (attributes_of (meaning names t) (kind_of names the_attributes w.type.span.start t here)
-        (right_attributes names the_attributes w.type.span.start t here within (lists_once statements names right w.type stands) (uses_right statements names right w.type stands))
-        (few_attributes names w.type.span.start t here within))
-  ]
+  attributes_right = first_right p.AttrsType attrs_type attrs_part (λ type. inl refl) (λ s. RightAttributes (domains_in (fields_in s))) (record { differ = tt; few = omega arith; right = tt }) (λ type fine once used.
+      let here = fine _ (inl refl) in
+      let t = tree type.kind in
+      let within : AreFine names (inside_attributes t) = λ site i. fine site (inr i) in
+      attributes_of (meaning names t) (kind_of names the_attributes type.span.start t here) (right_attributes names the_attributes type.span.start t here within once used) (few_attributes names type.span.start t here within))
 
   keeps_dim : (dim : Dimension) (made : DimType) → In (dimensions statements) dim → IsDim names dim made → KeepsDim made
   keeps_dim dim made defined is =
@@ -280,13 +269,10 @@ as_many dims [] [] are = refl
 as_many dims (name ∷ names) (k ∷ ks) are = let e = as_many dims names ks are.1 in omega (arith, e)
 as_many dims _ _ are = absurd are
 
-one_place : (s : Statement) → length (map (λ (name : Name). s.span.start) (used_name s.kind)) ≡ length (used_name s.kind)
-one_place s = length-map (used_name s.kind) (λ name. s.span.start)
-
 places_count : (ss : List Statement) → length (used_places ss) ≡ length (used_names ss)
 places_count [] = refl
 places_count (s ∷ ss) =
-    length-append (map (λ (name : Name). s.span.start) (used_name s.kind)) (used_places ss) ∙ ap₂ (λ a b. a + b) (one_place s) (places_count ss) ∙ sym (length-append (used_name s.kind) (used_names ss))
+    length-append (map (λ (name : Name). s.span.start) (used_name s.kind)) (used_places ss) ∙ ap₂ (λ a b. a + b) (length-map (used_name s.kind) (λ name. s.span.start)) (places_count ss) ∙ sym (length-append (used_name s.kind) (used_names ss))
 
 -- ---- the places that are found
 
