@@ -1,7 +1,7 @@
 -- Two filters of one list, of which the first keeps less.
 use Rattle.std.proofs.Common.{◌≡◌, ℕ, subst, ◌+◌, ◌≤◌, ◌⊎◌, inl, inr, Bool, true, false, ◌&&◌, cond, List, [], ◌∷◌, length, refl, sym, ap, ◌∙◌, arith}
 use Rattle.std.specs.Prelude.{◌<◌, filter, Contains, count_by, slice_index_or}
-use Rattle.std.proofs.lemmas.Bool.{and_parts, and_from, cases_lt, false≢true}
+use Rattle.std.proofs.lemmas.Bool.{and_parts, and_from, cases_lt, false≢true, false_from_ne_true}
 use Rattle.std.proofs.lemmas.List.{get_or_default}
 use Rattle.std.specs.List.{sum_by}
 use Rattle.std.proofs.lemmas.List.Sums.{length-filter, sum_by-cons}
@@ -70,11 +70,14 @@ less_count p q r xs less =
     let more = less_length (λ x. p x && r x) (λ x. q x && r x) xs (less_and p q r xs less) in
     omega (arith, few, many, more)
 
-pub strictly_count : {X : Type 0} (p q r : X → Bool) (xs : List X) → Less p q xs → (z : X) → Contains xs z → p z ≡ false → q z ≡ true → r z ≡ true → count_by r (filter p xs) + 1 ≤ count_by r (filter q xs)
-strictly_count p q r xs less z c fails passes counts =
+-- an element that the second filter keeps alone makes one more
+pub strictly_count : {X : Type 0} (p q r : X → Bool) (xs : List X) → Less p q xs → (z : X) → r z ≡ true → Contains (filter q xs) z → (Contains (filter p xs) z → ⊥) → count_by r (filter p xs) + 1 ≤ count_by r (filter q xs)
+strictly_count p q r xs less z counts kept gone =
+    let is = filter_contained q xs z kept in
+    let fails = false_from_ne_true (p z) (λ passes. gone (contains_filter p xs z passes is.0)) in
     let few = count_of_filter r p xs in
     let many = count_of_filter r q xs in
-    let more = strictly_length (λ x. p x && r x) (λ x. q x && r x) xs (less_and p q r xs less) z c (ap (λ b. b && r z) fails) (and_from (q z) (r z) passes counts) in
+    let more = strictly_length (λ x. p x && r x) (λ x. q x && r x) xs (less_and p q r xs less) z is.0 (ap (λ b. b && r z) fails) (and_from (q z) (r z) is.1 counts) in
     omega (arith, few, many, more)
 
 -- two different elements make two

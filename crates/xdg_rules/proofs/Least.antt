@@ -1,5 +1,5 @@
 -- The least cost of what remains: no cost of what remains is less, and one is as little.
-use Rattle.std.proofs.Common.{◌≡◌, ℕ, ◌<◌, ◌≤◌, ◌⊎◌, inl, inr, zero, suc, Bool, true, false, cond, Option, Some, None, refl, sym, ap, ◌∙◌, arith, subst}
+use Rattle.std.proofs.Common.{◌≡◌, ℕ, ◌<◌, ◌≤◌, inl, inr, zero, suc, Bool, true, false, cond, Option, Some, None, refl, sym, ap, ◌∙◌, arith, subst}
 use Rattle.std.proofs.lemmas.Bool.{cases_eq, cases_lt, false≢true}
 use Rattle.xdg_rules.specs.Bounds.{with_least, least_below, or_nothing}
 
@@ -48,12 +48,10 @@ module _ (remains : ℕ → Bool) (cost : ℕ → ℕ) where
 
   reached_with : (n a : ℕ) (o : Option ℕ) → remains n ≡ true → cost n ≡ a → IsReached n o → IsReached (suc n) (Some (with_least a o))
   reached_with n a None there is reached = (n, omega arith, there, is)
-  reached_with n a (Some least) there is reached = elim (cases_le a least) [
-    | inl here ↦ (n, omega arith, there, omega (arith, is, here))
-    | inr later ↦ (reached.0, (let l = reached.1 in omega (arith, l)), reached.2, (let e = reached.3 in omega (arith, e, later)))
-  ] where
-    cases_le : (x y : ℕ) → (x ≤ y) ⊎ (y < x)
-    cases_le x y = elim (cases_lt y x) [ inl l ↦ inr l | inr l ↦ inl l ]
+  reached_with n a (Some least) there is reached = elim (cases_lt least a) [
+    | inl later ↦ (reached.0, (let l = reached.1 in omega (arith, l)), reached.2, (let e = reached.3 in omega (arith, e, later)))
+    | inr here ↦ (n, omega arith, there, omega (arith, is, here))
+  ]
 
   reached_put : (n : ℕ) (b : Bool) (o : Option ℕ) → remains n ≡ b → IsReached n o → IsReached (suc n) (cond b (Some (with_least (cost n) o)) o)
   reached_put n true o there reached = reached_with n (cost n) o there refl reached

@@ -70,13 +70,6 @@ module _ (parts : Parts) (box : List (List Bool)) (dim : ℕ) (e : Edge) where
       let is = must_parts both.1 in
       record { place = both.0; dim_is = is.0; present = is.1; not_absent = is.2 }
 
-  -- an edge that is not among those that may be
-  pub may_fails : (Contains (may_edges parts box dim) e → ⊥) → Contains (places parts) e → may_be parts box dim e ≡ false
-  may_fails free place = false_from_ne_true (may_be parts box dim e) (λ passes. free (contains_filter (may_be parts box dim) (places parts) e passes place))
-
-  pub must_fails : (Contains (must_edges parts box dim) e → ⊥) → Contains (places parts) e → must_be parts box dim e ≡ false
-  must_fails free place = false_from_ne_true (must_be parts box dim e) (λ passes. free (contains_filter (must_be parts box dim) (places parts) e passes place))
-
   -- a place is among the edges that may be, or it isn't
   pub may_or_not : Contains (places parts) e → (Contains (may_edges parts box dim) e) ⊎ (Contains (may_edges parts box dim) e → ⊥)
   may_or_not place = elim (cases_Bool (may_be parts box dim e)) [
@@ -127,12 +120,8 @@ module _ (parts : Parts) (small large : List (List Bool)) (is : IsBox (shape par
 
   -- an edge that may be in the large box alone makes one more there
   pub may_count_more : (dim : ℕ) (test : Edge → Bool) (e : Edge) → test e ≡ true → Contains (may_edges parts large dim) e → (Contains (may_edges parts small dim) e → ⊥) → count_by test (may_edges parts small dim) + 1 ≤ count_by test (may_edges parts large dim)
-  may_count_more dim test e counts c free =
-      let both = filter_contained (may_be parts large dim) (places parts) e c in
-      strictly_count (may_be parts small dim) (may_be parts large dim) test (places parts) (may_less dim) e both.0 (may_fails parts small dim e free both.0) both.1 counts
+  may_count_more dim test = strictly_count (may_be parts small dim) (may_be parts large dim) test (places parts) (may_less dim)
 
   -- an edge that must be in the small box alone makes one more there
   pub must_count_more : (dim : ℕ) (test : Edge → Bool) (e : Edge) → test e ≡ true → Contains (must_edges parts small dim) e → (Contains (must_edges parts large dim) e → ⊥) → count_by test (must_edges parts large dim) + 1 ≤ count_by test (must_edges parts small dim)
-  must_count_more dim test e counts c free =
-      let both = filter_contained (must_be parts small dim) (places parts) e c in
-      strictly_count (must_be parts large dim) (must_be parts small dim) test (places parts) (must_less dim) e both.0 (must_fails parts large dim e free both.0) both.1 counts
+  must_count_more dim test = strictly_count (must_be parts large dim) (must_be parts small dim) test (places parts) (must_less dim)
