@@ -6,7 +6,6 @@ use Rattle.xdg_base.specs.declared.faults.Stop.{Stop}
 use Rattle.xdg_base.specs.declared.faults.Stop.TheVariants as stops
 use Rattle.xdg_names.specs.First as first
 use Rattle.xdg_names.proofs.One.{one_first, first_or_none}
-use Rattle.xdg_lex.specs.Lexed as tokens
 use Rattle.xdg_lex.specs.Lexed.{Lexed}
 use Rattle.xdg_ast.specs.Lexemes.{Lexeme, lexemes_of}
 use Rattle.xdg_lex.specs.Offends as tokens_told
@@ -29,7 +28,7 @@ Answer = Result CostLists Fault
 module _ (bytes : List ℕ) (table : Table) (entries : ℕ) where
   -- ---- no tokens
 
-  pub tokens_only : (stop : Stop) → ((a : Lexed) → tokens_told.IsAnswer bytes a → tokens.Gives a (Err stop)) → (answer : Answer) → IsAnswer bytes table entries answer → Gives answer (Err stop)
+  pub tokens_only : (stop : Stop) → ((a : Lexed) → tokens_told.IsAnswer bytes a → Gives a (Err stop)) → (answer : Answer) → IsAnswer bytes table entries answer → Gives answer (Err stop)
   tokens_only stops.OutOfMemory only answer is = tt
   tokens_only (stops.Fault g) only (Ok costs) is = absurd (let e : ◌≡◌ {A = Lexed} (Ok is.reads.tokens) (Err g) = only (Ok is.reads.tokens) is.reads.spells in cc)
   tokens_only (stops.Fault g) only (Err f) (no_tokens refused) = let e : ◌≡◌ {A = Lexed} (Err f) (Err g) = only (Err f) refused in cc

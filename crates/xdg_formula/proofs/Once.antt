@@ -3,7 +3,6 @@ use Rattle.std.proofs.Common.{◌≡◌, ℕ, List, length, Result, Ok, Err, ap,
 use Rattle.xdg_base.specs.declared.faults.Fault.{Fault}
 use Rattle.xdg_base.specs.declared.faults.Stop.{Stop}
 use Rattle.xdg_base.specs.declared.faults.Stop.TheVariants as stops
-use Rattle.xdg_lex.specs.Lexed as lexed
 use Rattle.xdg_lex.specs.Lexed.{Lexed}
 use Rattle.xdg_ast.specs.Lexemes.{Lexeme, lexemes_of}
 use Rattle.xdg_lex.specs.Offends as tokens
@@ -65,7 +64,7 @@ lifted ts end (Err stops.OutOfMemory) t = tt
 
 -- ---- bytes that spell no tokens
 
-pub refused-only : (bytes : List ℕ) (stop : Stop) → ((a : Lexed) → tokens.IsAnswer bytes a → lexed.Gives a (Err stop)) → (answer : Result Rules Fault) → IsAnswer bytes answer → Gives answer (Err stop)
+pub refused-only : (bytes : List ℕ) (stop : Stop) → ((a : Lexed) → tokens.IsAnswer bytes a → Gives a (Err stop)) → (answer : Result Rules Fault) → IsAnswer bytes answer → Gives answer (Err stop)
 refused-only bytes stops.OutOfMemory only answer is = tt
 refused-only bytes (stops.Fault g) only (Ok tree) (ts, spells, derives) = absurd (let e : ◌≡◌ {A = Lexed} (Ok ts) (Err g) = only (Ok ts) spells in cc)
 refused-only bytes (stops.Fault g) only (Err f) (no_tokens refused) = let e : ◌≡◌ {A = Lexed} (Err f) (Err g) = only (Err f) refused in cc
@@ -97,5 +96,5 @@ module _ (bytes : List ℕ) (read : List Token) (shown : List Lexeme) (end : ℕ
   pub tree-tells : tokens.Tells bytes (Ok read) → Tells bytes result
   tree-tells spells = parsed-tells bytes (lexemes_of read) result spells moved
 
-  pub tree-only : ((a : Lexed) → tokens.IsAnswer bytes a → lexed.Gives a (Ok read)) → (answer : Result Rules Fault) → IsAnswer bytes answer → Gives answer result
+  pub tree-only : ((a : Lexed) → tokens.IsAnswer bytes a → Gives a (Ok (lexemes_of read))) → (answer : Result Rules Fault) → IsAnswer bytes answer → Gives answer result
   tree-only only = parsed-only bytes (lexemes_of read) result only moved

@@ -1,5 +1,6 @@
 -- What is told as the first of a list of faults.
-use Rattle.std.proofs.Common.{◌≡◌, ℕ, List, [], Option, Some, None, refl, sym, ap, subst}
+use Rattle.std.proofs.Common.{◌≡◌, ℕ, List, [], Option, Some, None, Ok, Err, refl, sym, ap, subst}
+use Rattle.std.specs.Prelude.{Result}
 use Rattle.xdg_base.specs.declared.faults.Fault.{Fault}
 use Rattle.xdg_domain.specs.Shapes.{Shape}
 use Rattle.xdg_names.specs.First.{Tells, first}
@@ -9,6 +10,10 @@ use Rattle.xdg_terms.specs.Faults.{faults}
 use Rattle.xdg_terms.specs.Forms.{Term, with_open}
 use Rattle.xdg_terms.specs.Offences.{OpenOffends}
 use Rattle.xdg_terms.proofs.Law.{law}
+use Rattle.xdg_types.specs.Table.{Table}
+use Rattle.xdg_formula.specs.Answers.{IsAnswer}
+use Rattle.xdg_formula.specs.Formulas.{rules_faults}
+use Rattle.xdg_formula.specs.declared.tree.Rule.{Rule}
 use Rattle.xdg_facts.specs.Membership.{In}
 
 -- one answer is told of a set of offences
@@ -26,5 +31,14 @@ value_told free s t found told none =
 pub first_told : (fs : List Fault) (found : Option Fault) → found ≡ first fs → Tells (In fs) found
 first_told fs found is = subst (Tells (In fs)) (sym is) (first-tells fs)
 
-pub only_told : (fs : List Fault) (found answer : Option Fault) → found ≡ first fs → Tells (In fs) answer → answer ≡ found
+only_told : (fs : List Fault) (found answer : Option Fault) → found ≡ first fs → Tells (In fs) answer → answer ≡ found
 only_told fs found answer is told = one_told (In fs) answer found told (first_told fs found is)
+
+-- a call that has found the first fault of rules, or none, gives the one answer
+pub right_only : (table : Table) (rules : List Rule) → None ≡ first (rules_faults table rules) → (answer : Result (Unit {0}) Fault) → IsAnswer table rules answer → answer ≡ Ok tt
+right_only table rules is (Ok done) told = refl
+right_only table rules is (Err f) told = let e : Some f ≡ None = only_told (rules_faults table rules) None (Some f) is told in absurd (cc)
+
+pub wrong_only : (table : Table) (rules : List Rule) (g : Fault) → Some g ≡ first (rules_faults table rules) → (answer : Result (Unit {0}) Fault) → IsAnswer table rules answer → answer ≡ Err g
+wrong_only table rules g is (Ok done) told = let e : None ≡ Some g = only_told (rules_faults table rules) (Some g) None is told in absurd (cc)
+wrong_only table rules g is (Err f) told = let e : Some f ≡ Some g = only_told (rules_faults table rules) (Some g) (Some f) is told in cc

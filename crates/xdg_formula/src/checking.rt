@@ -1,12 +1,13 @@
 //! The first fault of rules.
 
-ghost use Rattle.std.specs.Prelude.{◌≡◌, [], Option, slice_get, IfOk};
+ghost use Rattle.std.specs.Prelude.{◌≡◌, [], Result, slice_get, IfOk};
 ghost use Rattle.std.specs.List.{flat_map};
 ghost use Rattle.xdg_base.specs.declared.faults.Fault as faults;
 ghost use Rattle.xdg_names.specs.First.{first};
 ghost use Rattle.xdg_terms.specs.Faults.{all_twice, texts_of, twice};
 ghost use Rattle.xdg_names.specs.Texts.{has_text};
-ghost use Rattle.xdg_formula.specs.Answers.{Gives, IsAnswer, Tells};
+ghost use Rattle.xdg_base.specs.Told.{Gives};
+ghost use Rattle.xdg_formula.specs.Answers.{IsAnswer, Tells};
 ghost use Rattle.xdg_formula.specs.Formulas as spec;
 ghost use Rattle.xdg_formula.specs.Tables.{used_dims};
 
@@ -107,7 +108,7 @@ fn check_all(alloc: Global, types: &TypeTable, rules: &[Rule]) -> Result<Option<
 /// Or want of memory.
 pub fn check_rules(alloc: Global, rules: &Rules, types: &TypeTable) -> Result<(), Stop>
     ensures tells { Tells types.now rules.now.rules result }
-    ensures only { (answer : Option faults.Fault) → IsAnswer types.now rules.now.rules answer → Gives answer result }
+    ensures only { (answer : Result (Unit {0}) faults.Fault) → IsAnswer types.now rules.now.rules answer → Gives answer result }
 {
     let found = match check_all(alloc, types, rules.rules.as_slice()) {
         Err(_) => return Err(Stop::OutOfMemory),

@@ -4,7 +4,9 @@ use Rattle.std.specs.Prelude.{Option, Result}
 use Rattle.xdg_base.specs.declared.faults.Fault.{Fault}
 use Rattle.xdg_base.specs.declared.faults.Stop.{Stop}
 use Rattle.xdg_base.specs.declared.faults.Stop.TheVariants as stops
-use Rattle.xdg_inputs.specs.Answers.{IsAnswer, Gives, Tells, meaning_of}
+use Rattle.xdg_base.specs.Told.{Gives, answer_of}
+use Rattle.xdg_base.proofs.Told.{same_value, same_error, no_error, no_value}
+use Rattle.xdg_inputs.specs.Answers.{IsAnswer, Tells, meaning_of}
 use Rattle.xdg_inputs.specs.Meanings.{Meaning, Means}
 use Rattle.xdg_inputs.specs.declared.expanding.Expanded.{Expanded}
 use Rattle.xdg_inputs.specs.Grammars.{IsBadGrammar}
@@ -21,15 +23,15 @@ use Rattle.xdg_inputs.proofs.Leaving.{accepted_leaves, stopped_leaves}
 
 -- what `expand_tree` says of its answer
 abbrev pub Only : ReadText → Result Expanded Stop → Type 0
-Only read result = (answer : Result Meaning Fault) → IsAnswer read.tree answer → Gives answer result
+Only read result = (answer : Result Meaning Fault) → IsAnswer read.tree answer → Gives answer (answer_of meaning_of result)
 
 pub meaning_accepted : (read : ReadText) (made : Expanded) → Tells read.tree (Ok made) → Only read (Ok made) → Accepts Meaning (IsBadGrammar read) (Means read.tree) (meaning_of made)
-meaning_accepted read made tells only = record { has = tells; one = λ b h. only (Ok b) h; never = λ text f o. only (Err f) o.1 }
+meaning_accepted read made tells only = record { has = tells; one = λ b h. same_value b (meaning_of made) (only (Ok b) h); never = λ text f o. no_value (meaning_of made) f (only (Err f) o.1) }
 
 pub meaning_stops : (read : ReadText) (stop : Stop) → Tells read.tree (Err stop) → Only read (Err stop) → Stops (Unit {0}) 0 0 Meaning (IsBadGrammar read) (Means read.tree) (refusal_of read.text stop)
 meaning_stops read (stops.Fault f) tells only = λ told. record {
   text = read.text;
-  rejects = record { is = (refl, tells); one = λ text g o. (o.0, only (Err g) o.1); never = λ b h. only (Ok b) h };
+  rejects = record { is = (refl, tells); one = λ text g o. (o.0, same_error g f (only (Err g) o.1)); never = λ b h. no_error b f (only (Ok b) h) };
   place_is = refl;
 }
 meaning_stops read stops.OutOfMemory tells only = tt

@@ -7,7 +7,8 @@ use Rattle.xdg_base.specs.declared.faults.Stop.TheVariants as stops
 use Rattle.xdg_ast.specs.declared.grammar.Grammar.{Grammar}
 use Rattle.xdg_types.specs.Answers as types
 use Rattle.xdg_types.specs.Answers.{HasTable}
-use Rattle.xdg_base.specs.Told as told
+use Rattle.xdg_base.specs.Told.{Gives}
+use Rattle.xdg_base.proofs.Told.{same_value, same_error, no_error, no_value}
 use Rattle.xdg_types.specs.Table.{Table}
 use Rattle.xdg_check.specs.Answers as check
 use Rattle.xdg_check.specs.Answers.{IsRight, IsCheckedOf}
@@ -20,7 +21,7 @@ use Rattle.xdg_lexicon.specs.Lexicon as entries
 use Rattle.xdg_lexicon.specs.Lexicon.{IsLexicon}
 use Rattle.xdg_lexicon.specs.Sources.{source_of}
 use Rattle.xdg_inputs.specs.Meanings.{Meaning, Checks, Means, of_types, of_check, of_lexicon}
-use Rattle.xdg_inputs.specs.Answers.{IsAnswer, Gives, Tells}
+use Rattle.xdg_inputs.specs.Answers.{IsAnswer, Tells, meaning_of}
 
 -- ---- what is told
 
@@ -47,24 +48,12 @@ made_tells tree table checked all has told is = record { checked = checked; chec
 
 -- ---- that it is one thing
 
-no_table : (table : Table) (g : Fault) → ◌≡◌ {A = Result Table Fault} (Ok table) (Err g) → ⊥
-no_table table g e = cc
-
-no_fault : (table : Table) (f : Fault) → ◌≡◌ {A = Result Table Fault} (Err f) (Ok table) → ⊥
-no_fault table f e = cc
-
-one_fault : (f g : Fault) → ◌≡◌ {A = Result Table Fault} (Err f) (Err g) → f ≡ g
-one_fault f g e = cc
-
-one_table : (s t : Table) → ◌≡◌ {A = Result Table Fault} (Ok s) (Ok t) → s ≡ t
-one_table s t e = cc
-
-pub types_only_tell : (tree : Grammar) (stop : Stop) → ((a : Result Table Fault) → types.IsAnswer tree.statements a → told.Gives a (Err stop)) → (answer : Result Meaning Fault) → IsAnswer tree answer → Gives answer (Err stop)
+pub types_only_tell : (tree : Grammar) (stop : Stop) → ((a : Result Table Fault) → types.IsAnswer tree.statements a → Gives a (Err stop)) → (answer : Result Meaning Fault) → IsAnswer tree answer → Gives answer (Err stop)
 types_only_tell tree stops.OutOfMemory only answer is = tt
-types_only_tell tree (stops.Fault g) only (Ok m) is = absurd (no_table is.checked.types g (only (Ok is.checked.types) is.checks.types))
-types_only_tell tree (stops.Fault g) only (Err f) (of_types refused) = one_fault f g (only (Err f) refused)
-types_only_tell tree (stops.Fault g) only (Err f) (of_check table has refused) = absurd (no_table table g (only (Ok table) has))
-types_only_tell tree (stops.Fault g) only (Err f) (of_lexicon checked are refused) = absurd (no_table checked.types g (only (Ok checked.types) are.types))
+types_only_tell tree (stops.Fault g) only (Ok m) is = absurd (no_error is.checked.types g (only (Ok is.checked.types) is.checks.types))
+types_only_tell tree (stops.Fault g) only (Err f) (of_types refused) = ap Err (same_error f g (only (Err f) refused))
+types_only_tell tree (stops.Fault g) only (Err f) (of_check table has refused) = absurd (no_error table g (only (Ok table) has))
+types_only_tell tree (stops.Fault g) only (Err f) (of_lexicon checked are refused) = absurd (no_error checked.types g (only (Ok checked.types) are.types))
 
 -- there is one table
 OneTable : Grammar → Table → Type 0
@@ -74,26 +63,26 @@ OneTable tree table = (a : Result Table Fault) → types.IsAnswer tree.statement
 checked_so : (tree : Grammar) (table : Table) (checked : Parts) → OneTable tree table → Checks tree checked → IsRight tree.statements table × IsCheckedOf tree.statements table checked
 unfolding OneTable
 checked_so tree table checked one are =
-    let same : checked.types ≡ table = one_table checked.types table (one (Ok checked.types) are.types) in
+    let same : checked.types ≡ table = same_value checked.types table (one (Ok checked.types) are.types) in
     (subst (λ t. IsRight tree.statements t) same are.right, subst (λ t. IsCheckedOf tree.statements t checked) same are.checked_is)
 
 refused_so : (tree : Grammar) (table other : Table) (f : Fault) → OneTable tree table → HasTable tree.statements other → check.Refuses tree.statements other f → check.Refuses tree.statements table f
 unfolding OneTable
-refused_so tree table other f one has refused = subst (λ t. check.Refuses tree.statements t f) (one_table other table (one (Ok other) has)) refused
+refused_so tree table other f one has refused = subst (λ t. check.Refuses tree.statements t f) (same_value other table (one (Ok other) has)) refused
 
 untyped : (tree : Grammar) (table : Table) (f : Fault) → OneTable tree table → types.Refuses tree.statements f → ⊥
 unfolding OneTable
-untyped tree table f one refused = no_fault table f (one (Err f) refused)
+untyped tree table f one refused = no_value table f (one (Err f) refused)
 
 check_only_refuses : (tree : Grammar) (table : Table) (stop : Stop) → OneTable tree table → ((a : Result Parts Fault) → check.IsAnswer tree.statements table a → check_only.Gives a (Err stop))
     → (answer : Result Meaning Fault) → IsAnswer tree answer → Gives answer (Err stop)
 check_only_refuses tree table stops.OutOfMemory one only answer is = tt
 check_only_refuses tree table (stops.Fault g) one only (Ok m) is = absurd (only (Ok is.checked) (checked_so tree table is.checked one is.checks))
 check_only_refuses tree table (stops.Fault g) one only (Err f) (of_types refused) = absurd (untyped tree table f one refused)
-check_only_refuses tree table (stops.Fault g) one only (Err f) (of_check other has refused) = only (Err f) (refused_so tree table other f one has refused)
+check_only_refuses tree table (stops.Fault g) one only (Err f) (of_check other has refused) = ap Err (only (Err f) (refused_so tree table other f one has refused))
 check_only_refuses tree table (stops.Fault g) one only (Err f) (of_lexicon checked are refused) = absurd (only (Ok checked) (checked_so tree table checked one are))
 
-pub check_only_tell : (tree : Grammar) (table : Table) (stop : Stop) → ((a : Result Table Fault) → types.IsAnswer tree.statements a → told.Gives a (Ok table))
+pub check_only_tell : (tree : Grammar) (table : Table) (stop : Stop) → ((a : Result Table Fault) → types.IsAnswer tree.statements a → Gives a (Ok table))
     → ((a : Result Parts Fault) → check.IsAnswer tree.statements table a → check_only.Gives a (Err stop)) → (answer : Result Meaning Fault) → IsAnswer tree answer → Gives answer (Err stop)
 unfolding OneTable
 check_only_tell tree table stop one only = check_only_refuses tree table stop one only
@@ -122,14 +111,14 @@ not_refused : (tree : Grammar) (table : Table) (checked : Parts) → OneTable tr
 unfolding NotRefused
 not_refused tree table checked one only = (λ f refused. untyped tree table f one refused, λ other f has refused. only (Err f) (refused_so tree table other f one has refused))
 
-lexicon_refuses : (tree : Grammar) (checked : Parts) (stop : Stop) → OneMeaning tree checked → NotRefused tree → ((a : Result (List Entry) Fault) → lexicon.IsAnswer (source_of checked) a → lexicon.Gives a (Err stop))
+lexicon_refuses : (tree : Grammar) (checked : Parts) (stop : Stop) → OneMeaning tree checked → NotRefused tree → ((a : Result (List Entry) Fault) → lexicon.IsAnswer (source_of checked) a → Gives a (Err stop))
     → (answer : Result Meaning Fault) → IsAnswer tree answer → Gives answer (Err stop)
 unfolding OneMeaning NotRefused
 lexicon_refuses tree checked stops.OutOfMemory one none only answer is = tt
-lexicon_refuses tree checked (stops.Fault g) one none only (Ok m) is = absurd (only (Ok m.entries) (subst (λ s. IsLexicon s m.entries) (same_source is.checked checked (one is.checked is.checks)) is.lexicon))
+lexicon_refuses tree checked (stops.Fault g) one none only (Ok m) is = absurd (no_error m.entries g (only (Ok m.entries) (subst (λ s. IsLexicon s m.entries) (same_source is.checked checked (one is.checked is.checks)) is.lexicon)))
 lexicon_refuses tree checked (stops.Fault g) one none only (Err f) (of_types refused) = absurd (none.0 f refused)
 lexicon_refuses tree checked (stops.Fault g) one none only (Err f) (of_check table has refused) = absurd (none.1 table f has refused)
-lexicon_refuses tree checked (stops.Fault g) one none only (Err f) (of_lexicon other are refused) = only (Err f) (subst (λ s. entries.Refuses s f) (same_source other checked (one other are)) refused)
+lexicon_refuses tree checked (stops.Fault g) one none only (Err f) (of_lexicon other are refused) = ap Err (same_error f g (only (Err f) (subst (λ s. entries.Refuses s f) (same_source other checked (one other are)) refused)))
 
 same_meaning : (m : Meaning) (checked : Parts) (all : List Entry) → m.table ≡ checked.types → m.uses ≡ checked.principles → m.entries ≡ all → m ≡ record { table = checked.types; uses = checked.principles; entries = all }
 same_meaning m checked all t u e =
@@ -137,24 +126,25 @@ same_meaning m checked all t u e =
     ∙ ap (λ x. record { table = checked.types; uses = x; entries = m.entries }) u
     ∙ ap (λ x. record { table = checked.types; uses = checked.principles; entries = x }) e
 
-lexicon_gives : (tree : Grammar) (checked : Parts) (packed : Lexicon) → OneMeaning tree checked → NotRefused tree → ((a : Result (List Entry) Fault) → lexicon.IsAnswer (source_of checked) a → lexicon.Gives a (Ok packed.entries))
-    → (answer : Result Meaning Fault) → IsAnswer tree answer → Gives answer (Ok (record { checked = checked; lexicon = packed }))
+lexicon_gives : (tree : Grammar) (checked : Parts) (packed : Lexicon) → OneMeaning tree checked → NotRefused tree → ((a : Result (List Entry) Fault) → lexicon.IsAnswer (source_of checked) a → Gives a (Ok packed.entries))
+    → (answer : Result Meaning Fault) → IsAnswer tree answer → Gives answer (Ok (meaning_of (record { checked = checked; lexicon = packed })))
 unfolding OneMeaning NotRefused
 lexicon_gives tree checked packed one none only (Ok m) is =
     let same : SameMeaning is.checked checked = one is.checked is.checks in
-    same_meaning m checked packed.entries (is.table ∙ same.types) (is.uses ∙ same.principles) (only (Ok m.entries) (subst (λ s. IsLexicon s m.entries) (same_source is.checked checked same) is.lexicon))
+    let listed : m.entries ≡ packed.entries = same_value m.entries packed.entries (only (Ok m.entries) (subst (λ s. IsLexicon s m.entries) (same_source is.checked checked same) is.lexicon)) in
+    ap Ok (same_meaning m checked packed.entries (is.table ∙ same.types) (is.uses ∙ same.principles) listed)
 lexicon_gives tree checked packed one none only (Err f) (of_types refused) = absurd (none.0 f refused)
 lexicon_gives tree checked packed one none only (Err f) (of_check table has refused) = absurd (none.1 table f has refused)
-lexicon_gives tree checked packed one none only (Err f) (of_lexicon other are refused) = absurd (only (Err f) (subst (λ s. entries.Refuses s f) (same_source other checked (one other are)) refused))
+lexicon_gives tree checked packed one none only (Err f) (of_lexicon other are refused) = absurd (no_value packed.entries f (only (Err f) (subst (λ s. entries.Refuses s f) (same_source other checked (one other are)) refused)))
 
-pub expand_only_tell : (tree : Grammar) (table : Table) (checked : Parts) (stop : Stop) → ((a : Result Table Fault) → types.IsAnswer tree.statements a → told.Gives a (Ok table))
-    → ((a : Result Parts Fault) → check.IsAnswer tree.statements table a → check_only.Gives a (Ok checked)) → ((a : Result (List Entry) Fault) → lexicon.IsAnswer (source_of checked) a → lexicon.Gives a (Err stop))
+pub expand_only_tell : (tree : Grammar) (table : Table) (checked : Parts) (stop : Stop) → ((a : Result Table Fault) → types.IsAnswer tree.statements a → Gives a (Ok table))
+    → ((a : Result Parts Fault) → check.IsAnswer tree.statements table a → check_only.Gives a (Ok checked)) → ((a : Result (List Entry) Fault) → lexicon.IsAnswer (source_of checked) a → Gives a (Err stop))
     → (answer : Result Meaning Fault) → IsAnswer tree answer → Gives answer (Err stop)
 unfolding OneTable
 expand_only_tell tree table checked stop one two only = lexicon_refuses tree checked stop (one_meaning tree table checked one two) (not_refused tree table checked one two) only
 
-pub made_only : (tree : Grammar) (table : Table) (checked : Parts) (packed : Lexicon) → ((a : Result Table Fault) → types.IsAnswer tree.statements a → told.Gives a (Ok table))
-    → ((a : Result Parts Fault) → check.IsAnswer tree.statements table a → check_only.Gives a (Ok checked)) → ((a : Result (List Entry) Fault) → lexicon.IsAnswer (source_of checked) a → lexicon.Gives a (Ok packed.entries))
-    → (answer : Result Meaning Fault) → IsAnswer tree answer → Gives answer (Ok (record { checked = checked; lexicon = packed }))
+pub made_only : (tree : Grammar) (table : Table) (checked : Parts) (packed : Lexicon) → ((a : Result Table Fault) → types.IsAnswer tree.statements a → Gives a (Ok table))
+    → ((a : Result Parts Fault) → check.IsAnswer tree.statements table a → check_only.Gives a (Ok checked)) → ((a : Result (List Entry) Fault) → lexicon.IsAnswer (source_of checked) a → Gives a (Ok packed.entries))
+    → (answer : Result Meaning Fault) → IsAnswer tree answer → Gives answer (Ok (meaning_of (record { checked = checked; lexicon = packed })))
 unfolding OneTable
 made_only tree table checked packed one two only = lexicon_gives tree checked packed (one_meaning tree table checked one two) (not_refused tree table checked one two) only

@@ -5,7 +5,6 @@ use Rattle.xdg_base.specs.declared.faults.Fault.{Fault}
 use Rattle.xdg_base.specs.declared.faults.Stop.{Stop}
 use Rattle.xdg_base.specs.declared.faults.Stop.TheVariants as stops
 use Rattle.xdg_base.specs.Told.{Gives}
-use Rattle.xdg_lex.specs.Lexed as tokens
 use Rattle.xdg_lex.specs.Lexed.{Lexed}
 use Rattle.xdg_ast.specs.Lexemes.{Lexeme, lexemes_of}
 use Rattle.xdg_lex.specs.Offends as tokens_told
@@ -18,7 +17,7 @@ use Rattle.xdg_formula.proofs.Once.{same-tokens}
 
 -- ---- no tokens
 
-pub refused_only : (text : List ℕ) (stop : Stop) → ((a : Lexed) → tokens_told.IsAnswer text a → tokens.Gives a (Err stop)) → (answer : Result Grammar Fault) → IsReadAs text answer → ReadsAs answer (Err stop)
+pub refused_only : (text : List ℕ) (stop : Stop) → ((a : Lexed) → tokens_told.IsAnswer text a → Gives a (Err stop)) → (answer : Result Grammar Fault) → IsReadAs text answer → ReadsAs answer (Err stop)
 refused_only text stops.OutOfMemory only answer is = tt
 refused_only text (stops.Fault g) only (Ok tree) (ts, spells, derives) = absurd (let e : ◌≡◌ {A = Lexed} (Ok ts) (Err g) = only (Ok ts) spells in cc)
 refused_only text (stops.Fault g) only (Err f) (no_tokens refused) = let e : ◌≡◌ {A = Lexed} (Err f) (Err g) = only (Err f) refused in cc
@@ -50,7 +49,7 @@ parsed_only text ts result spelled only (Err f) (no_tokens refused) = absurd (le
 parsed_only text ts result spelled only (Err f) (no_grammar us spells refused) =
     given (Err f) result (only (Err f) (subst (λ z. trees.IsAnswer z (length text) (Err f)) (same-tokens ts us (spelled (Ok us) spells)) refused))
 
-pub tree_only : (text : List ℕ) (read : List Token) (end : ℕ) (result : Result Grammar Stop) → end ≡ length text → ((a : Lexed) → tokens_told.IsAnswer text a → tokens.Gives a (Ok read))
+pub tree_only : (text : List ℕ) (read : List Token) (end : ℕ) (result : Result Grammar Stop) → end ≡ length text → ((a : Lexed) → tokens_told.IsAnswer text a → Gives a (Ok (lexemes_of read)))
     → ((a : Result Grammar Fault) → trees.IsAnswer (lexemes_of read) end a → Gives a result) → (answer : Result Grammar Fault) → IsReadAs text answer → ReadsAs answer result
 tree_only text read end result same spelled only =
     parsed_only text (lexemes_of read) result spelled (subst (λ n. (a : Result Grammar Fault) → trees.IsAnswer (lexemes_of read) n a → Gives a result) same only)

@@ -1,8 +1,8 @@
 -- What an answer tells of the meaning of a tree.
-use Rattle.std.specs.Prelude.{◌≡◌, Result, Ok, Err}
+use Rattle.std.specs.Prelude.{Result, Ok, Err}
 use Rattle.xdg_base.specs.declared.faults.Fault.{Fault}
 use Rattle.xdg_base.specs.declared.faults.Stop.{Stop}
-use Rattle.xdg_base.specs.declared.faults.Stop.TheVariants as stops
+use Rattle.xdg_base.specs.Told.{TellsOf, answer_of}
 use Rattle.xdg_ast.specs.declared.grammar.Grammar.{Grammar}
 use Rattle.xdg_build.specs.Grammars.{Grammar as Whole, grammar_of}
 use Rattle.xdg_inputs.specs.declared.expanding.Expanded.{Expanded}
@@ -21,14 +21,6 @@ abbrev pub IsAnswer : Grammar → Result Meaning Fault → Type 0
 IsAnswer tree (Ok m) = Means tree m
 IsAnswer tree (Err f) = Offends tree f
 
--- what a call answers is this, where memory isn't wanting
-abbrev pub Gives : Result Meaning Fault → Result Expanded Stop → Type 0
-Gives answer (Err stops.OutOfMemory) = Unit {0}
-Gives (Ok m) (Ok made) = m ≡ meaning_of made
-Gives (Err f) (Err (stops.Fault g)) = f ≡ g
-Gives _ _ = ⊥
-
+-- a call answers so, unless memory ran out
 abbrev pub Tells : Grammar → Result Expanded Stop → Type 0
-Tells tree (Ok made) = Means tree (meaning_of made)
-Tells tree (Err (stops.Fault f)) = Offends tree f
-Tells tree (Err stops.OutOfMemory) = Unit {0}
+Tells tree result = TellsOf (IsAnswer tree) (answer_of meaning_of result)

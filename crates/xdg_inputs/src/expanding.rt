@@ -3,7 +3,8 @@
 ghost use Rattle.std.specs.Prelude.{◌≡◌, Result, IfOk, length};
 ghost use Rattle.xdg_base.specs.declared.faults.Fault as faults;
 ghost use Rattle.xdg_classes.specs.Definitions.{classes};
-ghost use Rattle.xdg_inputs.specs.Answers.{Gives, IsAnswer, Tells};
+ghost use Rattle.xdg_base.specs.Told.{Gives, answer_of};
+ghost use Rattle.xdg_inputs.specs.Answers.{IsAnswer, Tells, meaning_of};
 ghost use Rattle.xdg_inputs.specs.Meanings.{Meaning};
 ghost use Rattle.xdg_inputs.specs.RightLexicons.{HasRightLexicon};
 
@@ -33,7 +34,7 @@ pub struct Expanded {
 /// classes. Or want of memory.
 pub fn expand_tree(alloc: Global, tree: Grammar) -> Result<Expanded, Stop>
     ensures tells { Tells tree result }
-    ensures only { (answer : Result Meaning faults.Fault) → IsAnswer tree answer → Gives answer result }
+    ensures only { (answer : Result Meaning faults.Fault) → IsAnswer tree answer → Gives answer (answer_of meaning_of result) }
     ensures right { IfOk result HasRightLexicon }
     ensures classes { IfOk result (λ made. length made.checked.classes ≡ length (classes tree.statements)) }
 {

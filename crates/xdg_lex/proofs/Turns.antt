@@ -8,13 +8,14 @@ use Rattle.std.proofs.lemmas.Str.{IsUtf8-past_char, length-encode}
 use Rattle.xdg_base.specs.declared.faults.Fault.{Fault}
 use Rattle.xdg_base.specs.declared.faults.Stop.{Stop}
 use Rattle.xdg_base.specs.declared.faults.Stop.TheVariants as stops
+use Rattle.xdg_base.specs.Told.{Gives}
 use Rattle.xdg_ast.specs.declared.token.Kind.{Kind}
 use Rattle.xdg_ast.specs.declared.token.Token.{Token}
 use Rattle.xdg_lex.specs.declared.pieces.Mode.{Mode}
 use Rattle.xdg_lex.specs.declared.pieces.Turn.TheVariants as turns
 use Rattle.xdg_ast.specs.Kinds.{refined}
 use Rattle.xdg_lex.specs.Pieces.{goes_on, begins, ends}
-use Rattle.xdg_lex.specs.Lexed.{lexed_characters, run, before, begun, ended, piece_of, Gives, Adds}
+use Rattle.xdg_lex.specs.Lexed.{lexed_characters, run, before, begun, ended, piece_of, Adds}
 use Rattle.xdg_ast.specs.Lexemes.{Lexeme, lexeme, lexeme_of, lexemes_of}
 use Rattle.xdg_lex.proofs.Steps.{IsRead, before_twice, rest_is, from_there, ended_read, at_end}
 use Rattle.xdg_lex.proofs.Counts.{begins_within}

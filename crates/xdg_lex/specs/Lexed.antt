@@ -63,12 +63,6 @@ lexed_characters cs = run 0 [] in_.Between cs
 unfoldable pub lexed : List ℕ → Lexed
 lexed bytes = if is_utf8 bytes then lexed_characters (chars bytes) else Err (fault_at causes.BadUtf8 (utf8_valid_len bytes))
 
--- a call gives these tokens or this refusal, or memory ran out
-abbrev pub Gives : Lexed → Result (List Token) Stop → Type 0
-Gives outcome (Ok tokens) = outcome ≡ Ok (lexemes_of tokens)
-Gives outcome (Err (stops.Fault fault)) = outcome ≡ Err fault
-Gives outcome (Err stops.OutOfMemory) = Unit {0}
-
 -- a piece that ends is added to the tokens, if it is a token
 abbrev pub Adds : Result (Option Kind) Fault → ℕ → List ℕ → List Token → Result (Unit {0}) Stop → List Token → Type 0
 Adds outcome start text old (Ok done) new = (kind : Option Kind) × (outcome ≡ Ok kind) × (lexemes_of new ≡ lexemes_of old ++ piece_of kind start text)

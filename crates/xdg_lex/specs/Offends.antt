@@ -7,6 +7,7 @@ use Rattle.xdg_base.specs.declared.faults.Fault.{Fault}
 use Rattle.xdg_base.specs.declared.faults.Cause.TheVariants as causes
 use Rattle.xdg_base.specs.declared.faults.Stop.{Stop}
 use Rattle.xdg_base.specs.declared.faults.Stop.TheVariants as stops
+use Rattle.xdg_base.specs.Told.{TellsOf, answer_of}
 use Rattle.xdg_ast.specs.declared.token.Kind.{Kind}
 use Rattle.xdg_ast.specs.declared.token.Token.{Token}
 use Rattle.xdg_base.specs.Spelling.{begins_name, continues_name}
@@ -64,9 +65,7 @@ IsAnswer bytes (Err fault) = IsRefused bytes fault
 
 -- a call answers so, unless memory ran out
 abbrev pub Tells : List ℕ → Result (List Token) Stop → Type 0
-Tells bytes (Ok tokens) = Spells bytes (lexemes_of tokens)
-Tells bytes (Err (stops.Fault fault)) = IsRefused bytes fault
-Tells bytes (Err stops.OutOfMemory) = Unit {0}
+Tells bytes result = TellsOf (IsAnswer bytes) (answer_of lexemes_of result)
 
 -- a refusal stands in the text
 abbrev pub StandsWithin : List ℕ → Stop → Type 0

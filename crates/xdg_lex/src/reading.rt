@@ -1,7 +1,8 @@
 //! The tokens of a text.
 
 ghost use Rattle.std.specs.Prelude.{◌≡◌, ◌≤◌, ◌<◌, ◌+◌, ◌-◌, ◌^◌, length, chars, IfOk, IfErr};
-ghost use Rattle.xdg_lex.specs.Lexed.{Lexed, lexed_characters, Gives, Adds};
+ghost use Rattle.xdg_base.specs.Told.{Gives, answer_of};
+ghost use Rattle.xdg_lex.specs.Lexed.{Lexed, lexed_characters, Adds};
 ghost use Rattle.xdg_ast.specs.Lexemes.{lexemes_of};
 ghost use Rattle.xdg_lex.specs.Spans.{StandFrom};
 ghost use Rattle.xdg_lex.specs.Offends.{Tells, IsAnswer, StandsWithin};
@@ -37,7 +38,7 @@ fn add_piece<'a>(
 /// The tokens of a text.
 fn read<'a>(alloc: Global, text: &'a str) -> Result<List<Token<'a>>, Stop>
     requires { length text.now < 2 ^ 32 }
-    ensures { Gives (lexed_characters (chars text.now)) result }
+    ensures { Gives (lexed_characters (chars text.now)) (answer_of lexemes_of result) }
 {
     let mut tokens = List::new(alloc);
     let mut left = text;
@@ -93,7 +94,7 @@ pub fn tokens<'a>(alloc: Global, bytes: &'a [u8]) -> Result<List<Token<'a>>, Sto
     ensures tells { Tells bytes.now result }
     ensures stand { IfOk result (λ tokens. StandFrom bytes.now 0 (lexemes_of tokens)) }
     ensures within { IfErr result (StandsWithin bytes.now) }
-    ensures only { (answer : Lexed) → IsAnswer bytes.now answer → Gives answer result }
+    ensures only { (answer : Lexed) → IsAnswer bytes.now answer → Gives answer (answer_of lexemes_of result) }
 {
     read_bytes(alloc, bytes)
 }
