@@ -1,5 +1,5 @@
 -- Terms, elements and pairs of a constant and a term are read again.
-use Rattle.std.proofs.Common.{◌≡◌, ◌≤◌, ℕ, Bool, true, false, if◌then◌else◌, List, [], ◌∷◌, map, drop, refl, sym, ap, ◌∙◌, subst, inl, inr}
+use Rattle.std.proofs.Common.{◌≡◌, ℕ, Bool, true, false, if◌then◌else◌, List, [], ◌∷◌, map, drop, refl, sym, ap, ◌∙◌, subst, inl, inr}
 use Rattle.xdg_ast.specs.declared.token.Kind.TheVariants as k
 use Rattle.xdg_ast.specs.Lexemes.{Lexeme}
 use Rattle.xdg_ast.specs.Contents.{content_of, value_of}
@@ -9,17 +9,17 @@ use Rattle.xdg_ast.specs.declared.terms.TermKind.{TermKind}
 use Rattle.xdg_ast.specs.declared.terms.TermKind.TheVariants as t
 use Rattle.xdg_ast.specs.declared.terms.ElemKind.{ElemKind}
 use Rattle.xdg_ast.specs.declared.terms.ElemKind.TheVariants as e
-use Rattle.xdg_ast.specs.Language.{Language, is, token, nothing, both, made, behind}
-use Rattle.xdg_ast.specs.Grammar.{Params, CardTerm, is_among, is_constant, name_of, number_of, named, in_braces, inside, under, bracketed_names, card, gen, term_kind, term, elem_tail, elem_kind, elem, elems, keyed_term, terms, name}
+use Rattle.xdg_ast.specs.Language.{Language, is, token, nothing, made, behind}
+use Rattle.xdg_ast.specs.Grammar.{Params, CardTerm, is_among, is_constant, name_of, number_of, named, inside, under, card, term_kind, term, elem_tail, elem_kind, elem, elems, keyed_term, terms}
 use Rattle.xdg_base.specs.Spelling.{is_name}
-use Rattle.xdg_ast.specs.Words.{Word, word_of, mark, number, quoted, constant, IsShortText, IsSpellable}
-use Rattle.xdg_ast.specs.Trees.{name_word, names_words, card_words, gen_phrase, constant_in, term_words, elem_words, in_braces as braced_words, in_square_brackets as bracketed_words}
-use Rattle.xdg_ast.specs.Same.{nowhere, bare_part, bare_name, bare_names, bare_card, bare_gen, bare_elem, bare_term, bare_terms}
+use Rattle.xdg_ast.specs.Words.{Word, word_of, mark, quoted, constant, IsShortText, IsSpellable}
+use Rattle.xdg_ast.specs.Trees.{name_word, card_words, constant_in, term_words, elem_words}
+use Rattle.xdg_ast.specs.Same.{nowhere, bare_part, bare_name, bare_card, bare_elem, bare_term, bare_terms}
 use Rattle.xdg_print.proofs.AgainTrees.{term_words-Const, term_words-Param, term_words-Number, term_words-Card, term_words-Braces, term_words-Tuple, term_words-Gen, elem_words-Count, elem_words-Keyed, elem_words-Const, elem_words-Tuple, bare_term-Const, bare_term-Param, bare_term-Card, bare_term-Tuple, bare_term-Gen, bare_elem-Count, bare_elem-Keyed, bare_elem-Const, bare_elem-Tuple}
 use Rattle.xdg_print.proofs.AgainWritten.{Written, written_in, token_written, nothing_written, both_written, made_written, Gives, token_gives, nothing_gives, made_gives, both_gives, either_gives}
-use Rattle.xdg_print.proofs.AgainNames.{Like, Kept, constant_kind, constant_says, short_text, name_text, name_words, constant_spellable, name_gives, name_written, same_text, small_value, number_written, many_keeps, keyed_keeps}
-use Rattle.xdg_print.proofs.AgainKept.{kept_by, behind_keeps, made_keeps, spanned_keeps}
-use Rattle.xdg_print.proofs.AgainLevels.{elems_words, pairs_words, Below, nested_keeps}
+use Rattle.xdg_print.proofs.AgainNames.{Like, Kept, Keeps, constant_kind, constant_says, short_text, name_text, constant_spellable, name_gives, name_written, same_text, small_value, number_written, many_keeps, keyed_keeps}
+use Rattle.xdg_print.proofs.AgainKept.{kept_by, behind_keeps, either_keeps, made_keeps, spanned_keeps}
+use Rattle.xdg_print.proofs.AgainLevels.{elems_words, pairs_words, Depth, braces_keep}
 use Rattle.xdg_print.proofs.AgainTerms.{bracketed_keeps, card_keeps, gen_keeps}
 use Rattle.xdg_facts.proofs.Truths.{and_false}
 use Rattle.xdg_facts.proofs.Truths.{choose}
@@ -63,71 +63,67 @@ module _ (params : Params) where
   const_words : (a : Name) (v : Bool) → is_among params a.text ≡ v → term_words params (t.Const a) ≡ (if v then quoted a.text else constant a.text) ∷ []
   const_words a v h = term_words-Const params a ∙ ap (λ w. (if w then quoted a.text else constant a.text) ∷ []) h
 
-  const_written : (a : Name) (v : Bool) → is_among params a.text ≡ v → IsShortText a.text → Written words_of_named ((if v then quoted a.text else constant a.text) ∷ []) (λ y. Like bare_term (term_words params) y (t.Const a))
-  const_written a true h s = made_written (named params) (token is_constant) (quoted a.text ∷ []) (λ u. word_of u ≡ quoted a.text) (λ y. Like bare_term (term_words params) y (t.Const a)) (token_written is_constant (quoted a.text) (s, refl) refl)
-      (λ u i. let says = quoted_says a.text u i in subst (λ y. Like bare_term (term_words params) y (t.Const a)) (sym (as_quoted params u says.0)) (const_like (name_of u) a says.1))
-  const_written a false h s = made_written (named params) (token is_constant) (constant a.text ∷ []) (λ u. word_of u ≡ constant a.text) (λ y. Like bare_term (term_words params) y (t.Const a))
-      (token_written is_constant (constant a.text) (constant_spellable a.text s) (constant_kind (is_name a.text)))
-      (λ u i. let says = constant_says a.text u i in subst (λ y. Like bare_term (term_words params) y (t.Const a)) (sym (as_constant params u (ap (is_among params) says.1 ∙ h))) (const_like (name_of u) a says.1))
+  abbrev LikeTerm : TermKind → TermKind → Type 0
+  LikeTerm = Like bare_term (term_words params)
 
-  param_written : (a : Name) → is_among params a.text ≡ true → is_name a.text ≡ true → IsShortText a.text → Written words_of_named (constant a.text ∷ []) (λ y. Like bare_term (term_words params) y (t.Param a))
-  param_written a h n s = made_written (named params) (token is_constant) (constant a.text ∷ []) (λ u. word_of u ≡ constant a.text) (λ y. Like bare_term (term_words params) y (t.Param a))
-      (token_written is_constant (constant a.text) (constant_spellable a.text s) (constant_kind (is_name a.text)))
+  const_written : (a : Name) (v : Bool) → is_among params a.text ≡ v → IsShortText a.text → Written words_of_named ((if v then quoted a.text else constant a.text) ∷ []) (λ y. LikeTerm y (t.Const a))
+  const_written a true h s = made_written (token_written is_constant (quoted a.text) (s, refl) refl)
+      (λ u i. let says = quoted_says a.text u i in subst (λ y. LikeTerm y (t.Const a)) (sym (as_quoted params u says.0)) (const_like (name_of u) a says.1))
+  const_written a false h s = made_written (token_written is_constant (constant a.text) (constant_spellable a.text s) (constant_kind (is_name a.text)))
+      (λ u i. let says = constant_says a.text u i in subst (λ y. LikeTerm y (t.Const a)) (sym (as_constant params u (ap (is_among params) says.1 ∙ h))) (const_like (name_of u) a says.1))
+
+  param_written : (a : Name) → is_among params a.text ≡ true → is_name a.text ≡ true → IsShortText a.text → Written words_of_named (constant a.text ∷ []) (λ y. LikeTerm y (t.Param a))
+  param_written a h n s = made_written (token_written is_constant (constant a.text) (constant_spellable a.text s) (constant_kind (is_name a.text)))
       (λ u i.
       let says = constant_says a.text u i in
       let e : is k.Name u.kind ≡ true = ap (λ (v : Word). is k.Name v.kind) i ∙ ap (λ b. is k.Name (if b then k.Name else k.Quoted)) n in
-      subst (λ y. Like bare_term (term_words params) y (t.Param a)) (sym (as_param params u e (ap (is_among params) says.1 ∙ h))) (param_like (name_of u) a says.1))
+      subst (λ y. LikeTerm y (t.Param a)) (sym (as_param params u e (ap (is_among params) says.1 ∙ h))) (param_like (name_of u) a says.1))
 
   module _ (l : Language TermKind) (incl : (ts : List Lexeme) (y : TermKind) → words_of_named.means ts y → l.means ts y) where
-    const_kept : (u : Lexeme) (v : Bool) → is_among params (content_of u.kind u.text) ≡ v → IsShortText (content_of u.kind u.text) → named params u ≡ t.Const (name_of u) → Kept l bare_term (term_words params) (named params u)
-    const_kept u v h s e = subst (Kept l bare_term (term_words params)) (sym e)
-        (kept_by words_of_named l bare_term (term_words params) (t.Const (name_of u)) _ (λ y. Like bare_term (term_words params) y (t.Const (name_of u))) incl (const_words (name_of u) v h) (λ y i. i) (const_written (name_of u) v h s))
+    abbrev NamedKept : TermKind → Type 0
+    NamedKept = Kept l bare_term (term_words params)
 
-    named_kept : (u : Lexeme) (v w : Bool) → is_among params (content_of u.kind u.text) ≡ v → is k.Name u.kind ≡ w → is_constant u.kind ≡ true → IsSpellable (word_of u) → Kept l bare_term (term_words params) (named params u)
+    const_kept : (u : Lexeme) (v : Bool) → is_among params (content_of u.kind u.text) ≡ v → IsShortText (content_of u.kind u.text) → named params u ≡ t.Const (name_of u) → NamedKept (named params u)
+    const_kept u v h s e = subst NamedKept (sym e) (kept_by (const_written (name_of u) v h s) (const_words (name_of u) v h) incl)
+
+    named_kept : (u : Lexeme) (v w : Bool) → is_among params (content_of u.kind u.text) ≡ v → is k.Name u.kind ≡ w → is_constant u.kind ≡ true → IsSpellable (word_of u) → NamedKept (named params u)
     named_kept u false w h i c s = const_kept u false h (short_text u c s) (as_constant params u h)
     named_kept u true false h i c s = const_kept u true h (short_text u c s) (as_quoted params u i)
-    named_kept u true true h i c s = subst (Kept l bare_term (term_words params)) (sym (as_param params u i h))
-        (kept_by words_of_named l bare_term (term_words params) (t.Param (name_of u)) _ (λ y. Like bare_term (term_words params) y (t.Param (name_of u))) incl (term_words-Param params (name_of u)) (λ y i. i)
-        (param_written (name_of u) h (name_text u i s) (short_text u c s)))
+    named_kept u true true h i c s =
+        subst NamedKept (sym (as_param params u i h)) (kept_by (param_written (name_of u) h (name_text u i s) (short_text u c s)) (term_words-Param params (name_of u)) incl)
 
-    named_keeps : Gives words_of_named (Kept l bare_term (term_words params))
-    named_keeps = made_gives (named params) (token is_constant) (λ u. (is_constant u.kind ≡ true) × IsSpellable (word_of u)) (Kept l bare_term (term_words params)) (token_gives is_constant _ (λ u c s. (c, s)))
-        (λ u g. named_kept u (is_among params (content_of u.kind u.text)) (is k.Name u.kind) refl refl g.0 g.1)
+    named_keeps : Keeps words_of_named l bare_term (term_words params)
+    named_keeps = record {
+      all = made_gives {G = λ u. (is_constant u.kind ≡ true) × IsSpellable (word_of u)} (token_gives (λ u c s. (c, s)))
+          (λ u g. named_kept u (is_among params (content_of u.kind u.text)) (is k.Name u.kind) refl refl g.0 g.1);
+    }
 
 -- ---- terms
 
-module _ (params : Params) (m n : ℕ) (le : m ≤ n) (below : Below params m) where
-  abbrev Term : TermKind → Type 0
-  Term = Kept (term_kind params (under params n)) bare_term (term_words params)
+module _ {params : Params} {m n : ℕ} (depth : Depth params m n) where
+  number_keeps : (l : Language TermKind) → ((ts : List Lexeme) (y : TermKind) → (made (λ u. t.Number (number_of u)) (token (is k.Number))).means ts y → l.means ts y)
+      → Keeps (made (λ u. t.Number (number_of u)) (token (is k.Number))) l bare_term (term_words params)
+  number_keeps l incl = record {
+    all = made_gives (token_gives small_value) (λ u s. kept_by (made_written (number_written (value_of u.text) s)
+        (λ v h. record { bare = ap (λ x. bare_term (t.Number x)) h; words = ap (λ x. term_words params (t.Number x)) h })) (term_words-Number params (value_of u.text)) incl);
+  }
 
-  number_keeps : Gives (made (λ u. t.Number (number_of u)) (token (is k.Number))) Term
-  unfolding term_kind
-  number_keeps = made_gives (λ u. t.Number (number_of u)) (token (is k.Number)) (λ u. value_of u.text ≤ 4294967295) Term (token_gives (is k.Number) _ small_value)
-      (λ u s. kept_by (made (λ u. t.Number (number_of u)) (token (is k.Number))) (term_kind params (under params n)) bare_term (term_words params) (t.Number (value_of u.text)) (number (value_of u.text) ∷ []) (λ y. y ≡ t.Number (value_of u.text))
-      (λ ts y h. inl h) (term_words-Number params (value_of u.text)) (λ y i. record { bare = ap bare_term i; words = ap (term_words params) i })
-      (made_written (λ u. t.Number (number_of u)) (token (is k.Number)) (number (value_of u.text) ∷ []) (λ v. value_of v.text ≡ value_of u.text) (λ y. y ≡ t.Number (value_of u.text)) (number_written (value_of u.text) s) (λ v h. ap t.Number h)))
-
-  term_kind_keeps : Gives (term_kind params (under params m)) Term
+  term_kind_keeps : Keeps (term_kind params (under params m)) (term_kind params (under params n)) bare_term (term_words params)
   unfolding term_kind inside
-  term_kind_keeps = either_gives _ _ Term number_keeps
-      (either_gives _ _ Term (made_keeps t.Braces (in_braces (under params m) (λ j. j.elems)) (in_braces (under params n) (λ j. j.elems)) (term_kind params (under params n)) (map (bare_part bare_elem)) (λ xs. braced_words (elems_words params xs)) bare_term (term_words params) t.Braces
-      bare_term_braces (term_words-Braces params) (λ ts y h. inr (inl h))
-      (nested_keeps k.LeftBrace k.RightBrace (λ j. j.elems) params m n le below (map (bare_part bare_elem)) (elems_words params) (refl, refl) refl (refl, refl) refl (λ m' n' l levels. levels.elems_is n' l)))
-      (either_gives _ _ Term (made_keeps t.Tuple (bracketed_names (under params m)) (bracketed_names (under params n)) (term_kind params (under params n)) bare_names (λ xs. bracketed_words (names_words xs)) bare_term (term_words params) t.Tuple
-      bare_term-Tuple (term_words-Tuple params) (λ ts y h. inr (inr (inl h))) (bracketed_keeps params m n le below))
-      (either_gives _ _ Term (made_keeps t.Gen (behind (token (is k.Dollar)) (gen (under params m))) (behind (token (is k.Dollar)) (gen (under params n))) (term_kind params (under params n)) (bare_part bare_gen) (λ x. mark k.Dollar ∷ (gen_phrase x.kind).words) bare_term (term_words params) t.Gen
-      bare_term-Gen (term_words-Gen params) (λ ts y h. inr (inr (inr (inl h)))) (behind_keeps k.Dollar (gen (under params m)) (gen (under params n)) (bare_part bare_gen) (λ x. (gen_phrase x.kind).words) (refl, refl) refl (gen_keeps params m n le below)))
-      (either_gives _ _ Term (named_keeps params (term_kind params (under params n)) (λ ts y h. inr (inr (inr (inr (inl h))))))
-      (made_keeps t.Card (card (under params m)) (card (under params n)) (term_kind params (under params n)) (bare_part bare_card) (λ x. card_words x.kind) bare_term (term_words params) t.Card
-      bare_term-Card (term_words-Card params) (λ ts y h. inr (inr (inr (inr (inr h))))) (card_keeps params m n le below))))))
+  term_kind_keeps = either_keeps (number_keeps (term_kind params (under params n)) (λ ts y h. inl h))
+      (either_keeps (made_keeps t.Braces (braces_keep (λ j. j.elems) depth (λ m' n' l levels. levels.elems_is n' l)) bare_term_braces (term_words-Braces params) (λ ts y h. inr (inl h)))
+      (either_keeps (made_keeps t.Tuple (bracketed_keeps depth) bare_term-Tuple (term_words-Tuple params) (λ ts y h. inr (inr (inl h))))
+      (either_keeps (made_keeps t.Gen (behind_keeps k.Dollar (refl, refl) refl (gen_keeps depth)) bare_term-Gen (term_words-Gen params) (λ ts y h. inr (inr (inr (inl h)))))
+      (either_keeps (named_keeps params (term_kind params (under params n)) (λ ts y h. inr (inr (inr (inr (inl h))))))
+      (made_keeps t.Card (card_keeps depth) bare_term-Card (term_words-Card params) (λ ts y h. inr (inr (inr (inr (inr h))))))))))
 
-  pub term_keeps : Gives (term params (under params m)) (Kept (term params (under params n)) (bare_part bare_term) (λ x. term_words params x.kind))
+  pub term_keeps : Keeps (term params (under params m)) (term params (under params n)) (bare_part bare_term) (λ x. term_words params x.kind)
   unfolding term
-  term_keeps = spanned_keeps (term_kind params (under params m)) (term_kind params (under params n)) bare_term (term_words params) term_kind_keeps
+  term_keeps = spanned_keeps term_kind_keeps
 
-  pub terms_keep : Gives (terms params (under params m)) (Kept (terms params (under params n)) bare_terms (pairs_words params))
+  pub terms_keep : Keeps (terms params (under params m)) (terms params (under params n)) bare_terms (pairs_words params)
   unfolding terms keyed_term
-  terms_keep = many_keeps (keyed_term params (under params m)) (keyed_term params (under params n)) _ _ (keyed_keeps (term params (under params m)) (term params (under params n)) (bare_part bare_term) (λ x. term_words params x.kind) term_keeps)
+  terms_keep = many_keeps (keyed_keeps term_keeps)
 
   -- ---- elements
 
@@ -155,62 +151,36 @@ module _ (params : Params) (m n : ℕ) (le : m ≤ n) (below : Below params m) w
     words = elem_words-Const params a ∙ (ap (λ text. constant text ∷ []) h ∙ sym (elem_words-Const params b));
   }
 
-  abbrev Reading : (Name → ElemKind) → (Name → ElemKind) → Type 0
-  Reading make other = (a b : Name) → a.text ≡ b.text → Like bare_elem (elem_words params) (other a) (make b)
-
   keyed_tail : Gives (made {B = Name → ElemKind} (λ term name. e.Keyed name term) (behind (token (is k.Colon)) (term params (under params m)))) GoodTail
   unfolding elem_tail
-  keyed_tail = made_gives (λ term name. e.Keyed name term) (behind (token (is k.Colon)) (term params (under params m))) (Kept (behind (token (is k.Colon)) (term params (under params n))) (bare_part bare_term) (λ x. mark k.Colon ∷ term_words params x.kind)) GoodTail
-      (behind_keeps k.Colon (term params (under params m)) (term params (under params n)) (bare_part bare_term) (λ x. term_words params x.kind) (refl, refl) refl term_keeps)
-      (λ x h. record {
-        tail = mark k.Colon ∷ term_words params x.kind;
-        words_are = λ a. elem_words-Keyed params a x;
-        read_again = written_in (made {B = Name → ElemKind} (λ term name. e.Keyed name term) (behind (token (is k.Colon)) (term params (under params n)))) (elem_tail params (under params n)) _ (Reading (λ a. e.Keyed a x)) (λ ts y i. inl i)
-            (made_written (λ term name. e.Keyed name term) (behind (token (is k.Colon)) (term params (under params n))) _ (λ y. Like (bare_part bare_term) (λ z. mark k.Colon ∷ term_words params z.kind) y x) (Reading (λ a. e.Keyed a x)) h
-            (λ y i a b s. keyed_like a b y x s (record { bare = i.bare; words = ap (drop 1) i.words })));
-      })
+  keyed_tail = made_gives (behind_keeps k.Colon (refl, refl) refl term_keeps).all (λ x h. record {
+    tail = mark k.Colon ∷ term_words params x.kind;
+    words_are = λ a. elem_words-Keyed params a x;
+    read_again = written_in (made_written h (λ y i a b s. keyed_like a b y x s (record { bare = i.bare; words = ap (drop 1) i.words }))) (λ ts y i. inl i);
+  })
 
   count_tail : Gives (made {B = Name → ElemKind} (λ card name. e.Count name card) (card (under params m))) GoodTail
   unfolding elem_tail
-  count_tail = made_gives (λ card name. e.Count name card) (card (under params m)) (Kept (card (under params n)) (bare_part bare_card) (λ x. card_words x.kind)) GoodTail (card_keeps params m n le below)
-      (λ x h. record {
-        tail = card_words x.kind;
-        words_are = λ a. elem_words-Count params a x;
-        read_again = written_in (made {B = Name → ElemKind} (λ card name. e.Count name card) (card (under params n))) (elem_tail params (under params n)) _ (Reading (λ a. e.Count a x)) (λ ts y i. inr (inl i))
-            (made_written (λ card name. e.Count name card) (card (under params n)) _ (λ y. Like (bare_part bare_card) (λ z. card_words z.kind) y x) (Reading (λ a. e.Count a x)) h (λ y i a b s. count_like a b y x s i));
-      })
+  count_tail = made_gives (card_keeps depth).all (λ x h. record {
+    tail = card_words x.kind;
+    words_are = λ a. elem_words-Count params a x;
+    read_again = written_in (made_written h (λ y i a b s. count_like a b y x s i)) (λ ts y i. inr (inl i));
+  })
 
   no_tail : Gives (nothing e.Const) GoodTail
   unfolding elem_tail
-  no_tail = nothing_gives e.Const GoodTail (record {
-    tail = [];
-    words_are = λ a. elem_words-Const params a;
-    read_again = written_in (nothing e.Const) (elem_tail params (under params n)) [] (Reading e.Const) (λ ts y i. inr (inr i)) (nothing_written e.Const (Reading e.Const) (λ a b s. plain_like a b s));
-  })
+  no_tail = nothing_gives (record { tail = []; words_are = λ a. elem_words-Const params a; read_again = written_in (nothing_written (λ a b s. plain_like a b s)) (λ ts y i. inr (inr i)) })
 
   tail_gives : Gives (elem_tail params (under params m)) GoodTail
   unfolding elem_tail
-  tail_gives = either_gives _ _ GoodTail keyed_tail (either_gives _ _ GoodTail count_tail no_tail)
+  tail_gives = either_gives keyed_tail (either_gives count_tail no_tail)
 
-  abbrev ElemKept : ElemKind → Type 0
-  ElemKept = Kept (elem_kind params (under params n)) bare_elem (elem_words params)
-
-  led_elem : Gives (both {C = ElemKind} (λ name make. make name) name (elem_tail params (under params m))) ElemKept
+  elem_kind_keeps : Keeps (elem_kind params (under params m)) (elem_kind params (under params n)) bare_elem (elem_words params)
   unfolding elem_kind
-  led_elem = both_gives (λ name make. make name) name (elem_tail params (under params m)) (λ a. IsShortText a.text) GoodTail ElemKept name_gives tail_gives
-      (λ a make s good. kept_by (both {C = ElemKind} (λ name make. make name) name (elem_tail params (under params n))) (elem_kind params (under params n)) bare_elem (elem_words params) (make a) (name_word a ∷ good.tail) (λ y. Like bare_elem (elem_words params) y (make a))
-      (λ ts y h. inr h) (good.words_are a) (λ y i. i)
-      (both_written (λ name make. make name) name (elem_tail params (under params n)) (name_words a) good.tail (λ b. b.text ≡ a.text) (Reading make) (λ y. Like bare_elem (elem_words params) y (make a)) (name_written a s) good.read_again (λ b other h i. i b a h)))
+  elem_kind_keeps = either_keeps (made_keeps e.Tuple (bracketed_keeps depth) bare_elem-Tuple (elem_words-Tuple params) (λ ts y h. inl h)) (record {
+    all = both_gives name_gives tail_gives (λ a make s good. kept_by (both_written (name_written a s) good.read_again (λ b other h i. i b a h)) (good.words_are a) (λ ts y h. inr h));
+  })
 
-  elem_kind_keeps : Gives (elem_kind params (under params m)) ElemKept
-  unfolding elem_kind
-  elem_kind_keeps = either_gives _ _ ElemKept (made_keeps e.Tuple (bracketed_names (under params m)) (bracketed_names (under params n)) (elem_kind params (under params n)) bare_names (λ xs. bracketed_words (names_words xs)) bare_elem (elem_words params) e.Tuple
-      bare_elem-Tuple (elem_words-Tuple params) (λ ts y h. inl h) (bracketed_keeps params m n le below)) led_elem
-
-  elem_keeps : Gives (elem params (under params m)) (Kept (elem params (under params n)) (bare_part bare_elem) (λ x. elem_words params x.kind))
-  unfolding elem
-  elem_keeps = spanned_keeps (elem_kind params (under params m)) (elem_kind params (under params n)) bare_elem (elem_words params) elem_kind_keeps
-
-  pub elems_keep : Gives (elems params (under params m)) (Kept (elems params (under params n)) (map (bare_part bare_elem)) (elems_words params))
-  unfolding elems
-  elems_keep = many_keeps (elem params (under params m)) (elem params (under params n)) (bare_part bare_elem) (λ x. elem_words params x.kind) elem_keeps
+  pub elems_keep : Keeps (elems params (under params m)) (elems params (under params n)) (map (bare_part bare_elem)) (elems_words params)
+  unfolding elems elem
+  elems_keep = many_keeps (spanned_keeps elem_kind_keeps)

@@ -9,15 +9,13 @@ use Rattle.xdg_ast.specs.declared.names.Name.{Name}
 use Rattle.xdg_ast.specs.declared.names.Num.{Num}
 use Rattle.xdg_ast.specs.declared.names.Pair.{Pair}
 use Rattle.xdg_ast.specs.Language.{Language, is, token, many, both, behind}
-use Rattle.xdg_ast.specs.Grammar.{is_constant, name_of, num_of, name, names, num, nums}
+use Rattle.xdg_ast.specs.Grammar.{is_constant, name, names, num, nums}
 use Rattle.xdg_base.specs.Spelling.{is_name}
-use Rattle.xdg_ast.specs.Words.{Word, word_of, mark, number as number_word, constant, IsShortText, IsSpellable}
+use Rattle.xdg_ast.specs.Words.{Word, word_of, number as number_word, constant, IsShortText, IsSpellable}
 use Rattle.xdg_ast.specs.Trees.{name_word, names_words, nums_words, pair_words}
 use Rattle.xdg_ast.specs.Same.{bare_name, bare_names, bare_num, bare_pair}
-use Rattle.xdg_print.proofs.AgainWritten.{Written, weaker, at_words, token_written, made_written, both_written, behind_written, Each, InTurn, many_written, Gives, stronger, token_gives, made_gives, both_gives, behind_gives, many_gives}
+use Rattle.xdg_print.proofs.AgainWritten.{Written, weaker, at_words, token_written, made_written, both_written, behind_written, InTurn, many_written, Gives, stronger, token_gives, made_gives, both_gives, behind_gives, many_gives}
 use Rattle.xdg_facts.proofs.Truths.{choose}
-
--- ---- kinds by their numbers
 
 -- ---- two values that differ at most in places
 
@@ -47,15 +45,17 @@ likes_words b w (y ∷ ys) (x ∷ xs) h = let e = h.0.words in let i = likes_wor
 abbrev pub Kept : {A B : Type 0} → Language A → (A → B) → (A → List Word) → A → Type 0
 Kept l b w x = Written l (w x) (λ y. Like b w y x)
 
-pub kept_as : {A B : Type 0} (l : Language A) (b : A → B) (w v : A → List Word) → ((x : A) → w x ≡ v x) → (x : A) → Kept l b w x → Kept l b v x
-kept_as l b w v e x a = weaker l (v x) (λ y. Like b w y x) (λ y. Like b v y x) (λ y i. record { bare = i.bare; words = sym (e y) ∙ (i.words ∙ e x) }) (at_words l (w x) (v x) (λ y. Like b w y x) (e x) a)
+-- what the one language reads of spellable tokens is written so that the other keeps it
+pub record Keeps {A B : Type 0} (l m : Language A) (b : A → B) (w : A → List Word) : Type 0 where
+  pub all : Gives l (Kept m b w)
 
-pub many_kept : {A B : Type 0} (l : Language A) (b : A → B) (w : A → List Word) (xs : List A) → Each (Kept l b w) xs → Kept (many l) (map b) (flat_map w) xs
-many_kept l b w xs e = weaker (many l) (flat_map w xs) (λ ys. InTurn (Like b w) ys xs) (λ ys. Like (map b) (flat_map w) ys xs)
-    (λ ys i. record { bare = likes_bare b w ys xs i; words = likes_words b w ys xs i }) (many_written l (Like b w) w xs e)
+pub keeps_as : {A B : Type 0} {l m : Language A} {b : A → B} {w v : A → List Word} → ((x : A) → w x ≡ v x) → Keeps l m b w → Keeps l m b v
+keeps_as e a = record { all = stronger a.all (λ x h. weaker (at_words (e x) h) (λ y i. record { bare = i.bare; words = sym (e y) ∙ (i.words ∙ e x) })) }
 
-pub many_keeps : {A B : Type 0} (l m : Language A) (b : A → B) (w : A → List Word) → Gives l (Kept m b w) → Gives (many l) (Kept (many m) (map b) (flat_map w))
-many_keeps l m b w a = stronger (many l) (Each (Kept m b w)) (Kept (many m) (map b) (flat_map w)) (λ xs e. many_kept m b w xs e) (many_gives l (Kept m b w) a)
+pub many_keeps : {A B : Type 0} {l m : Language A} {b : A → B} {w : A → List Word} → Keeps l m b w → Keeps (many l) (many m) (map b) (flat_map w)
+many_keeps {A} {B} {l} {m} {b} {w} a = record {
+  all = stronger (many_gives a.all) (λ xs e. weaker (many_written m (Like b w) w xs e) (λ ys i. record { bare = likes_bare b w ys xs i; words = likes_words b w ys xs i }));
+}
 
 -- ---- constants
 
@@ -95,12 +95,11 @@ constant_spellable text s = constant_at text (is_name text) refl s
 
 pub name_gives : Gives name (λ n. IsShortText n.text)
 unfolding name
-name_gives = made_gives name_of (token is_constant) (λ t. IsShortText (content_of t.kind t.text)) (λ n. IsShortText n.text) (token_gives is_constant _ short_text) (λ t s. s)
+name_gives = made_gives (token_gives short_text) (λ t s. s)
 
 pub name_written : (n : Name) → IsShortText n.text → Written name (name_word n ∷ []) (λ m. m.text ≡ n.text)
 unfolding name
-name_written n s = made_written name_of (token is_constant) (name_word n ∷ []) (λ u. word_of u ≡ constant n.text) (λ m. m.text ≡ n.text)
-    (token_written is_constant (constant n.text) (constant_spellable n.text s) (constant_kind (is_name n.text))) (λ u h. (constant_says n.text u h).1)
+name_written n s = made_written (token_written is_constant (constant n.text) (constant_spellable n.text s) (constant_kind (is_name n.text))) (λ u h. (constant_says n.text u h).1)
 
 abbrev pub name_words : Name → List Word
 name_words n = name_word n ∷ []
@@ -108,13 +107,12 @@ name_words n = name_word n ∷ []
 pub same_text : (m n : Name) → m.text ≡ n.text → Like bare_name name_words m n
 same_text m n h = record { bare = ap (λ text. record { text = text; span = record { start = 0; end = 0 } }) h; words = ap (λ text. constant text ∷ []) h }
 
-pub name_keeps : Gives name (Kept name bare_name name_words)
-name_keeps = stronger name (λ n. IsShortText n.text) (Kept name bare_name name_words)
-    (λ n s. weaker name (name_words n) (λ m. m.text ≡ n.text) (λ m. Like bare_name name_words m n) (λ m h. same_text m n h) (name_written n s)) name_gives
+pub name_keeps : Keeps name name bare_name name_words
+name_keeps = record { all = stronger name_gives (λ n s. weaker (name_written n s) (λ m h. same_text m n h)) }
 
-pub names_keeps : Gives names (Kept names bare_names names_words)
+pub names_keeps : Keeps names names bare_names names_words
 unfolding names
-names_keeps = stronger names (Kept names bare_names (flat_map name_words)) (Kept names bare_names names_words) (kept_as names bare_names (flat_map name_words) names_words (flat_map_single name_word)) (many_keeps name name bare_name name_words name_keeps)
+names_keeps = keeps_as (flat_map_single name_word) (many_keeps name_keeps)
 
 -- ---- numbers
 
@@ -133,31 +131,31 @@ number_says n u h =
     sym (choose (is k.Number u.kind) (value_of u.text) 0 e) ∙ ap (λ (v : Word). v.value) h
 
 pub number_written : (n : ℕ) → n ≤ 4294967295 → Written (token (is k.Number)) (number_word n ∷ []) (λ u. value_of u.text ≡ n)
-number_written n s = weaker (token (is k.Number)) (number_word n ∷ []) (λ u. word_of u ≡ number_word n) (λ u. value_of u.text ≡ n) (λ u h. number_says n u h) (token_written (is k.Number) (number_word n) (refl, s) refl)
+number_written n s = weaker (token_written (is k.Number) (number_word n) (refl, s) refl) (λ u h. number_says n u h)
 
 abbrev pub num_words : Num → List Word
 num_words n = number_word n.value ∷ []
 
-pub num_keeps : Gives num (Kept num bare_num num_words)
+pub num_keeps : Keeps num num bare_num num_words
 unfolding num
-num_keeps = made_gives num_of (token (is k.Number)) (λ t. value_of t.text ≤ 4294967295) (Kept num bare_num num_words) (token_gives (is k.Number) _ small_value)
-    (λ t s. made_written num_of (token (is k.Number)) (number_word (value_of t.text) ∷ []) (λ u. value_of u.text ≡ value_of t.text) (λ m. Like bare_num num_words m (num_of t)) (number_written (value_of t.text) s)
-    (λ u h. record { bare = ap (λ n. record { value = n; span = record { start = 0; end = 0 } }) h; words = ap (λ n. number_word n ∷ []) h }))
+num_keeps = record {
+  all = made_gives (token_gives small_value) (λ t s. made_written (number_written (value_of t.text) s)
+      (λ u h. record { bare = ap (λ n. record { value = n; span = record { start = 0; end = 0 } }) h; words = ap (λ n. number_word n ∷ []) h }));
+}
 
-pub nums_keeps : Gives nums (Kept nums (map bare_num) nums_words)
+pub nums_keeps : Keeps nums nums (map bare_num) nums_words
 unfolding nums
-nums_keeps = stronger nums (Kept nums (map bare_num) (flat_map num_words)) (Kept nums (map bare_num) nums_words) (kept_as nums (map bare_num) (flat_map num_words) nums_words (flat_map_single (λ (n : Num). number_word n.value))) (many_keeps num num bare_num num_words num_keeps)
+nums_keeps = keeps_as (flat_map_single (λ (n : Num). number_word n.value)) (many_keeps num_keeps)
 
 -- ---- pairs of a constant and a value
 
 abbrev pub keyed : {A : Type 0} → Language A → Language (Pair A)
 keyed l = both (λ key value. record { key = key; value = value }) name (behind (token (is k.Colon)) l)
 
-pub keyed_keeps : {A : Type 0} (l m : Language A) (b : A → A) (w : A → List Word) → Gives l (Kept m b w) → Gives (keyed l) (Kept (keyed m) (bare_pair b) (pair_words w))
-keyed_keeps l m b w a = both_gives (λ key value. record { key = key; value = value }) name (behind (token (is k.Colon)) l) (Kept name bare_name name_words) (Kept m b w) (Kept (keyed m) (bare_pair b) (pair_words w))
-    name_keeps (behind_gives (token (is k.Colon)) l (Kept m b w) a)
-    (λ n x g h. both_written (λ key value. record { key = key; value = value }) name (behind (token (is k.Colon)) m) (name_words n) (mark k.Colon ∷ w x) (λ n'. Like bare_name name_words n' n) (λ x'. Like b w x' x)
-    (λ pair. Like (bare_pair b) (pair_words w) pair (record { key = n; value = x })) g (behind_written k.Colon m (w x) (λ x'. Like b w x' x) (refl, refl) refl h)
-    (λ n' x' i j. let e = i.bare in let d = i.words in let c = j.bare in let f = j.words in
-    let s : name_word n' ≡ name_word n = cc in
-    record { bare = (cc); words = (cc) }))
+pub keyed_keeps : {A : Type 0} {l m : Language A} {b : A → A} {w : A → List Word} → Keeps l m b w → Keeps (keyed l) (keyed m) (bare_pair b) (pair_words w)
+keyed_keeps a = record {
+  all = both_gives name_keeps.all (behind_gives (token (is k.Colon)) a.all) (λ n x g h. both_written g (behind_written k.Colon (refl, refl) refl h)
+      (λ n' x' i j. let e = i.bare in let d = i.words in let c = j.bare in let f = j.words in
+      let s : name_word n' ≡ name_word n = cc in
+      record { bare = (cc); words = (cc) }));
+}

@@ -11,7 +11,7 @@ use Rattle.xdg_ast.specs.Grammar.{at_span}
 use Rattle.xdg_ast.specs.Words.{Word, mark}
 use Rattle.xdg_ast.specs.Trees.{in_parentheses, Form, single, conjunction, disjunction, Phrase, in_conjunction, in_disjunction, each_behind, separated, conjoined, disjoined, plainly}
 use Rattle.xdg_print.proofs.AgainWritten.{Written, at_words, both_written, behind_written, spanned_written, made_written, written_in, Each, InTurn, many_written, no_tokens, Gives, both_gives, behind_gives, many_gives, spanned_gives, made_gives}
-use Rattle.xdg_print.proofs.AgainNames.{Like, Kept, likes_bare, likes_map}
+use Rattle.xdg_print.proofs.AgainNames.{Like, Kept, Keeps, likes_bare, likes_map}
 
 -- how members are joined
 pub record Joining (A B : Type 0) : Type 0 where
@@ -69,36 +69,34 @@ each_next l m sign f R next [] e = tt
 each_next l m sign f R next (x ∷ xs) e = (next (f x) (λ y. R y x) e.0, each_next l m sign f R next xs e.1)
 
 -- members with a sign between two of them
-chain_written : {A : Type 0} (l m : Language A) (sign : Kind) (f : A → List Word) (R : A → A → Type 0) → ((ws : List Word) (P : A → Type 0) → Written l ws P → Written m (mark sign ∷ ws) P)
+chain_written : {A : Type 0} {l m : Language A} (sign : Kind) (f : A → List Word) (R : A → A → Type 0) → ((ws : List Word) (P : A → Type 0) → Written l ws P → Written m (mark sign ∷ ws) P)
     → (x : A) (xs : List A) → Each (λ y. Written l (f y) (λ z. R z y)) (x ∷ xs) → Written (chain l m) (separated sign (map f (x ∷ xs))) (λ ys. InTurn R ys (x ∷ xs))
-chain_written l m sign f R next x xs e = at_words (chain l m) (f x ++ flat_map (λ y. mark sign ∷ f y) xs) (separated sign (map f (x ∷ xs))) (λ ys. InTurn R ys (x ∷ xs)) (ap (λ ws. f x ++ ws) (flat_behind sign f xs))
-    (both_written (λ y ys. y ∷ ys) l (many m) (f x) (flat_map (λ y. mark sign ∷ f y) xs) (λ y. R y x) (λ ys. InTurn R ys xs) (λ ys. InTurn R ys (x ∷ xs)) e.0
-    (many_written m R (λ y. mark sign ∷ f y) xs (each_next l m sign f R next xs e.1)) (λ y ys h i. (h, i)))
+chain_written {A} {l} {m} sign f R next x xs e = at_words (ap (λ ws. f x ++ ws) (flat_behind sign f xs))
+    (both_written e.0 (many_written m R (λ y. mark sign ∷ f y) xs (each_next l m sign f R next xs e.1)) (λ y ys h i. (h, i)))
 
 -- a chain of one member
-one_written : {A : Type 0} (l m : Language A) (f : Span → List A → A) → ((s : Span) (x : A) → f s (x ∷ []) ≡ x) → (ws : List Word) (P : A → Type 0) → Written l ws P → Written (spanned f (chain l m)) ws P
-one_written {A} l m f one ws P a = spanned_written f (chain l m) ws (λ xs. (x : A) × (xs ≡ x ∷ []) × P x) P
-    (at_words (chain l m) (ws ++ []) ws (λ xs. (x : A) × (xs ≡ x ∷ []) × P x) (append-nil ws)
-    (both_written (λ y ys. y ∷ ys) l (many m) ws [] P (λ ys. ys ≡ []) (λ xs. (x : A) × (xs ≡ x ∷ []) × P x) a
-    (record { spellable = tt; again = λ us i. ([], no_tokens us i, refl) }) (λ y ys h i. (y, ap (λ zs. y ∷ zs) i, h))))
-    (λ s xs h. subst P (sym (ap (f s) h.1 ∙ one s h.0)) h.2)
+one_written : {A : Type 0} {l : Language A} (m : Language A) (f : Span → List A → A) → ((s : Span) (x : A) → f s (x ∷ []) ≡ x) → {ws : List Word} {P : A → Type 0} → Written l ws P → Written (spanned f (chain l m)) ws P
+one_written {A} {l} m f one {ws} {P} a =
+    let none : Written (many m) [] (λ ys. ys ≡ []) = record { spellable = tt; again = λ us i. ([], no_tokens us i, refl) } in
+    let alone : Written (chain l m) (ws ++ []) (λ xs. (x : A) × (xs ≡ x ∷ []) × P x) = both_written a none (λ y ys h i. (y, ap (λ zs. y ∷ zs) i, h)) in
+    spanned_written (at_words (append-nil ws) alone) (λ s xs h. subst P (sym (ap (f s) h.1 ∙ one s h.0)) h.2)
 
 -- ---- one level
 
 module _ {A B : Type 0} (j : Joining A B) (p np : Language A) (next : (ws : List Word) (P : A → Type 0) → Written p ws P → Written np (mark k.Ampersand ∷ ws) P) where
-  pub prim_as_conj : (ws : List Word) (P : A → Type 0) → Written p ws P → Written (conj_of j p np) ws P
-  prim_as_conj ws P a = one_written p np j.all j.all_one ws P a
+  prim_as_conj : {ws : List Word} {P : A → Type 0} → Written p ws P → Written (conj_of j p np) ws P
+  prim_as_conj a = one_written np j.all j.all_one a
 
-  pub conj_as_disj : (ws : List Word) (P : A → Type 0) → Written (conj_of j p np) ws P → Written (disj_of j p np) ws P
-  conj_as_disj ws P a = one_written (conj_of j p np) (next_of j p np) j.any j.any_one ws P a
+  conj_as_disj : {ws : List Word} {P : A → Type 0} → Written (conj_of j p np) ws P → Written (disj_of j p np) ws P
+  conj_as_disj a = one_written (next_of j p np) j.any j.any_one a
 
   bar : (ws : List Word) (P : A → Type 0) → Written (conj_of j p np) ws P → Written (next_of j p np) (mark k.Bar ∷ ws) P
-  bar ws P a = behind_written k.Bar (conj_of j p np) ws P (refl, refl) refl a
+  bar ws P a = behind_written k.Bar (refl, refl) refl a
 
   -- the words of any phrase are read as a disjunction
   as_disj_at : (form : Form) (ws : List Word) (P : A → Type 0) → natural p (conj_of j p np) (disj_of j p np) form ws P → Written (disj_of j p np) ws P
-  as_disj_at single ws P a = conj_as_disj ws P (prim_as_conj ws P a)
-  as_disj_at conjunction ws P a = conj_as_disj ws P a
+  as_disj_at single ws P a = conj_as_disj (prim_as_conj a)
+  as_disj_at conjunction ws P a = conj_as_disj a
   as_disj_at disjunction ws P a = a
 
   pub as_disj : (x : A) → Natural j p np x → Written (disj_of j p np) (j.phrase x).words (λ y. Alike j y x)
@@ -122,9 +120,9 @@ module _ {A B : Type 0} (j : Joining A B) (p np : Language A) (next : (ws : List
 
   one_conj_at : (form : Form) (ws : List Word) (P : A → Type 0) → natural p (conj_of j p np) (disj_of j p np) form ws P → Written p (in_conjunction (record { form = form; words = ws })) P
       → Written (conj_of j p np) (in_disjunction (record { form = form; words = ws })) P
-  one_conj_at single ws P a b = prim_as_conj ws P a
+  one_conj_at single ws P a b = prim_as_conj a
   one_conj_at conjunction ws P a b = a
-  one_conj_at disjunction ws P a b = prim_as_conj (in_parentheses ws) P b
+  one_conj_at disjunction ws P a b = prim_as_conj b
 
   one_conj : (x : A) → GoodPrim j p np x → GoodConj j p np x
   one_conj x a = record { bare_words = a.bare_words; as_member = one_conj_at (j.phrase x).form (j.phrase x).words (λ y. Alike j y x) a.bare_words a.as_member }
@@ -159,16 +157,12 @@ module _ {A B : Type 0} (j : Joining A B) (p np : Language A) (next : (ws : List
   map_twice f (x ∷ xs) = ap (λ ws. f (j.phrase x) ∷ ws) (map_twice f xs)
 
   several_conj : (s : Span) (x y : A) (xs : List A) → Each (GoodPrim j p np) (x ∷ (y ∷ xs)) → Written (conj_of j p np) (conjoined (map j.phrase (x ∷ (y ∷ xs)))).words (λ z. Alike j z (j.all s (x ∷ (y ∷ xs))))
-  several_conj s x y xs e = spanned_written j.all (chain p np) (conjoined (map j.phrase (x ∷ (y ∷ xs)))).words (λ zs. InTurn (Alike j) zs (x ∷ (y ∷ xs))) (λ z. Alike j z (j.all s (x ∷ (y ∷ xs))))
-      (at_words (chain p np) (separated k.Ampersand (map (λ x. in_conjunction (j.phrase x)) (x ∷ (y ∷ xs)))) _ (λ zs. InTurn (Alike j) zs (x ∷ (y ∷ xs))) (ap (separated k.Ampersand) (map_twice in_conjunction (x ∷ (y ∷ xs))))
-      (chain_written p np k.Ampersand (λ x. in_conjunction (j.phrase x)) (Alike j) next x (y ∷ xs) (prim_members (x ∷ (y ∷ xs)) e)))
-      (λ s' zs h. joined_all s s' x y xs zs h)
+  several_conj s x y xs e = spanned_written (at_words (ap (separated k.Ampersand) (map_twice in_conjunction (x ∷ (y ∷ xs))))
+      (chain_written k.Ampersand (λ x. in_conjunction (j.phrase x)) (Alike j) next x (y ∷ xs) (prim_members (x ∷ (y ∷ xs)) e))) (λ s' zs h. joined_all s s' x y xs zs h)
 
   several_disj : (s : Span) (x y : A) (xs : List A) → Each (GoodConj j p np) (x ∷ (y ∷ xs)) → Written (disj_of j p np) (disjoined (map j.phrase (x ∷ (y ∷ xs)))).words (λ z. Alike j z (j.any s (x ∷ (y ∷ xs))))
-  several_disj s x y xs e = spanned_written j.any (chain (conj_of j p np) (next_of j p np)) (disjoined (map j.phrase (x ∷ (y ∷ xs)))).words (λ zs. InTurn (Alike j) zs (x ∷ (y ∷ xs))) (λ z. Alike j z (j.any s (x ∷ (y ∷ xs))))
-      (at_words (chain (conj_of j p np) (next_of j p np)) (separated k.Bar (map (λ x. in_disjunction (j.phrase x)) (x ∷ (y ∷ xs)))) _ (λ zs. InTurn (Alike j) zs (x ∷ (y ∷ xs))) (ap (separated k.Bar) (map_twice in_disjunction (x ∷ (y ∷ xs))))
-      (chain_written (conj_of j p np) (next_of j p np) k.Bar (λ x. in_disjunction (j.phrase x)) (Alike j) bar x (y ∷ xs) (conj_members (x ∷ (y ∷ xs)) e)))
-      (λ s' zs h. joined_any s s' x y xs zs h)
+  several_disj s x y xs e = spanned_written (at_words (ap (separated k.Bar) (map_twice in_disjunction (x ∷ (y ∷ xs))))
+      (chain_written k.Bar (λ x. in_disjunction (j.phrase x)) (Alike j) bar x (y ∷ xs) (conj_members (x ∷ (y ∷ xs)) e))) (λ s' zs h. joined_any s s' x y xs zs h)
 
   phrase_conj : (ph : Phrase) (P : A → Type 0) (ps : List Phrase) → ph ≡ conjoined ps → Written (conj_of j p np) (conjoined ps).words P → natural p (conj_of j p np) (disj_of j p np) ph.form ph.words P × Written (conj_of j p np) (in_disjunction ph) P
   phrase_conj ph P ps e a = subst (λ (q : Phrase). natural p (conj_of j p np) (disj_of j p np) q.form q.words P × Written (conj_of j p np) (in_disjunction q) P) (sym e) (a, a)
@@ -199,33 +193,30 @@ module _ {A B : Type 0} (j : Joining A B) (p np : Language A) (next : (ws : List
   any_good s (x ∷ xs) e = disj_good s x xs e
 
   -- what the rules read, where a member was read
-  pub conj_gives : (q nq : Language A) → Gives q (GoodPrim j p np) → Gives nq (GoodPrim j p np) → Gives (conj_of j q nq) (GoodConj j p np)
-  conj_gives q nq a b = spanned_gives j.all (chain q nq) (Several (GoodPrim j p np)) (GoodConj j p np)
-      (both_gives (λ x xs. x ∷ xs) q (many nq) (GoodPrim j p np) (Each (GoodPrim j p np)) (Several (GoodPrim j p np)) a (many_gives nq (GoodPrim j p np) b) (λ x xs g h. (g, h))) all_good
+  conj_gives : (q nq : Language A) → Gives q (GoodPrim j p np) → Gives nq (GoodPrim j p np) → Gives (conj_of j q nq) (GoodConj j p np)
+  conj_gives q nq a b = spanned_gives {G = Several (GoodPrim j p np)} (both_gives a (many_gives b) (λ x xs g h. (g, h))) all_good
 
   pub disj_gives : (q nq : Language A) → Gives q (GoodPrim j p np) → Gives nq (GoodPrim j p np) → Gives (disj_of j q nq) (Natural j p np)
   disj_gives q nq a b =
       let c = conj_gives q nq a b in
-      spanned_gives j.any (chain (conj_of j q nq) (next_of j q nq)) (Several (GoodConj j p np)) (Natural j p np)
-      (both_gives (λ x xs. x ∷ xs) (conj_of j q nq) (many (next_of j q nq)) (GoodConj j p np) (Each (GoodConj j p np)) (Several (GoodConj j p np)) c
-      (many_gives (next_of j q nq) (GoodConj j p np) (behind_gives (token (is k.Bar)) (conj_of j q nq) (GoodConj j p np) c)) (λ x xs g h. (g, h))) any_good
+      spanned_gives {G = Several (GoodConj j p np)} (both_gives c (many_gives (behind_gives (token (is k.Bar)) c)) (λ x xs g h. (g, h))) any_good
 
 -- ---- members of one part
 
+-- a value of a form, and what is known of that which it is made of
+abbrev Made : {A K : Type 0} → (A → K) → (A → Type 0) → K → Type 0
+Made {A} f P v = (y : A) × (v ≡ f y) × P y
+
 module _ {K B A' B' : Type 0} (j : Joining (Spanned K) B) (p np : Language (Spanned K)) (next : (ws : List Word) (P : Spanned K → Type 0) → Written p ws P → Written np (mark k.Ampersand ∷ ws) P)
-    (f : A' → K) (l l' : Language A') (b : A' → B') (w : A' → List Word) (phrase_is : (s : Span) (x : A') → j.phrase (at_span s (f x)) ≡ plainly (w x))
-    (bare_is : (s s' : Span) (x y : A') → b y ≡ b x → j.bare (at_span s' (f y)) ≡ j.bare (at_span s (f x))) (incl : (ts : List Lexeme) (y : Spanned K) → (spanned at_span (made f l')).means ts y → p.means ts y) where
+    (f : A' → K) (b : A' → B') (w : A' → List Word) (phrase_is : (s : Span) (x : A') → j.phrase (at_span s (f x)) ≡ plainly (w x))
+    (bare_is : (s s' : Span) (x y : A') → b y ≡ b x → j.bare (at_span s' (f y)) ≡ j.bare (at_span s (f x))) where
   made_alike : (s s' : Span) (x y : A') → Like b w y x → Alike j (at_span s' (f y)) (at_span s (f x))
   made_alike s s' x y h = record { bare = bare_is s s' x y h.bare; words = phrase_is s' y ∙ (ap plainly h.words ∙ sym (phrase_is s x)) }
 
-  made_good : (s : Span) (x : A') → Kept l' b w x → GoodPrim j p np (at_span s (f x))
-  made_good s x h = plain_good j p np next (at_span s (f x)) (w x) (phrase_is s x)
-      (written_in (spanned at_span (made f l')) p (w x) (λ y. Alike j y (at_span s (f x))) incl
-      (spanned_written at_span (made f l') (w x) (λ v. (y : A') × (v ≡ f y) × Like b w y x) (λ y. Alike j y (at_span s (f x)))
-      (made_written f l' (w x) (λ y. Like b w y x) (λ v. (y : A') × (v ≡ f y) × Like b w y x) h (λ y i. (y, refl, i)))
-      (λ s' v i. subst (λ z. Alike j (at_span s' z) (at_span s (f x))) (sym i.1) (made_alike s s' x i.0 i.2))))
+  made_good : (l : Language A') → ((ts : List Lexeme) (y : Spanned K) → (spanned at_span (made f l)).means ts y → p.means ts y) → (s : Span) (x : A') → Kept l b w x → GoodPrim j p np (at_span s (f x))
+  made_good l incl s x h = plain_good j p np next (at_span s (f x)) (w x) (phrase_is s x) (written_in (spanned_written {P = Made f (λ y. Like b w y x)} (made_written h (λ y i. (y, refl, i)))
+      (λ s' v i. subst (λ z. Alike j (at_span s' z) (at_span s (f x))) (sym i.1) (made_alike s s' x i.0 i.2))) incl)
 
-  pub plain_gives : Gives l (Kept l' b w) → Gives (spanned at_span (made f l)) (GoodPrim j p np)
-  plain_gives a = spanned_gives at_span (made f l) (λ kind. (x : A') × (kind ≡ f x) × Kept l' b w x) (GoodPrim j p np)
-      (made_gives f l (Kept l' b w) (λ kind. (x : A') × (kind ≡ f x) × Kept l' b w x) a (λ x h. (x, refl, h)))
-      (λ s kind h. subst (λ v. GoodPrim j p np (at_span s v)) (sym h.1) (made_good s h.0 h.2))
+  pub plain_gives : {l l' : Language A'} → Keeps l l' b w → ((ts : List Lexeme) (y : Spanned K) → (spanned at_span (made f l')).means ts y → p.means ts y) → Gives (spanned at_span (made f l)) (GoodPrim j p np)
+  plain_gives {l} {l'} a incl = spanned_gives {G = Made f (Kept l' b w)} (made_gives a.all (λ x h. (x, refl, h)))
+      (λ s kind h. subst (λ v. GoodPrim j p np (at_span s v)) (sym h.1) (made_good l' incl s h.0 h.2))

@@ -12,20 +12,20 @@ use Rattle.xdg_ast.specs.declared.grammar.ClassParam.{ClassParam}
 use Rattle.xdg_ast.specs.declared.grammar.StatementKind.{StatementKind}
 use Rattle.xdg_ast.specs.declared.grammar.StatementKind.TheVariants as s
 use Rattle.xdg_ast.specs.declared.grammar.Grammar.{Grammar}
-use Rattle.xdg_ast.specs.Language.{Language, span_of, is, token, made, behind, pair}
-use Rattle.xdg_ast.specs.Grammar.{Params, Term, Expr, DimPart, is_constant, name_of, in_braces, inside, under, name, term, expr, preset, class_param, class_params, params_of, body, class_tail, parts, statement_kind, statement, statements}
+use Rattle.xdg_ast.specs.Language.{Language, span_of, is, token, made}
+use Rattle.xdg_ast.specs.Grammar.{Params, Term, Expr, DimPart, is_constant, name_of, inside, name, term, expr, preset, class_param, class_params, params_of, body, class_tail, parts, statement_kind, statement, statements}
 use Rattle.xdg_ast.specs.Derives.{DerivesWithin}
 use Rattle.xdg_ast.specs.Words.{Word, word_of, mark, constant, IsSpellable, AreSpellable}
-use Rattle.xdg_ast.specs.Trees.{name_word, term_words, in_braces as between_braces}
+use Rattle.xdg_ast.specs.Trees.{name_word, term_words}
 use Rattle.xdg_ast.specs.Canon.{Line, line, indented, part_words, preset_words, class_param_words, body_words, statement_words, statement_lines, line_text, lines_of, canon}
 use Rattle.xdg_ast.specs.Same.{nowhere, bare_part, bare_name, bare_option, bare_term, bare_expr, bare_class_param, bare_statement, bare_statements, bare_grammar, Same}
-use Rattle.xdg_print.proofs.AgainWritten.{Written, weaker, at_words, token_written, bind_written, made_written, Gives, token_gives, made_gives, bind_gives, either_gives}
-use Rattle.xdg_print.proofs.AgainNames.{Like, Kept, constant_says, short_text, name_text, constant_spellable, name_words, name_keeps, same_text, many_keeps}
-use Rattle.xdg_print.proofs.AgainKept.{option_words, behind_keeps, made_keeps, both_keeps, pair_keeps, optional_keeps, with_words, at_place_keeps}
-use Rattle.xdg_print.proofs.AgainLevels.{nested_keeps}
+use Rattle.xdg_print.proofs.AgainWritten.{Written, weaker, at_words, token_written, bind_written, made_written, token_gives, made_gives, bind_gives}
+use Rattle.xdg_print.proofs.AgainNames.{Like, Keeps, constant_says, short_text, name_text, constant_spellable, name_words, name_keeps, same_text, many_keeps}
+use Rattle.xdg_print.proofs.AgainKept.{option_words, behind_keeps, either_keeps, made_keeps, both_keeps, pair_keeps, optional_keeps, with_words, at_place_keeps}
+use Rattle.xdg_print.proofs.AgainLevels.{braces_keep}
 use Rattle.xdg_print.proofs.AgainElems.{term_keeps}
-use Rattle.xdg_print.proofs.AgainExprs.{expr_words, expr_keeps}
-use Rattle.xdg_print.proofs.AgainDims.{below_of, PartSaid, part_said, parts_words, parts_keep}
+use Rattle.xdg_print.proofs.AgainExprs.{expr_keeps}
+use Rattle.xdg_print.proofs.AgainDims.{depth_of, PartSaid, part_said, parts_words, parts_keep}
 use Rattle.xdg_facts.proofs.Lists.{fused}
 
 -- ---- parameters of classes
@@ -36,12 +36,13 @@ is_a_constant t h = rw h refl
 abbrev param_name : Language Name
 param_name = made name_of (token (is k.Name))
 
-param_name_keeps : Gives param_name (Kept param_name bare_name name_words)
-param_name_keeps = made_gives name_of (token (is k.Name)) (λ t. (is k.Name t.kind ≡ true) × IsSpellable (word_of t)) (Kept param_name bare_name name_words) (token_gives (is k.Name) _ (λ t h s. (h, s)))
-    (λ t g. weaker param_name (name_words (name_of t)) (λ m. m.text ≡ content_of t.kind t.text) (λ m. Like bare_name name_words m (name_of t)) (λ m h. same_text m (name_of t) h)
-    (made_written name_of (token (is k.Name)) (constant (content_of t.kind t.text) ∷ []) (λ u. word_of u ≡ constant (content_of t.kind t.text)) (λ m. m.text ≡ content_of t.kind t.text)
-    (token_written (is k.Name) (constant (content_of t.kind t.text)) (constant_spellable (content_of t.kind t.text) (short_text t (is_a_constant t g.0) g.1)) (ap (λ b. is k.Name (if b then k.Name else k.Quoted)) (name_text t g.0 g.1)))
-    (λ u h. (constant_says (content_of t.kind t.text) u h).1)))
+param_name_keeps : Keeps param_name param_name bare_name name_words
+param_name_keeps = record {
+  all = made_gives {G = λ t. (is k.Name t.kind ≡ true) × IsSpellable (word_of t)} (token_gives (λ t h s. (h, s))) (λ t g. weaker
+      (made_written {Q = λ m. m.text ≡ content_of t.kind t.text}
+      (token_written (is k.Name) (constant (content_of t.kind t.text)) (constant_spellable (content_of t.kind t.text) (short_text t (is_a_constant t g.0) g.1)) (ap (λ b. is k.Name (if b then k.Name else k.Quoted)) (name_text t g.0 g.1)))
+      (λ u h. (constant_says (content_of t.kind t.text) u h).1)) (λ m h. same_text m (name_of t) h));
+}
 
 presets_are : (given : Option Term) → preset_words given ≡ option_words (λ term. mark k.Colon ∷ term_words [] term.kind) given
 presets_are None = refl
@@ -64,38 +65,33 @@ abbrev tail_words : Tail → List Word
 tail_words tail = flat_map class_param_words tail.0 ++ body_words (params_of tail.0) tail.1
 
 module _ (n : ℕ) where
-  preset_keeps : Gives (preset n) (Kept (preset n) (bare_option (bare_part bare_term)) (option_words (λ term. mark k.Colon ∷ term_words [] term.kind)))
+  preset_keeps : Keeps (preset n) (preset n) (bare_option (bare_part bare_term)) (option_words (λ term. mark k.Colon ∷ term_words [] term.kind))
   unfolding preset
-  preset_keeps = optional_keeps (behind (token (is k.Colon)) (term [] (under [] n))) (behind (token (is k.Colon)) (term [] (under [] n))) (bare_part bare_term) (λ term. mark k.Colon ∷ term_words [] term.kind)
-      (behind_keeps k.Colon (term [] (under [] n)) (term [] (under [] n)) (bare_part bare_term) (λ term. term_words [] term.kind) (refl, refl) refl (term_keeps [] n n (omega arith) (below_of [] n)))
+  preset_keeps = optional_keeps (behind_keeps k.Colon (refl, refl) refl (term_keeps (depth_of [] n n (omega arith))))
 
-  class_param_keeps : Gives (class_param n) (Kept (class_param n) bare_class_param class_param_words)
+  class_param_keeps : Keeps (class_param n) (class_param n) bare_class_param class_param_words
   unfolding class_param
-  class_param_keeps = both_keeps (λ name given. record { name = name; preset = given }) param_name param_name (preset n) (preset n) (class_param n)
-      bare_name name_words (bare_option (bare_part bare_term)) (option_words (λ term. mark k.Colon ∷ term_words [] term.kind)) bare_class_param class_param_words (λ name given. record { name = name; preset = given })
-      (λ _ _. refl) (λ name given. ap (λ ws. name_word name ∷ ws) (presets_are given)) (λ ts z h. h) param_name_keeps preset_keeps
+  class_param_keeps = both_keeps (λ name given. record { name = name; preset = given }) param_name_keeps preset_keeps (λ _ _. refl) (λ name given. ap (λ ws. name_word name ∷ ws) (presets_are given)) (λ ts z h. h)
 
-  class_params_keep : Gives (class_params n) (Kept (class_params n) (map bare_class_param) (flat_map class_param_words))
+  class_params_keep : Keeps (class_params n) (class_params n) (map bare_class_param) (flat_map class_param_words)
   unfolding class_params
-  class_params_keep = many_keeps (class_param n) (class_param n) bare_class_param class_param_words class_param_keeps
+  class_params_keep = many_keeps class_param_keeps
 
-  body_keeps : (params : Params) → Gives (body params n) (Kept (body params n) (bare_part bare_expr) (body_words params))
+  body_keeps : (params : Params) → Keeps (body params n) (body params n) (bare_part bare_expr) (body_words params)
   unfolding body inside
-  body_keeps params = nested_keeps k.LeftBrace k.RightBrace (λ j. j.expr) params n n (omega arith) (below_of params n) (bare_part bare_expr) (expr_words params) (refl, refl) refl (refl, refl) refl
-      (λ m' n' l levels. expr_keeps params m' n' l (below_of params m'))
+  body_keeps params = braces_keep (λ j. j.expr) (depth_of params n n (omega arith)) (λ m' n' l levels. expr_keeps (depth_of params m' n' l))
 
-  tail_keeps : Gives (class_tail n) (Kept (class_tail n) bare_tail tail_words)
+  tail_keeps : Keeps (class_tail n) (class_tail n) bare_tail tail_words
   unfolding class_tail
-  tail_keeps = bind_gives {C = Tail} (λ params expr. (params, expr)) (class_params n) (λ params. body (params_of params) n) (body [] n)
-      (Kept (class_params n) (map bare_class_param) (flat_map class_param_words)) (λ params. Kept (body (params_of params) n) (bare_part bare_expr) (body_words (params_of params))) (Kept (class_tail n) bare_tail tail_words)
-      class_params_keep (λ params. body_keeps (params_of params))
-      (λ ps e g h. bind_written {C = Tail} (λ params expr. (params, expr)) (class_params n) (λ params. body (params_of params) n) (body [] n) (flat_map class_param_words ps) (body_words (params_of ps) e)
-      (λ qs. Like (map bare_class_param) (flat_map class_param_words) qs ps) (λ z. Like (bare_part bare_expr) (body_words (params_of ps)) z e) (λ tail. Like bare_tail tail_words tail (ps, e)) g h.spellable
-      (λ qs i. subst (λ params. Written (body params n) (body_words (params_of ps) e) (λ z. Like (bare_part bare_expr) (body_words (params_of ps)) z e)) (sym (same_params qs ps i.bare)) h)
-      (λ qs z i k. record {
-        bare = ap (λ ps'. (ps', bare_part bare_expr z)) i.bare ∙ ap (λ e'. (map bare_class_param ps, e')) k.bare;
-        words = ap (λ ws. ws ++ body_words (params_of qs) z) i.words ∙ (ap (λ params. flat_map class_param_words ps ++ body_words params z) (same_params qs ps i.bare) ∙ ap (λ ws. flat_map class_param_words ps ++ ws) k.words);
-      }))
+  tail_keeps = record {
+    all = bind_gives {m = λ params. body (params_of params) n} (body [] n) class_params_keep.all (λ params. (body_keeps (params_of params)).all)
+        (λ ps e g h. bind_written {m = λ params. body (params_of params) n} (body [] n) (flat_map class_param_words ps) (body_words (params_of ps) e) g h.spellable
+        (λ qs i. subst (λ params. Written (body params n) (body_words (params_of ps) e) (λ z. Like (bare_part bare_expr) (body_words (params_of ps)) z e)) (sym (same_params qs ps i.bare)) h)
+        (λ qs z i k. record {
+          bare = ap (λ ps'. (ps', bare_part bare_expr z)) i.bare ∙ ap (λ e'. (map bare_class_param ps, e')) k.bare;
+          words = ap (λ ws. ws ++ body_words (params_of qs) z) i.words ∙ (ap (λ params. flat_map class_param_words ps ++ body_words params z) (same_params qs ps i.bare) ∙ ap (λ ws. flat_map class_param_words ps ++ ws) k.words);
+        }));
+  }
 
 -- ---- statements
 
@@ -149,48 +145,18 @@ abbrev BareBody : Type 0
 BareBody = Expr × List Word
 
 module _ (n : ℕ) where
-  abbrev StatementKept : StatementKind → Type 0
-  StatementKept = Kept (statement_kind n) stated statement_words
+  statement_kind_keeps : Keeps (statement_kind n) (statement_kind n) stated statement_words
+  unfolding statement_kind statement_words statement_lines bare_statement inside
+  statement_kind_keeps = either_keeps (made_keeps (λ z. one_line (s.UseDim z) (mark k.UseDim ∷ name_words z)) (behind_keeps k.UseDim (refl, refl) refl name_keeps) (λ _. refl) (λ _. refl) (λ ts z h. inl h))
+      (either_keeps (made_keeps stated_dim (behind_keeps k.DefDim (refl, refl) refl (pair_keeps name_keeps (braces_keep (λ j. j.parts) (depth_of [] n n (omega arith)) (λ m' n' l levels. parts_keep m' n' l))))
+      dim_is (λ _. refl) (λ ts z h. inr (inl h)))
+      (either_keeps (made_keeps (λ (z : BareClass). one_line (s.DefClass z.0.0 z.0.1.0 z.0.1.1) z.1) (with_words (behind_keeps k.DefClass (refl, refl) refl (pair_keeps name_keeps (tail_keeps n))))
+      (λ _. refl) (λ _. refl) (λ ts z h. inr (inr (inl h))))
+      (made_keeps (λ (z : BareBody). one_line (s.DefEntry z.0) z.1) (with_words (behind_keeps k.DefEntry (refl, refl) refl (body_keeps n []))) (λ _. refl) (λ _. refl) (λ ts z h. inr (inr (inr h))))))
 
-  use_dim : Gives (made s.UseDim (behind (token (is k.UseDim)) name)) StatementKept
-  unfolding statement_kind statement_words statement_lines bare_statement
-  use_dim = made_keeps s.UseDim (behind (token (is k.UseDim)) name) (behind (token (is k.UseDim)) name) (statement_kind n) bare_name (λ z. mark k.UseDim ∷ name_words z) stated statement_words
-      (λ z. one_line (s.UseDim z) (mark k.UseDim ∷ name_words z)) (λ _. refl) (λ _. refl) (λ ts z h. inl h) (behind_keeps k.UseDim name name bare_name name_words (refl, refl) refl name_keeps)
-
-  def_dim : Gives (made {A = Dim} (λ said. s.DefDim said.0 said.1) (behind (token (is k.DefDim)) (pair name (in_braces (under [] n) (λ j. j.parts))))) StatementKept
-  unfolding statement_kind statement_words inside
-  def_dim = made_keeps (λ (said : Dim). s.DefDim said.0 said.1) (behind (token (is k.DefDim)) (pair name (in_braces (under [] n) (λ j. j.parts)))) (behind (token (is k.DefDim)) (pair name (in_braces (under [] n) (λ j. j.parts)))) (statement_kind n)
-      bare_dim (λ said. mark k.DefDim ∷ (name_words said.0 ++ between_braces (parts_words said.1))) stated statement_words stated_dim dim_is (λ _. refl) (λ ts z h. inr (inl h))
-      (behind_keeps k.DefDim (pair name (in_braces (under [] n) (λ j. j.parts))) (pair name (in_braces (under [] n) (λ j. j.parts))) bare_dim (λ said. name_words said.0 ++ between_braces (parts_words said.1)) (refl, refl) refl
-      (pair_keeps name name (in_braces (under [] n) (λ j. j.parts)) (in_braces (under [] n) (λ j. j.parts)) bare_name name_words (map (λ part. part_said part.kind)) (λ parts. between_braces (parts_words parts)) name_keeps
-      (nested_keeps k.LeftBrace k.RightBrace (λ j. j.parts) [] n n (omega arith) (below_of [] n) (map (λ part. part_said part.kind)) parts_words (refl, refl) refl (refl, refl) refl (λ m' n' l levels. parts_keep m' n' l))))
-
-  def_class : Gives (made {A = Class} (λ said. s.DefClass said.0 said.1.0 said.1.1) (behind (token (is k.DefClass)) (pair name (class_tail n)))) StatementKept
-  unfolding statement_kind statement_words statement_lines bare_statement
-  def_class = made_keeps {B' = BareClass} (λ (said : Class). s.DefClass said.0 said.1.0 said.1.1) (behind (token (is k.DefClass)) (pair name (class_tail n))) (behind (token (is k.DefClass)) (pair name (class_tail n))) (statement_kind n)
-      (λ said. (bare_class said, class_words said)) class_words stated statement_words (λ z. one_line (s.DefClass z.0.0 z.0.1.0 z.0.1.1) z.1) (λ _. refl) (λ _. refl) (λ ts z h. inr (inr (inl h)))
-      (with_words (behind (token (is k.DefClass)) (pair name (class_tail n))) (behind (token (is k.DefClass)) (pair name (class_tail n))) bare_class class_words
-      (behind_keeps k.DefClass (pair name (class_tail n)) (pair name (class_tail n)) bare_class (λ said. name_words said.0 ++ tail_words said.1) (refl, refl) refl
-      (pair_keeps name name (class_tail n) (class_tail n) bare_name name_words bare_tail tail_words name_keeps (tail_keeps n))))
-
-  def_entry : Gives (made s.DefEntry (behind (token (is k.DefEntry)) (body [] n))) StatementKept
-  unfolding statement_kind statement_words statement_lines bare_statement
-  def_entry = made_keeps {B' = BareBody} s.DefEntry (behind (token (is k.DefEntry)) (body [] n)) (behind (token (is k.DefEntry)) (body [] n)) (statement_kind n)
-      (λ z. (bare_part bare_expr z, mark k.DefEntry ∷ body_words [] z)) (λ z. mark k.DefEntry ∷ body_words [] z) stated statement_words (λ z. one_line (s.DefEntry z.0) z.1) (λ _. refl) (λ _. refl) (λ ts z h. inr (inr (inr h)))
-      (with_words (behind (token (is k.DefEntry)) (body [] n)) (behind (token (is k.DefEntry)) (body [] n)) (bare_part bare_expr) (λ z. mark k.DefEntry ∷ body_words [] z)
-      (behind_keeps k.DefEntry (body [] n) (body [] n) (bare_part bare_expr) (body_words []) (refl, refl) refl (body_keeps n [])))
-
-  statement_kind_keeps : Gives (statement_kind n) StatementKept
-  unfolding statement_kind
-  statement_kind_keeps = either_gives _ _ StatementKept use_dim (either_gives _ _ StatementKept def_dim (either_gives _ _ StatementKept def_class def_entry))
-
-  statement_keeps : Gives (statement n) (Kept (statement n) (λ x. stated x.kind) (λ x. statement_words x.kind))
-  unfolding statement
-  statement_keeps = at_place_keeps (statement_kind n) (statement_kind n) stated statement_words statement_kind_keeps
-
-  statements_keep : Gives (statements n) (Kept (statements n) (map (λ x. stated x.kind)) (flat_map (λ x. statement_words x.kind)))
-  unfolding statements
-  statements_keep = many_keeps (statement n) (statement n) (λ x. stated x.kind) (λ x. statement_words x.kind) statement_keeps
+  statements_keep : Keeps (statements n) (statements n) (map (λ x. stated x.kind)) (flat_map (λ x. statement_words x.kind))
+  unfolding statements statement
+  statements_keep = many_keeps (at_place_keeps statement_kind_keeps)
 
 -- ---- lines
 
@@ -233,7 +199,7 @@ pub derives_again : (n : ℕ) (ts : List Lexeme) (g : Grammar) → DerivesWithin
     → AreSpellable (flat_map (λ line. line.words) (lines_of g))
     × ((us : List Lexeme) → map word_of us ≡ flat_map (λ line. line.words) (lines_of g) → (h : Grammar) × DerivesWithin n us h × Same g h × (canon h ≡ canon g))
 derives_again n ts g d sp =
-    let kept = at_words (statements n) _ (words_of_lines (lines_of g)) (λ xs. Like (map (λ x. stated x.kind)) (flat_map (λ x. statement_words x.kind)) xs g.statements) (sym (lines_are g.statements)) ((statements_keep n).by ts g.statements d.0 sp) in (
+    let kept = at_words (sym (lines_are g.statements)) ((statements_keep n).all.by ts g.statements d.0 sp) in (
       kept.spellable,
       λ us h.
           let again = kept.again us h in

@@ -52,11 +52,11 @@ pub record Written {A : Type 0} (l : Language A) (words : List Word) (P : A → 
   pub spellable : AreSpellable words
   pub again : (us : List Lexeme) → map word_of us ≡ words → (x : A) × l.means us x × P x
 
-pub weaker : {A : Type 0} (l : Language A) (ws : List Word) (P Q : A → Type 0) → ((x : A) → P x → Q x) → Written l ws P → Written l ws Q
-weaker l ws P Q f a = record { spellable = a.spellable; again = λ us h. let i = a.again us h in (i.0, i.1, f i.0 i.2) }
+pub weaker : {A : Type 0} {l : Language A} {ws : List Word} {P Q : A → Type 0} → Written l ws P → ((x : A) → P x → Q x) → Written l ws Q
+weaker a f = record { spellable = a.spellable; again = λ us h. let i = a.again us h in (i.0, i.1, f i.0 i.2) }
 
-pub at_words : {A : Type 0} (l : Language A) (ws vs : List Word) (P : A → Type 0) → ws ≡ vs → Written l ws P → Written l vs P
-at_words l ws vs P e a = subst (λ us. Written l us P) e a
+pub at_words : {A : Type 0} {l : Language A} {ws vs : List Word} {P : A → Type 0} → ws ≡ vs → Written l ws P → Written l vs P
+at_words {A} {l} {ws} {vs} {P} e a = subst (λ us. Written l us P) e a
 
 pub token_written : (p : Kinds) (w : Word) → IsSpellable w → p w.kind ≡ true → Written (token p) (w ∷ []) (λ t. word_of t ≡ w)
 token_written p w s h = record {
@@ -64,12 +64,12 @@ token_written p w s h = record {
   again = λ us i. let o = one_token us w i in (o.0, (o.1, ap (λ (v : Word). p v.kind) o.2 ∙ h), o.2);
 }
 
-pub nothing_written : {A : Type 0} (a : A) (P : A → Type 0) → P a → Written (nothing a) [] P
-nothing_written a P p = record { spellable = tt; again = λ us i. (a, (no_tokens us i, refl), p) }
+pub nothing_written : {A : Type 0} {a : A} {P : A → Type 0} → P a → Written (nothing a) [] P
+nothing_written {A} {a} p = record { spellable = tt; again = λ us i. (a, (no_tokens us i, refl), p) }
 
-pub bind_written : {A B C : Type 0} (f : A → B → C) (l : Language A) (m : A → Language B) (example : Language B) (ws vs : List Word) (P : A → Type 0) (Q : B → Type 0) (R : C → Type 0)
+pub bind_written : {A B C : Type 0} {f : A → B → C} {l : Language A} {m : A → Language B} (example : Language B) (ws vs : List Word) {P : A → Type 0} {Q : B → Type 0} {R : C → Type 0}
     → Written l ws P → AreSpellable vs → ((a : A) → P a → Written (m a) vs Q) → ((a : A) (b : B) → P a → Q b → R (f a b)) → Written (bind f l m example) (ws ++ vs) R
-bind_written f l m example ws vs P Q R a sp b r = record {
+bind_written {A} {B} {C} {f} example ws vs a sp b r = record {
   spellable = spellable-both ws vs a.spellable sp;
   again = λ us i.
       let s = split_words us ws vs i in
@@ -78,25 +78,25 @@ bind_written f l m example ws vs P Q R a sp b r = record {
       (f x.0 y.0, (s.front, s.back, x.0, y.0, s.split, x.1, y.1, refl), r x.0 y.0 x.2 y.2);
 }
 
-pub both_written : {A B C : Type 0} (f : A → B → C) (l : Language A) (m : Language B) (ws vs : List Word) (P : A → Type 0) (Q : B → Type 0) (R : C → Type 0)
+pub both_written : {A B C : Type 0} {f : A → B → C} {l : Language A} {m : Language B} {ws vs : List Word} {P : A → Type 0} {Q : B → Type 0} {R : C → Type 0}
     → Written l ws P → Written m vs Q → ((a : A) (b : B) → P a → Q b → R (f a b)) → Written (both f l m) (ws ++ vs) R
-both_written f l m ws vs P Q R a b r = bind_written f l (λ _. m) m ws vs P Q R a b.spellable (λ _ _. b) r
+both_written {A} {B} {C} {f} {l} {m} {ws} {vs} a b r = bind_written {m = λ _. m} m ws vs a b.spellable (λ _ _. b) r
 
-pub made_written : {A B : Type 0} (f : A → B) (l : Language A) (ws : List Word) (P : A → Type 0) (Q : B → Type 0) → Written l ws P → ((a : A) → P a → Q (f a)) → Written (made f l) ws Q
-made_written f l ws P Q a q = record {
+pub made_written : {A B : Type 0} {f : A → B} {l : Language A} {ws : List Word} {P : A → Type 0} {Q : B → Type 0} → Written l ws P → ((a : A) → P a → Q (f a)) → Written (made f l) ws Q
+made_written {A} {B} {f} a q = record {
   spellable = a.spellable;
   again = λ us i. let x = a.again us i in (f x.0, (us, [], x.0, tt, sym (append-nil us), x.1, (refl, refl), refl), q x.0 x.2);
 }
 
 -- a token that is not kept, and then the other
-pub behind_written : {A : Type 0} (kind : Kind) (l : Language A) (ws : List Word) (P : A → Type 0) → IsSpellable (mark kind) → is kind kind ≡ true → Written l ws P → Written (behind (token (is kind)) l) (mark kind ∷ ws) P
-behind_written kind l ws P s h a = both_written (λ _ b. b) (token (is kind)) l (mark kind ∷ []) ws _ P P (token_written (is kind) (mark kind) s h) a (λ _ _ _ p. p)
+pub behind_written : {A : Type 0} {l : Language A} {ws : List Word} {P : A → Type 0} (kind : Kind) → IsSpellable (mark kind) → is kind kind ≡ true → Written l ws P → Written (behind (token (is kind)) l) (mark kind ∷ ws) P
+behind_written kind s h a = both_written (token_written (is kind) (mark kind) s h) a (λ _ _ _ p. p)
 
-pub left_written : {A : Type 0} (l m : Language A) (ws : List Word) (P : A → Type 0) → Written l ws P → Written (either l m) ws P
-left_written l m ws P a = record { spellable = a.spellable; again = λ us i. let x = a.again us i in (x.0, inl x.1, x.2) }
+pub left_written : {A : Type 0} {l : Language A} (m : Language A) {ws : List Word} {P : A → Type 0} → Written l ws P → Written (either l m) ws P
+left_written m a = record { spellable = a.spellable; again = λ us i. let x = a.again us i in (x.0, inl x.1, x.2) }
 
-pub spanned_written : {A B : Type 0} (f : Span → A → B) (l : Language A) (ws : List Word) (P : A → Type 0) (Q : B → Type 0) → Written l ws P → ((s : Span) (a : A) → P a → Q (f s a)) → Written (spanned f l) ws Q
-spanned_written f l ws P Q a q = record {
+pub spanned_written : {A B : Type 0} {f : Span → A → B} {l : Language A} {ws : List Word} {P : A → Type 0} {Q : B → Type 0} → Written l ws P → ((s : Span) (a : A) → P a → Q (f s a)) → Written (spanned f l) ws Q
+spanned_written {A} {B} {f} a q = record {
   spellable = a.spellable;
   again = λ us i. let x = a.again us i in (f (span_of us) x.0, (span_of us, x.0, refl, x.1, refl), q (span_of us) x.0 x.2);
 }
@@ -126,9 +126,9 @@ many_written l R w (x ∷ xs) e =
           (y.0 ∷ ys.0, (s.front, s.back, s.split, y.1, ys.1), (y.2, ys.2));
     }
 
-pub room_written : {A : Type 0} {L : Type 1} (op cl : Kind) (j : L) (body : L → Language A) (ws : List Word) (P : A → Type 0)
+pub room_written : {A : Type 0} {L : Type 1} (op cl : Kind) (j : L) (body : L → Language A) {ws : List Word} {P : A → Type 0}
     → IsSpellable (mark op) → is op op ≡ true → IsSpellable (mark cl) → is cl cl ≡ true → Written (body j) ws P → Written (nested (is op) (is cl) (room j) body) (mark op ∷ (ws ++ mark cl ∷ [])) P
-room_written op cl j body ws P so io sc ic a = record {
+room_written op cl j body {ws} so io sc ic a = record {
   spellable = (so, spellable-both ws (mark cl ∷ []) a.spellable (sc, tt));
   again = λ us i.
       let s = split_words us (mark op ∷ []) (ws ++ mark cl ∷ []) i in
@@ -145,44 +145,44 @@ room_written op cl j body ws P so io sc ic a = record {
 pub record Gives {A : Type 0} (l : Language A) (G : A → Type 0) : Type 0 where
   pub by : (ts : List Lexeme) (x : A) → l.means ts x → AreSpellable (map word_of ts) → G x
 
-pub token_gives : (p : Kinds) (G : Lexeme → Type 0) → ((t : Lexeme) → p t.kind ≡ true → IsSpellable (word_of t) → G t) → Gives (token p) G
-token_gives p G g = record { by = λ ts x h s. let i : AreSpellable (word_of x ∷ []) = subst (λ us. AreSpellable (map word_of us)) h.0 s in g x h.1 i.0 }
+pub token_gives : {p : Kinds} {G : Lexeme → Type 0} → ((t : Lexeme) → p t.kind ≡ true → IsSpellable (word_of t) → G t) → Gives (token p) G
+token_gives g = record { by = λ ts x h s. let i : AreSpellable (word_of x ∷ []) = subst (λ us. AreSpellable (map word_of us)) h.0 s in g x h.1 i.0 }
 
-pub nothing_gives : {A : Type 0} (a : A) (G : A → Type 0) → G a → Gives (nothing a) G
-nothing_gives a G g = record { by = λ ts x h s. subst G (sym h.1) g }
+pub nothing_gives : {A : Type 0} {a : A} {G : A → Type 0} → G a → Gives (nothing a) G
+nothing_gives {A} {a} {G} g = record { by = λ ts x h s. subst G (sym h.1) g }
 
-pub bind_gives : {A B C : Type 0} (f : A → B → C) (l : Language A) (m : A → Language B) (example : Language B) (G : A → Type 0) (H : A → B → Type 0) (K : C → Type 0)
+pub bind_gives : {A B C : Type 0} {f : A → B → C} {l : Language A} {m : A → Language B} (example : Language B) {G : A → Type 0} {H : A → B → Type 0} {K : C → Type 0}
     → Gives l G → ((a : A) → Gives (m a) (H a)) → ((a : A) (b : B) → G a → H a b → K (f a b)) → Gives (bind f l m example) K
-bind_gives f l m example G H K a b k = record {
+bind_gives {A} {B} {C} {f} {l} {m} example {G} {H} {K} a b k = record {
   by = λ ts x h s.
       let i = spellable-parts ts h.0 h.1 h.4 s in
       subst K (sym h.7) (k h.2 h.3 (a.by h.0 h.2 h.5 i.0) ((b h.2).by h.1 h.3 h.6 i.1));
 }
 
-pub both_gives : {A B C : Type 0} (f : A → B → C) (l : Language A) (m : Language B) (G : A → Type 0) (H : B → Type 0) (K : C → Type 0)
+pub both_gives : {A B C : Type 0} {f : A → B → C} {l : Language A} {m : Language B} {G : A → Type 0} {H : B → Type 0} {K : C → Type 0}
     → Gives l G → Gives m H → ((a : A) (b : B) → G a → H b → K (f a b)) → Gives (both f l m) K
-both_gives f l m G H K a b k = bind_gives f l (λ _. m) m G (λ _. H) K a (λ _. b) k
+both_gives {A} {B} {C} {f} {l} {m} {G} {H} {K} a b k = bind_gives {m = λ _. m} m {H = λ _. H} a (λ _. b) k
 
-pub made_gives : {A B : Type 0} (f : A → B) (l : Language A) (G : A → Type 0) (K : B → Type 0) → Gives l G → ((a : A) → G a → K (f a)) → Gives (made f l) K
-made_gives f l G K a k = both_gives (λ x _. f x) l (nothing tt) G (λ _. Unit {0}) K a (nothing_gives tt _ tt) (λ x _ g _. k x g)
+pub made_gives : {A B : Type 0} {f : A → B} {l : Language A} {G : A → Type 0} {K : B → Type 0} → Gives l G → ((a : A) → G a → K (f a)) → Gives (made f l) K
+made_gives a k = both_gives {H = λ _. Unit {0}} a (nothing_gives tt) (λ x _ g _. k x g)
 
-pub behind_gives : {A B : Type 0} (l : Language A) (m : Language B) (G : B → Type 0) → Gives m G → Gives (behind l m) G
-behind_gives l m G b = both_gives (λ _ y. y) l m (λ _. Unit {0}) G G (record { by = λ ts x h s. tt }) b (λ _ _ _ g. g)
+pub behind_gives : {A B : Type 0} (l : Language A) {m : Language B} {G : B → Type 0} → Gives m G → Gives (behind l m) G
+behind_gives l b = both_gives {G = λ _. Unit {0}} (record { by = λ ts x h s. tt }) b (λ _ _ _ g. g)
 
-pub either_gives : {A : Type 0} (l m : Language A) (G : A → Type 0) → Gives l G → Gives m G → Gives (either l m) G
-either_gives l m G a b = record { by = λ ts x h s. elim h as (λ _. G x) [ inl i ↦ a.by ts x i s | inr i ↦ b.by ts x i s ] }
+pub either_gives : {A : Type 0} {l m : Language A} {G : A → Type 0} → Gives l G → Gives m G → Gives (either l m) G
+either_gives {A} {l} {m} {G} a b = record { by = λ ts x h s. elim h as (λ _. G x) [ inl i ↦ a.by ts x i s | inr i ↦ b.by ts x i s ] }
 
-each_gives : {A : Type 0} (l : Language A) (G : A → Type 0) → Gives l G → (xs : List A) (ts : List Lexeme) → each l.means ts xs → AreSpellable (map word_of ts) → Each G xs
-each_gives l G a [] ts h s = tt
-each_gives l G a (x ∷ xs) ts h s =
+each_gives : {A : Type 0} {l : Language A} {G : A → Type 0} → Gives l G → (xs : List A) (ts : List Lexeme) → each l.means ts xs → AreSpellable (map word_of ts) → Each G xs
+each_gives a [] ts h s = tt
+each_gives a (x ∷ xs) ts h s =
     let i = spellable-parts ts h.0 h.1 h.2 s in
-    (a.by h.0 x h.3 i.0, each_gives l G a xs h.1 h.4 i.1)
+    (a.by h.0 x h.3 i.0, each_gives a xs h.1 h.4 i.1)
 
-pub many_gives : {A : Type 0} (l : Language A) (G : A → Type 0) → Gives l G → Gives (many l) (Each G)
-many_gives l G a = record { by = λ ts xs h s. each_gives l G a xs ts h s }
+pub many_gives : {A : Type 0} {l : Language A} {G : A → Type 0} → Gives l G → Gives (many l) (Each G)
+many_gives a = record { by = λ ts xs h s. each_gives a xs ts h s }
 
-pub spanned_gives : {A B : Type 0} (f : Span → A → B) (l : Language A) (G : A → Type 0) (K : B → Type 0) → Gives l G → ((s : Span) (a : A) → G a → K (f s a)) → Gives (spanned f l) K
-spanned_gives f l G K a k = record { by = λ ts x h s. subst K (sym h.4) (k h.0 h.1 (a.by ts h.1 h.3 s)) }
+pub spanned_gives : {A B : Type 0} {f : Span → A → B} {l : Language A} {G : A → Type 0} {K : B → Type 0} → Gives l G → ((s : Span) (a : A) → G a → K (f s a)) → Gives (spanned f l) K
+spanned_gives {A} {B} {f} {l} {G} {K} a k = record { by = λ ts x h s. subst K (sym h.4) (k h.0 h.1 (a.by ts h.1 h.3 s)) }
 
 pub full_gives : {A : Type 0} {L : Type 1} (op cl : Kinds) (body : L → Language A) (G : A → Type 0) → Gives (nested op cl full body) G
 full_gives op cl body G = record { by = λ ts x h s. absurd h }
@@ -195,12 +195,12 @@ room_gives op cl j body G a = record {
       a.by h.1 x h.6 k.0;
 }
 
-pub stronger : {A : Type 0} (l : Language A) (G K : A → Type 0) → ((x : A) → G x → K x) → Gives l G → Gives l K
-stronger l G K f a = record { by = λ ts x h s. f x (a.by ts x h s) }
+pub stronger : {A : Type 0} {l : Language A} {G K : A → Type 0} → Gives l G → ((x : A) → G x → K x) → Gives l K
+stronger a f = record { by = λ ts x h s. f x (a.by ts x h s) }
 
-pub both_given : {A : Type 0} (l : Language A) (G K : A → Type 0) → Gives l G → Gives l K → Gives l (λ x. G x × K x)
-both_given l G K a b = record { by = λ ts x h s. (a.by ts x h s, b.by ts x h s) }
+pub both_given : {A : Type 0} {l : Language A} {G K : A → Type 0} → Gives l G → Gives l K → Gives l (λ x. G x × K x)
+both_given a b = record { by = λ ts x h s. (a.by ts x h s, b.by ts x h s) }
 
 -- what the one language means, the other does too
-pub written_in : {A : Type 0} (l m : Language A) (ws : List Word) (P : A → Type 0) → ((ts : List Lexeme) (x : A) → l.means ts x → m.means ts x) → Written l ws P → Written m ws P
-written_in l m ws P f a = record { spellable = a.spellable; again = λ us i. let x = a.again us i in (x.0, f us x.0 x.1, x.2) }
+pub written_in : {A : Type 0} {l m : Language A} {ws : List Word} {P : A → Type 0} → Written l ws P → ((ts : List Lexeme) (x : A) → l.means ts x → m.means ts x) → Written m ws P
+written_in a f = record { spellable = a.spellable; again = λ us i. let x = a.again us i in (x.0, f us x.0 x.1, x.2) }
