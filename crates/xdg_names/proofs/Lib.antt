@@ -1,4 +1,5 @@
 pub mod First
+pub mod Listing
 pub mod One
 pub mod Climbs
 pub mod Marks

@@ -22,7 +22,7 @@ use Rattle.xdg_ast.specs.declared.terms.CardKind.TheVariants as c
 use Rattle.xdg_domain.specs.Shapes as d
 use Rattle.xdg_domain.specs.Shapes.{Shape, domain, tuple, truth, integer, text, set, iset, card, valency, mapping, fields, Shapes, Fields, no_field, field_then, sizes, in_a_row, names_of}
 use Rattle.xdg_names.specs.First.{Tells, first}
-use Rattle.xdg_names.proofs.First.{tells_as, first-tells}
+use Rattle.xdg_names.proofs.Listing.{Lists, lists_none, lists_as, lists_both, lists_each, lists_unless, lists_when, lists_tell}
 use Rattle.xdg_terms.specs.Forms.{Term, Card, Look, all_of, bracketed_elem, braces_in, generator_in, constant_of, number_of, card_of, generator_of, bracket_of, constants_of, brackets_of, counts_of, pairs_of}
 use Rattle.xdg_terms.specs.Offences.{has_form, has_set_form, asked_in_set, is_some, one_told, all_told, Asked, asked_in, asked_in_turn, asked, keys, field_keys, known_fields, cards, keys_of, gen_names, IsWrongKind, IsNotMember, IsTwice, IsUnknownField, IsOutOfRange, CardOffends, OffendsHere, OfSeen, OffendsIn, OffendsUnder, OffendsBy}
 use Rattle.xdg_terms.specs.Faults as spec
@@ -31,7 +31,7 @@ use Rattle.xdg_names.specs.Texts.{has_text}
 use Rattle.xdg_names.proofs.Texts.{has_among, among_has}
 use Rattle.xdg_facts.proofs.Texts.{same_text, is_same}
 use Rattle.xdg_facts.specs.Membership.{In}
-use Rattle.xdg_facts.proofs.In.{in_append, in_left, in_right, in_unless, unless_in, in_when, when_in, in_flat_map, flat_map_in}
+use Rattle.xdg_facts.proofs.In.{in_append, in_left, in_right}
 
 -- ---- the rules as lists
 
@@ -47,80 +47,45 @@ rows form t all known names twice_told written =
 abbrev here : Shape → Term → List Fault
 here s t = rows (has_form s t) t (asked s t) (known_fields s) (field_keys s t) (keys s t) (cards s t)
 
-in_missing : (cause : Cause) (texts : List (List ℕ)) (name : Name) (f : Fault) → In (spec.missing cause texts name) f → (In texts name.text → ⊥) × (f ≡ fault_at cause name.span.start)
+missing_is : (cause : Cause) (texts : List (List ℕ)) (name : Name) → Lists (spec.missing cause texts name) (λ f. (In texts name.text → ⊥) × (f ≡ fault_at cause name.span.start))
 unfolding spec.missing
-in_missing cause texts name f h =
-    let e = in_unless (has_text texts name.text) (fault_at cause name.span.start) f h in
-    ((λ a. true≢false (sym (among_has texts name.text a) ∙ e.0)), sym e.1)
+missing_is cause texts name = lists_as (lists_unless (has_text texts name.text) (fault_at cause name.span.start)) (λ f. (
+  λ e. ((λ a. true≢false (sym (among_has texts name.text a) ∙ e.0)), sym e.1),
+  λ p. (false_from_ne_true (has_text texts name.text) (λ e. p.0 (has_among texts name.text e)), sym p.1),
+))
 
-missing_in : (cause : Cause) (texts : List (List ℕ)) (name : Name) (f : Fault) → (In texts name.text → ⊥) → f ≡ fault_at cause name.span.start → In (spec.missing cause texts name) f
-unfolding spec.missing
-missing_in cause texts name f absent is =
-    unless_in (has_text texts name.text) (fault_at cause name.span.start) f (false_from_ne_true (has_text texts name.text) (λ e. absent (has_among texts name.text e))) (sym is)
-
-in_twice : (before : List Name) (name : Name) (f : Fault) → In (spec.twice before name) f → In (spec.texts_of before) name.text × (f ≡ fault_at causes.Twice name.span.start)
+twice_is : (before : List Name) (name : Name) → Lists (spec.twice before name) (λ f. In (spec.texts_of before) name.text × (f ≡ fault_at causes.Twice name.span.start))
 unfolding spec.twice
-in_twice before name f h =
-    let e = in_when (has_text (spec.texts_of before) name.text) (fault_at causes.Twice name.span.start) f h in
-    (has_among (spec.texts_of before) name.text e.0, sym e.1)
-
-twice_in : (before : List Name) (name : Name) (f : Fault) → In (spec.texts_of before) name.text → f ≡ fault_at causes.Twice name.span.start → In (spec.twice before name) f
-unfolding spec.twice
-twice_in before name f among is = when_in (has_text (spec.texts_of before) name.text) (fault_at causes.Twice name.span.start) f (among_has (spec.texts_of before) name.text among) (sym is)
+twice_is before name = lists_as (lists_when (has_text (spec.texts_of before) name.text) (fault_at causes.Twice name.span.start)) (λ f. (
+  λ e. (has_among (spec.texts_of before) name.text e.0, sym e.1),
+  λ p. (among_has (spec.texts_of before) name.text p.0, sym p.1),
+))
 
 -- ---- cardinalities
 
-in_too_big : (num : Num) (f : Fault) → In (spec.too_big num) f → (127 < num.value) × (f ≡ fault_at causes.CardRange num.span.start)
+too_big_is : (num : Num) → Lists (spec.too_big num) (λ f. (127 < num.value) × (f ≡ fault_at causes.CardRange num.span.start))
 unfolding spec.too_big
-in_too_big num f h =
-    let e = in_when (nat_lt 127 num.value) (fault_at causes.CardRange num.span.start) f h in
-    (ltb-true 127 num.value e.0, sym e.1)
+too_big_is num = lists_as (lists_when (nat_lt 127 num.value) (fault_at causes.CardRange num.span.start)) (λ f. (
+  λ e. (ltb-true 127 num.value e.0, sym e.1),
+  λ p. (lt-ltb 127 num.value p.0, sym p.1),
+))
 
-too_big_in : (num : Num) (f : Fault) → 127 < num.value → f ≡ fault_at causes.CardRange num.span.start → In (spec.too_big num) f
-unfolding spec.too_big
-too_big_in num f big is = when_in (nat_lt 127 num.value) (fault_at causes.CardRange num.span.start) f (lt-ltb 127 num.value big) (sym is)
-
-in_wrong_end : (low high : Num) (f : Fault) → In (spec.wrong_end low high) f → ((127 < high.value) ⊎ (high.value < low.value)) × (f ≡ fault_at causes.CardRange high.span.start)
+wrong_end_is : (low high : Num) → Lists (spec.wrong_end low high) (λ f. ((127 < high.value) ⊎ (high.value < low.value)) × (f ≡ fault_at causes.CardRange high.span.start))
 unfolding spec.wrong_end
-in_wrong_end low high f h =
-    let e = in_when (nat_lt 127 high.value || nat_lt high.value low.value) (fault_at causes.CardRange high.span.start) f h in
-    ((elim (or_cases (nat_lt 127 high.value) (nat_lt high.value low.value) e.0) [ inl a ↦ inl (ltb-true 127 high.value a) | inr b ↦ inr (ltb-true high.value low.value b) ]), sym e.1)
+wrong_end_is low high = lists_as (lists_when (nat_lt 127 high.value || nat_lt high.value low.value) (fault_at causes.CardRange high.span.start)) (λ f. (
+  λ e. ((elim (or_cases (nat_lt 127 high.value) (nat_lt high.value low.value) e.0) [ inl a ↦ inl (ltb-true 127 high.value a) | inr b ↦ inr (ltb-true high.value low.value b) ]), sym e.1),
+  λ p. ((elim p.0 [ inl a ↦ or_left (nat_lt 127 high.value) (nat_lt high.value low.value) (lt-ltb 127 high.value a) | inr b ↦ or_right (nat_lt 127 high.value) (nat_lt high.value low.value) (lt-ltb high.value low.value b) ]), sym p.1),
+))
 
-wrong_end_in : (low high : Num) (f : Fault) → (127 < high.value) ⊎ (high.value < low.value) → f ≡ fault_at causes.CardRange high.span.start → In (spec.wrong_end low high) f
-unfolding spec.wrong_end
-wrong_end_in low high f bad is =
-    when_in (nat_lt 127 high.value || nat_lt high.value low.value) (fault_at causes.CardRange high.span.start) f
-    (elim bad [ inl a ↦ or_left (nat_lt 127 high.value) (nat_lt high.value low.value) (lt-ltb 127 high.value a) | inr b ↦ or_right (nat_lt 127 high.value) (nat_lt high.value low.value) (lt-ltb high.value low.value b) ]) (sym is)
+card_kind_is : (written : Card) (kind : CardKind) → Lists (spec.card_kind_faults written kind) (CardOffends written kind)
+card_kind_is written (c.Numbers []) = record { sound = λ f h. elim h [ inl e ↦ sym e | inr k ↦ absurd k ]; complete = λ f h. inl (sym h) }
+card_kind_is written (c.Numbers (num ∷ nums)) = lists_each spec.too_big (λ big f. (127 < big.value) × (f ≡ fault_at causes.CardRange big.span.start)) (num ∷ nums) (λ big i. too_big_is big)
+card_kind_is written (c.Interval low high) = lists_both (too_big_is low) (wrong_end_is low high)
+card_kind_is written other = lists_none
 
-in_numbers : (written : Card) (nums : List Num) (f : Fault) → In (spec.numbers_faults written nums) f → CardOffends written (c.Numbers nums) f
-in_numbers written [] f h = elim h [ inl e ↦ sym e | inr k ↦ absurd k ]
-in_numbers written (num ∷ nums) f h = let k = in_flat_map spec.too_big (num ∷ nums) f h in (k.0, (k.1.0, in_too_big k.0 f k.1.1))
-
-numbers_in : (written : Card) (nums : List Num) (f : Fault) → CardOffends written (c.Numbers nums) f → In (spec.numbers_faults written nums) f
-numbers_in written [] f h = inl (sym h)
-numbers_in written (num ∷ nums) f h = flat_map_in spec.too_big (num ∷ nums) h.0 f h.1.0 (too_big_in h.0 f h.1.1.0 h.1.1.1)
-
-in_card_kind : (written : Card) (kind : CardKind) (f : Fault) → In (spec.card_kind_faults written kind) f → CardOffends written kind f
-in_card_kind written (c.Numbers nums) f h = in_numbers written nums f h
-in_card_kind written (c.Interval low high) f h =
-    elim (in_append (spec.too_big low) (spec.wrong_end low high) f h) [ inl l ↦ inl (in_too_big low f l) | inr r ↦ inr (in_wrong_end low high f r) ]
-in_card_kind written other f h = h
-
-card_kind_in : (written : Card) (kind : CardKind) (f : Fault) → CardOffends written kind f → In (spec.card_kind_faults written kind) f
-card_kind_in written (c.Numbers nums) f h = numbers_in written nums f h
-card_kind_in written (c.Interval low high) f h = elim h [
-  | inl l ↦ in_left (spec.too_big low) (spec.wrong_end low high) f (too_big_in low f l.0 l.1)
-  | inr r ↦ in_right (spec.too_big low) (spec.wrong_end low high) f (wrong_end_in low high f r.0 r.1)
-]
-card_kind_in written other f h = h
-
-in_card : (written : Card) (f : Fault) → In (spec.card_faults written) f → CardOffends written written.kind f
+card_is : (written : Card) → Lists (spec.card_faults written) (CardOffends written written.kind)
 unfolding spec.card_faults
-in_card written f h = in_card_kind written written.kind f h
-
-card_in : (written : Card) (f : Fault) → CardOffends written written.kind f → In (spec.card_faults written) f
-unfolding spec.card_faults
-card_in written f h = card_kind_in written written.kind f h
+card_is written = card_kind_is written written.kind
 
 -- ---- keys that stand twice
 
@@ -130,108 +95,56 @@ Again all f = (before : List Name) × ((name : Name) × ((after : List Name) × 
 again : (all front names : List Name) → all ≡ front ++ names → (f : Fault) → In (spec.all_twice front names) f → Again all f
 again all front [] e f h = absurd h
 again all front (name ∷ names) e f h = elim (in_append (spec.twice front name) (spec.all_twice (front ++ name ∷ []) names) f h) [
-  | inl now ↦ (front, (name, (names, (e, in_twice front name f now))))
+  | inl now ↦ (front, (name, (names, (e, (twice_is front name).sound f now))))
   | inr later ↦ again all (front ++ name ∷ []) names (e ∙ sym (append_assoc front (name ∷ []) names)) f later
 ]
 
 again_in : (front before : List Name) (name : Name) (after : List Name) (f : Fault) → In (spec.texts_of (front ++ before)) name.text → f ≡ fault_at causes.Twice name.span.start → In (spec.all_twice front (before ++ name ∷ after)) f
 again_in front [] name after f among is =
-    in_left (spec.twice front name) (spec.all_twice (front ++ name ∷ []) after) f (twice_in front name f (subst (λ xs. In (spec.texts_of xs) name.text) (append-nil front) among) is)
+    in_left (spec.twice front name) (spec.all_twice (front ++ name ∷ []) after) f ((twice_is front name).complete f (subst (λ xs. In (spec.texts_of xs) name.text) (append-nil front) among, is))
 again_in front (x ∷ before) name after f among is =
     in_right (spec.twice front x) (spec.all_twice (front ++ x ∷ []) (before ++ name ∷ after)) f
     (again_in (front ++ x ∷ []) before name after f (subst (λ xs. In (spec.texts_of xs) name.text) (sym (append_assoc front (x ∷ []) before)) among) is)
 
 -- ---- the term itself
 
-module _ (s : Shape) (t : Term) (f : Fault) where
-  abbrev of_form : List Fault
-  of_form = if has_form s t then [] else fault_at causes.WrongKind t.span.start ∷ []
+swapped : {V W X Y Z : Type 0} → V ⊎ (W ⊎ (X ⊎ (Y ⊎ Z))) → V ⊎ (W ⊎ (Y ⊎ (X ⊎ Z)))
+swapped (inl v) = inl v
+swapped (inr (inl w)) = inr (inl w)
+swapped (inr (inr (inl x))) = inr (inr (inr (inl x)))
+swapped (inr (inr (inr (inl y)))) = inr (inr (inl y))
+swapped (inr (inr (inr (inr z)))) = inr (inr (inr (inr z)))
 
-  abbrev of_constants : List Fault
-  of_constants = asked_faults (asked s t)
+module _ (s : Shape) (t : Term) where
+  form_is : Lists (if has_form s t then [] else fault_at causes.WrongKind t.span.start ∷ []) (IsWrongKind s t)
+  form_is = lists_as (lists_unless (has_form s t) (fault_at causes.WrongKind t.span.start)) (λ f. (λ e. record { form = e.0; fault = sym e.1 }, λ r. (r.form, sym r.fault)))
 
-  abbrev of_names : List Fault
-  of_names = spec.all_missing causes.UnknownName (known_fields s) (field_keys s t)
+  constants_are : Lists (asked_faults (asked s t)) (IsNotMember s t)
+  constants_are = lists_as
+      (lists_each (λ (one : Asked). spec.missing causes.NotMember one.0 one.1) (λ one f. (In one.0 one.1.text → ⊥) × (f ≡ fault_at causes.NotMember one.1.span.start)) (asked s t) (λ one i. missing_is causes.NotMember one.0 one.1))
+      (λ f. (λ k. record { texts = k.0.0; name = k.0.1; stands = k.1.0; missing = k.1.1.0; fault = k.1.1.1 }, λ r. ((r.texts, r.name), (r.stands, (r.missing, r.fault)))))
 
-  abbrev of_keys : List Fault
-  of_keys = spec.all_twice [] (keys s t)
+  names_are : Lists (spec.all_missing causes.UnknownName (known_fields s) (field_keys s t)) (IsUnknownField s t)
+  names_are = lists_as
+      (lists_each (spec.missing causes.UnknownName (known_fields s)) (λ name f. (In (known_fields s) name.text → ⊥) × (f ≡ fault_at causes.UnknownName name.span.start)) (field_keys s t) (λ name i. missing_is causes.UnknownName (known_fields s) name))
+      (λ f. (λ k. record { name = k.0; stands = k.1.0; missing = k.1.1.0; fault = k.1.1.1 }, λ r. (r.name, (r.stands, (r.missing, r.fault)))))
 
-  abbrev of_cards : List Fault
-  of_cards = flat_map spec.card_faults (cards s t)
+  keys_are : Lists (spec.all_twice [] (keys s t)) (IsTwice s t)
+  keys_are = record {
+    sound = λ f h.
+        let k = again (keys s t) [] (keys s t) refl f h in
+        record { before = k.0; name = k.1.0; after = k.1.1.0; parts = k.1.1.1.0; earlier = k.1.1.1.1.0; fault = k.1.1.1.1.1 };
+    complete = λ f r. subst (λ ks. In (spec.all_twice [] ks) f) (sym r.parts) (again_in [] r.before r.name r.after f r.earlier r.fault);
+  }
 
-  constants_sound : In of_constants f → IsNotMember s t f
-  constants_sound h =
-      let k = in_flat_map (λ (one : Asked). spec.missing causes.NotMember one.0 one.1) (asked s t) f h in
-      let e = in_missing causes.NotMember k.0.0 k.0.1 f k.1.1 in
-      record { texts = k.0.0; name = k.0.1; stands = k.1.0; missing = e.0; fault = e.1 }
+  cards_are : Lists (flat_map spec.card_faults (cards s t)) (IsOutOfRange s t)
+  cards_are = lists_as (lists_each spec.card_faults (λ card f. CardOffends card card.kind f) (cards s t) (λ card i. card_is card)) (λ f. (
+    λ k. record { card = k.0; stands = k.1.0; offends = k.1.1 },
+    λ r. (r.card, (r.stands, r.offends)),
+  ))
 
-  names_sound : In of_names f → IsUnknownField s t f
-  names_sound h =
-      let k = in_flat_map (spec.missing causes.UnknownName (known_fields s)) (field_keys s t) f h in
-      let e = in_missing causes.UnknownName (known_fields s) k.0 f k.1.1 in
-      record { name = k.0; stands = k.1.0; missing = e.0; fault = e.1 }
-
-  keys_sound : In of_keys f → IsTwice s t f
-  keys_sound h =
-      let k = again (keys s t) [] (keys s t) refl f h in
-      record { before = k.0; name = k.1.0; after = k.1.1.0; parts = k.1.1.1.0; earlier = k.1.1.1.1.0; fault = k.1.1.1.1.1 }
-
-  cards_sound : In of_cards f → IsOutOfRange s t f
-  cards_sound h =
-      let k = in_flat_map spec.card_faults (cards s t) f h in
-      record { card = k.0; stands = k.1.0; offends = in_card k.0 f k.1.1 }
-
-  form_sound : In of_form f → IsWrongKind s t f
-  form_sound h =
-      let e = in_unless (has_form s t) (fault_at causes.WrongKind t.span.start) f h in
-      record { form = e.0; fault = sym e.1 }
-
-  here_sound : In (here s t) f → OffendsHere s t f
-  here_sound h = elim (in_append of_form (of_constants ++ (of_names ++ (of_keys ++ of_cards))) f h) [
-    | inl a ↦ inl (form_sound a)
-    | inr b ↦ elim (in_append of_constants (of_names ++ (of_keys ++ of_cards)) f b) [
-      | inl a ↦ inr (inl (constants_sound a))
-      | inr b ↦ elim (in_append of_names (of_keys ++ of_cards) f b) [
-        | inl a ↦ inr (inr (inr (inl (names_sound a))))
-        | inr b ↦ elim (in_append of_keys of_cards f b) [
-          | inl a ↦ inr (inr (inl (keys_sound a)))
-          | inr b ↦ inr (inr (inr (inr (cards_sound b))))
-        ]
-      ]
-    ]
-  ]
-
-  form_complete : IsWrongKind s t f → In of_form f
-  form_complete r = unless_in (has_form s t) (fault_at causes.WrongKind t.span.start) f r.form (sym r.fault)
-
-  constants_complete : IsNotMember s t f → In of_constants f
-  constants_complete r =
-      flat_map_in (λ (one : Asked). spec.missing causes.NotMember one.0 one.1) (asked s t) (r.texts, r.name) f r.stands (missing_in causes.NotMember r.texts r.name f r.missing r.fault)
-
-  names_complete : IsUnknownField s t f → In of_names f
-  names_complete r =
-      flat_map_in (spec.missing causes.UnknownName (known_fields s)) (field_keys s t) r.name f r.stands (missing_in causes.UnknownName (known_fields s) r.name f r.missing r.fault)
-
-  keys_complete : IsTwice s t f → In of_keys f
-  keys_complete r = subst (λ ks. In (spec.all_twice [] ks) f) (sym r.parts) (again_in [] r.before r.name r.after f r.earlier r.fault)
-
-  cards_complete : IsOutOfRange s t f → In of_cards f
-  cards_complete r = flat_map_in spec.card_faults (cards s t) r.card f r.stands (card_in r.card f r.offends)
-
-  here_complete : OffendsHere s t f → In (here s t) f
-  here_complete h = elim h [
-    | inl a ↦ in_left of_form (of_constants ++ (of_names ++ (of_keys ++ of_cards))) f (form_complete a)
-    | inr b ↦ in_right of_form (of_constants ++ (of_names ++ (of_keys ++ of_cards))) f (elim b [
-      | inl a ↦ in_left of_constants (of_names ++ (of_keys ++ of_cards)) f (constants_complete a)
-      | inr b ↦ in_right of_constants (of_names ++ (of_keys ++ of_cards)) f (elim b [
-        | inl a ↦ in_right of_names (of_keys ++ of_cards) f (in_left of_keys of_cards f (keys_complete a))
-        | inr b ↦ elim b [
-          | inl a ↦ in_left of_names (of_keys ++ of_cards) f (names_complete a)
-          | inr b ↦ in_right of_names (of_keys ++ of_cards) f (in_right of_keys of_cards f (cards_complete b))
-        ]
-      ])
-    ])
-  ]
+  here_is : Lists (here s t) (OffendsHere s t)
+  here_is = lists_as (lists_both form_is (lists_both constants_are (lists_both names_are (lists_both keys_are cards_are)))) (λ f. (λ h. swapped h, λ h. swapped h))
 
 -- ---- the list of each type is that of the rules
 
@@ -347,71 +260,40 @@ record_by known inside t (Some pairs) =
 
 -- ---- all offences
 
-seen_in : (rule : Term → List Fault) (P : Term → Type 0) (f : Fault) → ((t : Term) → In (rule t) f → P t) → (o : Option Term) → In (spec.of_seen o rule) f → OfSeen o P
-seen_in rule P f each None h = h
-seen_in rule P f each (Some t) h = each t h
-
-in_seen : (rule : Term → List Fault) (P : Term → Type 0) (f : Fault) → ((t : Term) → P t → In (rule t) f) → (o : Option Term) → OfSeen o P → In (spec.of_seen o rule) f
-in_seen rule P f each None h = h
-in_seen rule P f each (Some t) h = each t h
+seen_is : (rule : Term → List Fault) (P : Term → Fault → Type 0) → ((t : Term) → Lists (rule t) (P t)) → (o : Option Term) → Lists (spec.of_seen o rule) (λ f. OfSeen o (λ t. P t f))
+seen_is rule P each None = lists_none
+seen_is rule P each (Some t) = each t
 
 abbrev of_field : Look → List ℕ → Shape → Fields → Name × Term → Bool → List Fault
 of_field look name u fs pair b = if b then spec.faults look u pair.1 else spec.field_faults look fs pair
 
 mutual
-  sound : (look : Look) (s : Shape) (t : Term) (f : Fault) → In (spec.faults_in look s t) f → OffendsIn look s t f
-  sound look (mapping k u) t f h =
+  told : (look : Look) (s : Shape) (t : Term) → Lists (spec.faults_in look s t) (OffendsIn look s t)
+  told look (mapping k u) t =
       let inside = λ (pair : Name × Term). spec.faults look u pair.1 in
-      let pairs = all_told (pairs_of t) in
-      elim (in_append (here (mapping k u) t) (flat_map inside pairs) f (subst (λ xs. In xs f) (mapping_by (d.constants k) inside t (pairs_of t)) h)) [
-        | inl a ↦ inl (here_sound (mapping k u) t f a)
-        | inr b ↦ inr (let one = in_flat_map inside pairs f b in (one.0, (one.1.0, seen_in (spec.faults_in look u) (λ w. OffendsIn look u w f) f (λ w. sound look u w f) (look one.0.1) one.1.1)))
-      ]
-  sound look (fields fs) t f h =
+      subst (λ xs. Lists xs (OffendsIn look (mapping k u) t)) (sym (mapping_by (d.constants k) inside t (pairs_of t)))
+      (lists_both (here_is (mapping k u) t) (lists_each inside (λ pair f. OfSeen (look pair.1) (λ w. OffendsIn look u w f)) (all_told (pairs_of t))
+      (λ pair i. seen_is (spec.faults_in look u) (λ w f. OffendsIn look u w f) (λ w. told look u w) (look pair.1))))
+  told look (fields fs) t =
       let inside = λ (pair : Name × Term). spec.field_faults look fs pair in
-      let pairs = all_told (pairs_of t) in
-      elim (in_append (here (fields fs) t) (flat_map inside pairs) f (subst (λ xs. In xs f) (record_by (names_of fs) inside t (pairs_of t)) h)) [
-        | inl a ↦ inl (here_sound (fields fs) t f a)
-        | inr b ↦ inr (let one = in_flat_map inside pairs f b in (one.0, (one.1.0, field_sound look fs one.0 f one.1.1)))
-      ]
-  sound look s t f h = here_sound s t f (subst (λ xs. In xs f) (plain_same look s t tt) h)
+      subst (λ xs. Lists xs (OffendsIn look (fields fs) t)) (sym (record_by (names_of fs) inside t (pairs_of t)))
+      (lists_both (here_is (fields fs) t) (lists_each inside (λ pair f. OffendsUnder look fs pair f) (all_told (pairs_of t)) (λ pair i. under look fs pair)))
+  told look s t = subst (λ xs. Lists xs (OffendsIn look s t)) (sym (plain_same look s t tt)) (here_is s t)
 
-  field_sound : (look : Look) (fs : Fields) (pair : Name × Term) (f : Fault) → In (spec.field_faults look fs pair) f → OffendsUnder look fs pair f
-  field_sound look no_field pair f h = h
-  field_sound look (field_then name u fs) pair f h =
-      elim (bytes_eq name pair.0.text) as (λ b. bytes_eq name pair.0.text ≡ b → In (of_field look name u fs pair b) f → OffendsUnder look (field_then name u fs) pair f) [
-        | true ↦ λ is k. inl (same_text name pair.0.text is, seen_in (spec.faults_in look u) (λ w. OffendsIn look u w f) f (λ w. sound look u w f) (look pair.1) k)
-        | false ↦ λ is k. inr ((λ e. true≢false (sym (is_same name pair.0.text e) ∙ is)), field_sound look fs pair f k)
-      ] refl h
-
-mutual
-  complete : (look : Look) (s : Shape) (t : Term) (f : Fault) → OffendsIn look s t f → In (spec.faults_in look s t) f
-  complete look (mapping k u) t f h =
-      let inside = λ (pair : Name × Term). spec.faults look u pair.1 in
-      let pairs = all_told (pairs_of t) in
-      subst (λ xs. In xs f) (sym (mapping_by (d.constants k) inside t (pairs_of t))) (elim h [
-        | inl a ↦ in_left (here (mapping k u) t) (flat_map inside pairs) f (here_complete (mapping k u) t f a)
-        | inr b ↦ in_right (here (mapping k u) t) (flat_map inside pairs) f (flat_map_in inside pairs b.0 f b.1.0 (in_seen (spec.faults_in look u) (λ w. OffendsIn look u w f) f (λ w. complete look u w f) (look b.0.1) b.1.1))
-      ])
-  complete look (fields fs) t f h =
-      let inside = λ (pair : Name × Term). spec.field_faults look fs pair in
-      let pairs = all_told (pairs_of t) in
-      subst (λ xs. In xs f) (sym (record_by (names_of fs) inside t (pairs_of t))) (elim h [
-        | inl a ↦ in_left (here (fields fs) t) (flat_map inside pairs) f (here_complete (fields fs) t f a)
-        | inr b ↦ in_right (here (fields fs) t) (flat_map inside pairs) f (flat_map_in inside pairs b.0 f b.1.0 (field_complete look fs b.0 f b.1.1))
-      ])
-  complete look s t f h = subst (λ xs. In xs f) (sym (plain_same look s t tt)) (here_complete s t f h)
-
-  field_complete : (look : Look) (fs : Fields) (pair : Name × Term) (f : Fault) → OffendsUnder look fs pair f → In (spec.field_faults look fs pair) f
-  field_complete look no_field pair f h = h
-  field_complete look (field_then name u fs) pair f h = elim h [
-    | inl a ↦ subst (λ b. In (of_field look name u fs pair b) f) (sym (is_same name pair.0.text a.0)) (in_seen (spec.faults_in look u) (λ w. OffendsIn look u w f) f (λ w. complete look u w f) (look pair.1) a.1)
-    | inr b ↦ subst (λ c. In (of_field look name u fs pair c) f) (sym (false_from_ne_true (bytes_eq name pair.0.text) (λ e. b.0 (same_text name pair.0.text e)))) (field_complete look fs pair f b.1)
-  ]
+  under : (look : Look) (fs : Fields) (pair : Name × Term) → Lists (spec.field_faults look fs pair) (OffendsUnder look fs pair)
+  under look no_field pair = lists_none
+  under look (field_then name u fs) pair =
+      elim (bytes_eq name pair.0.text) as (λ b. bytes_eq name pair.0.text ≡ b → Lists (of_field look name u fs pair b) (OffendsUnder look (field_then name u fs) pair)) [
+        | true ↦ λ is. lists_as (seen_is (spec.faults_in look u) (λ w f. OffendsIn look u w f) (λ w. told look u w) (look pair.1)) (λ f. (
+          λ k. inl (same_text name pair.0.text is, k),
+          λ h. elim h [ inl a ↦ a.1 | inr b ↦ absurd (b.0 (same_text name pair.0.text is)) ],
+        ))
+        | false ↦ λ is. lists_as (under look fs pair) (λ f. (
+          λ k. inr ((λ e. true≢false (sym (is_same name pair.0.text e) ∙ is)), k),
+          λ h. elim h [ inl a ↦ absurd (true≢false (sym (is_same name pair.0.text a.0) ∙ is)) | inr b ↦ b.1 ],
+        ))
+      ] refl
 
 pub law : (look : Look) (s : Shape) (t : Term) (found : Option Fault) → found ≡ first (spec.faults look s t) → Tells (OffendsBy look s t) found
 law look s t found is =
-    subst (Tells (OffendsBy look s t)) (sym is) (tells_as (In (spec.faults look s t)) (OffendsBy look s t)
-    (λ f. seen_in (spec.faults_in look s) (λ w. OffendsIn look s w f) f (λ w. sound look s w f) (look t))
-    (λ f. in_seen (spec.faults_in look s) (λ w. OffendsIn look s w f) f (λ w. complete look s w f) (look t))
-    (first (spec.faults look s t)) (first-tells (spec.faults look s t)))
+    subst (Tells (OffendsBy look s t)) (sym is) (lists_tell (spec.faults look s t) (seen_is (spec.faults_in look s) (λ w f. OffendsIn look s w f) (λ w. told look s w) (look t)))

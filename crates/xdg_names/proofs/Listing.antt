@@ -1,0 +1,44 @@
+-- Lists in which exactly that stands of which something holds, put together part by part.
+use Rattle.std.proofs.Common.{◌≡◌, ◌⊎◌, ◌↔◌, inl, inr, Bool, true, false, List, [], ◌∷◌, ◌++◌}
+use Rattle.std.specs.Prelude.{if◌then◌else◌}
+use Rattle.std.specs.List.{flat_map}
+use Rattle.xdg_base.specs.declared.faults.Fault.{Fault}
+use Rattle.xdg_names.specs.First.{Tells, first}
+use Rattle.xdg_names.proofs.First.{tells_as, first-tells}
+use Rattle.xdg_facts.specs.Membership.{In}
+use Rattle.xdg_facts.proofs.In.{in_append, in_left, in_right, in_flat_map, flat_map_in, in_unless, unless_in, in_when, when_in}
+
+-- what stands in the list is what P holds of
+pub record Lists {A : Type 0} (xs : List A) (P : A → Type 0) : Type 0 where
+  pub sound : (x : A) → In xs x → P x
+  pub complete : (x : A) → P x → In xs x
+
+pub lists_none : {A : Type 0} → Lists {A = A} [] (λ x. ⊥)
+lists_none = record { sound = λ x h. h; complete = λ x h. h }
+
+pub lists_as : {A : Type 0} {xs : List A} {P Q : A → Type 0} → Lists xs P → ((x : A) → P x ↔ Q x) → Lists xs Q
+lists_as h same = record { sound = λ x i. (same x).0 (h.sound x i); complete = λ x q. h.complete x ((same x).1 q) }
+
+pub lists_both : {A : Type 0} {xs ys : List A} {P Q : A → Type 0} → Lists xs P → Lists ys Q → Lists (xs ++ ys) (λ x. P x ⊎ Q x)
+lists_both {A} {xs} {ys} {P} {Q} h k = record {
+  sound = λ x i. elim (in_append xs ys x i) [ inl l ↦ inl (h.sound x l) | inr r ↦ inr (k.sound x r) ];
+  complete = λ x p. elim p [ inl l ↦ in_left xs ys x (h.complete x l) | inr r ↦ in_right xs ys x (k.complete x r) ];
+}
+
+-- a list for each element of another
+pub lists_each : {A B : Type 0} (g : B → List A) (P : B → A → Type 0) (bs : List B) → ((b : B) → In bs b → Lists (g b) (P b)) → Lists (flat_map g bs) (λ x. (b : B) × (In bs b × P b x))
+lists_each g P bs each = record {
+  sound = λ x i. (let k = in_flat_map g bs x i in (k.0, (k.1.0, (each k.0 k.1.0).sound x k.1.1)));
+  complete = λ x p. flat_map_in g bs p.0 x p.1.0 ((each p.0 p.1.0).complete x p.1.1);
+}
+
+-- a list of one, under a test
+pub lists_unless : {A : Type 0} (b : Bool) (y : A) → Lists (if b then [] else y ∷ []) (λ x. (b ≡ false) × (y ≡ x))
+lists_unless b y = record { sound = λ x i. in_unless b y x i; complete = λ x p. unless_in b y x p.0 p.1 }
+
+pub lists_when : {A : Type 0} (b : Bool) (y : A) → Lists (if b then y ∷ [] else []) (λ x. (b ≡ true) × (y ≡ x))
+lists_when b y = record { sound = λ x i. in_when b y x i; complete = λ x p. when_in b y x p.0 p.1 }
+
+-- the first of the list is the first fault of that kind
+pub lists_tell : {P : Fault → Type 0} (xs : List Fault) → Lists xs P → Tells P (first xs)
+lists_tell {P} xs h = tells_as (In xs) P h.sound h.complete (first xs) (first-tells xs)
