@@ -8,7 +8,8 @@ use Rattle.xdg_base.specs.declared.ids.EntryNo.{EntryNo}
 use Rattle.xdg_packed.specs.Lexicon.{words_of, numbers_of}
 use Rattle.xdg_problem.specs.declared.parts.SentenceWord.{SentenceWord}
 use Rattle.xdg_build.specs.Grammars.{Grammar}
-use Rattle.xdg_build.specs.Refusals.{unknown_or, first_unknown, too_many_or, refusal}
+use Rattle.xdg_base.specs.declared.faults.Cause.TheVariants as causes
+use Rattle.xdg_build.specs.Refusals.{unknown_or, first_unknown, most_words, too_many_or, refusal}
 
 -- the word has an entry
 abbrev pub IsKnown : Grammar → SentenceWord → Type 0
@@ -30,7 +31,7 @@ each_known g (word ∷ words) e =
     let here = has_entry word (numbers_of (words_of g.lexicon) word.text) (first_unknown g.lexicon words) e in
     All-cons (IsKnown g) word words here.0 (each_known g words here.1)
 
-none_too_many : (over : Option SentenceWord) (other : Option Fault) → too_many_or over other ≡ None → (over ≡ None) × (other ≡ None)
+none_too_many : (over : Option SentenceWord) (other : Option Fault) → too_many_or most_words causes.TooManyWords over other ≡ None → (over ≡ None) × (other ≡ None)
 none_too_many None other e = (refl, e)
 none_too_many (Some word) other e = cc
 

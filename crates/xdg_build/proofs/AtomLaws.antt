@@ -1,7 +1,8 @@
 -- What the atoms of a rule say, and the atoms of a formula that are made of them.
 use Rattle.xdg_build.proofs.Planned.{kept_at, attribute_right}
-use Rattle.std.proofs.Common.{◌≡◌, ◌↔◌, ℕ, zero, suc, ◌<◌, true, List, [], ◌∷◌, length, get_or, sym, ap, ◌∙◌, subst, arith}
-use Rattle.std.specs.Prelude.{◌==◌, Any, Contains, Some, slice_get, slice_index}
+use Rattle.std.proofs.Common.{◌≡◌, ◌↔◌, ℕ, ◌<◌, true, List, [], length, get_or, sym, ap, ◌∙◌, subst, arith}
+use Rattle.std.specs.Prelude.{◌==◌, Any, Contains, Some, option_map, slice_get, slice_index}
+use Rattle.std.proofs.lemmas.Option.{slice_get-map}
 use Rattle.std.proofs.lemmas.Bool.{eqb-true}
 use Rattle.std.proofs.lemmas.List.Elements.{All-contains, All-filter, filter_passes}
 use Rattle.xdg_ast.specs.declared.names.Name.{Name}
@@ -39,14 +40,10 @@ use Rattle.xdg_terms.proofs.Meant.{one_place}
 -- ---- what the table keeps
 
 pub typed_at : (all : List (List ℕ × Ty)) (i : ℕ) (name : List ℕ) (type : Ty) → slice_get all i ≡ Some (name, type) → slice_get (typed all) i ≡ Some (name, shape type)
-typed_at [] i name type h = absurd (cc)
-typed_at (one ∷ more) zero name type h = (let e : one ≡ (name, type) = cc in ap (λ (attr : List ℕ × Ty). Some (attr.0, shape attr.1)) e)
-typed_at (one ∷ more) (suc i) name type h = typed_at more i name type h
+typed_at all i name type h = slice_get-map (λ (one : List ℕ × Ty). (one.0, shape one.1)) all i ∙ ap (option_map (λ (one : List ℕ × Ty). (one.0, shape one.1))) h
 
 pub first_at : (all : List (List ℕ × Ty)) (i : ℕ) (name : List ℕ) (type : Ty) → slice_get all i ≡ Some (name, type) → slice_get (firsts all) i ≡ Some name
-first_at [] i name type h = absurd (cc)
-first_at (one ∷ more) zero name type h = (let e : one ≡ (name, type) = cc in ap (λ (attr : List ℕ × Ty). Some attr.0) e)
-first_at (one ∷ more) (suc i) name type h = first_at more i name type h
+first_at all i name type h = slice_get-map (λ (one : List ℕ × Ty). one.0) all i ∙ ap (option_map (λ (one : List ℕ × Ty). one.0)) h
 
 -- what a number stands for
 pub stands_for : (count : ℕ) (scope : List (List ℕ)) (b : Binding) (numbered : ℕ → ℕ) (n : ℕ) (name : List ℕ) → Agree count scope b numbered → IsAt scope n name → numbered n ≡ b name

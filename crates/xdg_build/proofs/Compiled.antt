@@ -2,7 +2,7 @@
 use Rattle.std.proofs.Common.{◌≡◌, ℕ, ◌<◌, ◌≤◌, ◌+◌, true, false, List, [], ◌∷◌, ◌++◌, length, get_or, map, take, length-append, refl, sym, ap, ap₂, ◌∙◌, subst, arith}
 use Rattle.std.specs.Prelude.{Result, IfOk}
 use Rattle.std.specs.List.{AllZip}
-use Rattle.std.proofs.lemmas.List.{length-map, take_all, take_more}
+use Rattle.std.proofs.lemmas.List.{length-map, take_all}
 use Rattle.std.proofs.lemmas.Result.{IfOk-weaker}
 use Rattle.xdg_base.specs.declared.places.Span.{Span}
 use Rattle.xdg_ast.specs.declared.names.Name.{Name}
@@ -32,7 +32,6 @@ use Rattle.xdg_build.specs.Signs.{denies}
 use Rattle.xdg_build.proofs.AtomLaws.{says_left, says_same}
 use Rattle.xdg_build.proofs.FormulaLaws.{SaysEach, says_none, says_then, says_conjunction, says_disjunction, says_even, says_odd, says_every, says_any}
 use Rattle.xdg_build.proofs.Rightly.{IsBindingRight, part_right}
-use Rattle.xdg_facts.proofs.Lists.{zip_more as zip_behind}
 use Rattle.xdg_names.specs.Texts.{has_text}
 
 -- ---- nothing is wrong with what stands inside
@@ -56,17 +55,6 @@ deeper text dims bound inner name t right few scoped =
     let long : length (map text inner) ≡ length (map text bound ++ name.text ∷ []) = ap length scoped in
     let room = right.room in
     omega (arith, long, length-append (map text bound) (name.text ∷ []), length-map inner text, length-map bound text, few, room)
-
--- ---- lists side by side
-
--- a turn of a loop
-pub zip_more : {A B : Type 0} (R : A → B → Type 0) (xs : List A) (i : ℕ) (ys now : List B) (x : A) (y : B) → i < length xs → x ≡ get_or xs i x → now ≡ ys ++ y ∷ [] → AllZip R (take i xs) ys → R x y → AllZip R (take (i + 1) xs) now
-zip_more R xs i ys now x y l is pushed zip last =
-    subst (AllZip R (take (i + 1) xs)) (sym pushed)
-    (subst (λ front. AllZip R front (ys ++ y ∷ [])) (ap (λ one. take i xs ++ one ∷ []) is ∙ sym (take_more xs i x l)) (zip_behind R (take i xs) ys x y zip last))
-
-pub zip_all : {A B : Type 0} (R : A → B → Type 0) (xs : List A) (i : ℕ) (ys : List B) → length xs ≤ i → AllZip R (take i xs) ys → AllZip R xs ys
-zip_all R xs i ys over zip = subst (λ front. AllZip R front ys) (take_all i xs over) zip
 
 -- ---- what is made says what was written
 

@@ -12,7 +12,8 @@ use Rattle.xdg_problem.specs.declared.forms.Sort.{Sort}
 use Rattle.xdg_problem.specs.declared.forms.Which.{Which}
 use Rattle.xdg_principles.specs.Settings.{at_place, labels_in, members_in}
 use Rattle.xdg_principles.specs.Typed.{IsTypedUse, number_of, labels_at, members_at}
-use Rattle.xdg_build.specs.Grammars.{is_used, used_place, place_of_used, no_dim}
+use Rattle.xdg_build.specs.Grammars.{is_used, used_place, place_of_used}
+use Rattle.xdg_formula.specs.Tables.{no_dim}
 use Rattle.xdg_facts.specs.Membership.{In}
 use Rattle.xdg_facts.proofs.In.{in_get}
 

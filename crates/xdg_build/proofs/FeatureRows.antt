@@ -14,7 +14,7 @@ use Rattle.xdg_domain.proofs.Keyed.{at_head, after_head, unsaid, said_right}
 use Rattle.xdg_terms.specs.Means.{chosen}
 use Rattle.xdg_principles.specs.Wanted.{IsSame, IsSetOf}
 use Rattle.xdg_build.specs.Features.{members_in, rows_in}
-use Rattle.xdg_build.proofs.TypeRows.{sizes_again, is_said}
+use Rattle.xdg_build.proofs.TypeRows.{sizes_again, sets, is_said}
 use Rattle.xdg_build.specs.Readings.{value_texts, IsMember, IsMemberAt, IsAllowedAt}
 use Rattle.xdg_build.proofs.Different.{same_tuple}
 use Rattle.xdg_facts.proofs.Options.{some_same}
@@ -109,26 +109,11 @@ element_small P (set s) h is = is
 element_small P (iset s) h is = is
 element_small P _ h is = absurd h
 
-pub member_names : (P : Shape → Type 0) (type : Shape) (v : Value-F Value) (texts : List (List ℕ)) → IsSetOf P type → IsIn type v → IsMember type v texts ↔ Names (element type) (members_in v) texts
-member_names P (set s) (Value-F.Set ns) texts h is = (λ m. m, λ m. m)
-member_names P (iset s) (Value-F.Set ns) texts h is = (λ m. m, λ m. m)
-member_names P (set s) _ texts h is = absurd is
-member_names P (iset s) _ texts h is = absurd is
-member_names P _ v texts h is = absurd h
+pub member_names : (P : Shape → Type 0) (texts : List (List ℕ)) (type : Shape) (v : Value-F Value) → IsSetOf P type → IsIn type v → IsMember type v texts ↔ Names (element type) (members_in v) texts
+member_names P texts = sets P (λ type v. IsMember type v texts ↔ Names (element type) (members_in v) texts) (λ s ns p h. ((λ m. m, λ m. m), (λ m. m, λ m. m)))
 
 pub members_below : (P : Shape → Type 0) (type : Shape) (v : Value-F Value) → IsSetOf P type → IsIn type v → AllBelow (count (element type)) (members_in v)
-members_below P (set s) (Value-F.Set ns) h is = is.1
-members_below P (iset s) (Value-F.Set ns) h is = is.1
-members_below P (set s) _ h is = absurd is
-members_below P (iset s) _ h is = absurd is
-members_below P _ v h is = absurd h
-
-pub set_row_is : (P : Shape → Type 0) (type : Shape) (v : Value-F Value) → IsSetOf P type → IsIn type v → get_or (rows_in v) 0 [] ≡ members_in v
-set_row_is P (set s) (Value-F.Set ns) h is = refl
-set_row_is P (iset s) (Value-F.Set ns) h is = refl
-set_row_is P (set s) _ h is = absurd is
-set_row_is P (iset s) _ h is = absurd is
-set_row_is P _ v h is = absurd h
+members_below P = sets P (λ type v. AllBelow (count (element type)) (members_in v)) (λ s ns p h. (h.1, h.1))
 
 -- ---- valencies
 
@@ -156,7 +141,7 @@ pub record IsMapRow (type : Shape) (v : Value-F Value) (keys : List (List ℕ)) 
 
 pub map_row_is : (P : Shape → Type 0) (keys : List (List ℕ)) (u : Shape) (v : Value-F Value) (l : ℕ) → IsSetOf P u → Differ keys → l < length keys → IsIn (mapping (domain keys) u) v → IsFilledIn (mapping (domain keys) u) v
     → IsMapRow (mapping (domain keys) u) v keys u l
-map_row_is P keys u (Value-F.Map m) l sets differ within is filled =
+map_row_is P keys u (Value-F.Map m) l sets_so differ within is filled =
     let row = keyed_row (λ (v : Value). members_in (out-Value v)) 0 (length keys) m l l is.0 (λ k above less none. is_said (λ v. IsFilledIn u (out-Value v)) (said_at m k) (filled k less) none) (omega arith) within in
     let right : (l < length keys) × IsIn u (out-Value row.0) = said_right (λ key v. (key < length keys) × IsIn u (out-Value v)) m l row.0 is.1 row.1 in
     record {
@@ -165,15 +150,15 @@ map_row_is P keys u (Value-F.Map m) l sets differ within is filled =
             let same : h.0 ≡ l = one_key keys h.0 l differ within h.2 in
             let value : h.1 ≡ row.0 = some_same h.1 row.0 (sym h.3 ∙ ap (said_at m) same ∙ row.1) in
             subst (λ (ns : List ℕ). Names (element u) ns texts) (sym row.2)
-            ((member_names P u (out-Value row.0) texts sets right.1).0 (subst (λ (x : Value). IsMember u (out-Value x) texts) value h.4)),
+            ((member_names P texts u (out-Value row.0) sets_so right.1).0 (subst (λ (x : Value). IsMember u (out-Value x) texts) value h.4)),
         λ n. (
           l,
           row.0,
           slice_get-get_or keys l [] within,
           row.1,
-          (member_names P u (out-Value row.0) texts sets right.1).1 (subst (λ (ns : List ℕ). Names (element u) ns texts) row.2 n),
+          (member_names P texts u (out-Value row.0) sets_so right.1).1 (subst (λ (ns : List ℕ). Names (element u) ns texts) row.2 n),
         ),
       );
-      below = subst (AllBelow (count (element u))) (sym row.2) (members_below P u (out-Value row.0) sets right.1);
+      below = subst (AllBelow (count (element u))) (sym row.2) (members_below P u (out-Value row.0) sets_so right.1);
     }
-map_row_is P keys u _ l sets differ within is filled = absurd is
+map_row_is P keys u _ l sets_so differ within is filled = absurd is

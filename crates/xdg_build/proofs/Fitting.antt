@@ -21,7 +21,8 @@ use Rattle.xdg_problem.specs.Vectors.{attr_sizes}
 use Rattle.xdg_problem.proofs.PlacePlans.{dim_within, plan_read}
 use Rattle.xdg_types.specs.declared.table.DimType.{DimType}
 use Rattle.xdg_types.specs.Table.{Typed, typed}
-use Rattle.xdg_build.specs.Grammars.{Grammar, no_dim, used_dims}
+use Rattle.xdg_build.specs.Grammars.{Grammar}
+use Rattle.xdg_formula.specs.Tables.{no_dim, used_dims}
 use Rattle.xdg_build.specs.Plans.{shown_as, attr_plans, plan_at, plans}
 use Rattle.xdg_build.specs.Compiled.{candidates_of, compiled}
 use Rattle.xdg_build.specs.Solutions.{IsEntryOf, all_value_counts, IsEdge, IsAnalysisOf}

@@ -1,8 +1,7 @@
 -- A compiled sentence keeps the solutions of the grammar.
-use Rattle.std.proofs.Common.{◌≡◌, ◌<◌, Bool, true, cond, None, List, [], ◌∷◌, map, refl, sym, subst, inl, inr, All}
-use Rattle.std.specs.Prelude.{◌↔◌, filter, get_or}
+use Rattle.std.proofs.Common.{◌≡◌, ◌<◌, None, List, [], ◌∷◌, map, refl, sym, subst, inl, inr, All}
+use Rattle.std.specs.Prelude.{◌↔◌, get_or}
 use Rattle.std.specs.List.{AllZip}
-use Rattle.std.proofs.lemmas.Bool.{cases_Bool}
 use Rattle.std.proofs.lemmas.List.{get_or-map, length-map}
 use Rattle.std.proofs.lemmas.List.Elements.{All-map}
 use Rattle.xdg_problem.specs.declared.analysis.Analysis.{Analysis}
@@ -27,7 +26,9 @@ use Rattle.xdg_build.specs.Refusals.{refusal}
 use Rattle.xdg_build.specs.Solutions.{IsSolutionOf, KeepsSolutions}
 use Rattle.xdg_build.proofs.Admitted.{IsAdmitted, is_admitted}
 use Rattle.xdg_build.proofs.Fitting.{same_analyses}
-use Rattle.xdg_build.proofs.Satisfied.{Given, satisfied_same}
+use Rattle.xdg_build.proofs.Lists.{in_filter}
+use Rattle.xdg_build.proofs.Satisfied.{satisfied_same}
+use Rattle.xdg_build.proofs.Told.{Given}
 use Rattle.xdg_facts.specs.Membership.{In}
 use Rattle.xdg_facts.proofs.In.{in_get}
 
@@ -42,23 +43,6 @@ unmapped P f xs all k d within = subst P (get_or-map f xs k d (f d) within) (all
 
 along : {A : Type 0} (P Q : A → Type 0) (xs : List A) → ((x : A) → In xs x → P x → Q x) → All P xs → All Q xs
 along P Q xs h all k d within = h (get_or xs k d) (in_get xs k d within) (all k d within)
-
-in_filter : {A : Type 0} (p : A → Bool) (xs : List A) (x : A) → In (filter p xs) x → In xs x × (p x ≡ true)
-in_filter p [] x h = absurd h
-in_filter p (y ∷ ys) x h = elim (cases_Bool (p y)) [
-  | inl t ↦ (
-      let one : In (y ∷ filter p ys) x = subst (λ b. In (cond b (y ∷ filter p ys) (filter p ys)) x) t h in
-      elim one [
-        | inl e ↦ (inl e, subst (λ z. p z ≡ true) e t)
-        | inr r ↦ (let more = in_filter p ys x r in (inr more.0, more.1))
-      ]
-      )
-  | inr f ↦ (
-      let one : In (filter p ys) x = subst (λ b. In (cond b (y ∷ filter p ys) (filter p ys)) x) f h in
-      let more = in_filter p ys x one in
-      (inr more.0, more.1)
-      )
-]
 
 -- ---- solutions
 

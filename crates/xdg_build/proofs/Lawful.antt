@@ -18,7 +18,8 @@ use Rattle.xdg_problem.specs.Arguments.{no_plan, no_attr, value_count}
 use Rattle.xdg_problem.specs.Problems.{AreCandidates, IsGroup, IsProblem}
 use Rattle.xdg_types.specs.declared.table.DimType.{DimType}
 use Rattle.xdg_types.specs.Table.{typed, IsTable}
-use Rattle.xdg_build.specs.Grammars.{Grammar, no_dim}
+use Rattle.xdg_build.specs.Grammars.{Grammar}
+use Rattle.xdg_formula.specs.Tables.{no_dim}
 use Rattle.xdg_build.specs.Suits.{Suits}
 use Rattle.xdg_build.specs.Plans.{shown_as, attr_plan, dim_plan, plan_at, plans}
 use Rattle.xdg_build.specs.Compiled.{candidates_of}

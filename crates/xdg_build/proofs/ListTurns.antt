@@ -1,13 +1,13 @@
 -- Turns of loops over lists.
-use Rattle.std.proofs.Common.{◌≡◌, ℕ, suc, ◌<◌, ◌+◌, Bool, true, false, cond, List, [], ◌∷◌, ◌++◌, length, get_or, map, take, drop, ap, sym, ◌∙◌, arith, eq-eqb}
+use Rattle.std.proofs.Common.{◌≡◌, ℕ, suc, ◌<◌, ◌≤◌, ◌+◌, Bool, true, false, cond, List, [], ◌∷◌, ◌++◌, length, get_or, map, take, drop, ap, sym, ◌∙◌, subst, arith, eq-eqb}
 use Rattle.std.specs.Prelude.{◌==◌, filter, flat_map}
-use Rattle.std.specs.List.{list_any}
+use Rattle.std.specs.List.{AllZip, list_any}
 use Rattle.std.proofs.lemmas.Bool.{ne_eqb, cond-true, cond-false}
-use Rattle.std.proofs.lemmas.List.{append_assoc, flat_map_more, take_more}
+use Rattle.std.proofs.lemmas.List.{append_assoc, flat_map_more, take_all, take_more}
 use Rattle.std.proofs.Math.Seq.{drop-cons}
 use Rattle.xdg_types.specs.Table.{Table}
 use Rattle.xdg_build.specs.Grammars.{place_of_used, is_used}
-use Rattle.xdg_facts.proofs.Lists.{from_place}
+use Rattle.xdg_facts.proofs.Lists.{from_place, zip_more as zip_behind}
 
 -- ---- lists of lists
 
@@ -48,3 +48,14 @@ kept f p xs i x now after whole within is passes grown so_far =
 -- whether a dimension is used, as the code asks
 pub used_told : (used : List ℕ) (lent types : Table) (home : ℕ) (b : Bool) → used ≡ lent.used → lent ≡ types → b ≡ list_any (λ one. one == home) used → b ≡ is_used types home
 used_told used lent types home b same types_same is = is ∙ ap (λ us. list_any (λ one. one == home) us) (same ∙ ap (λ (t : Table). t.used) types_same)
+
+-- ---- lists side by side
+
+-- a turn of a loop
+pub zip_more : {A B : Type 0} (R : A → B → Type 0) (xs : List A) (i : ℕ) (ys now : List B) (x : A) (y : B) → i < length xs → x ≡ get_or xs i x → now ≡ ys ++ y ∷ [] → AllZip R (take i xs) ys → R x y → AllZip R (take (i + 1) xs) now
+zip_more R xs i ys now x y l is pushed zip last =
+    subst (AllZip R (take (i + 1) xs)) (sym pushed)
+    (subst (λ front. AllZip R front (ys ++ y ∷ [])) (ap (λ one. take i xs ++ one ∷ []) is ∙ sym (take_more xs i x l)) (zip_behind R (take i xs) ys x y zip last))
+
+pub zip_all : {A B : Type 0} (R : A → B → Type 0) (xs : List A) (i : ℕ) (ys : List B) → length xs ≤ i → AllZip R (take i xs) ys → AllZip R xs ys
+zip_all R xs i ys over zip = subst (λ front. AllZip R front ys) (take_all i xs over) zip

@@ -1,9 +1,10 @@
 -- The compiled dimensions are dimensions of a problem.
-use Rattle.xdg_facts.proofs.In.{in_get}
 use Rattle.std.proofs.Common.{◌≡◌, ℕ, ◌<◌, ◌≤◌, zero, suc, List, [], ◌∷◌, length, get_or, map, refl, sym, ap, ◌∙◌, subst, arith, All, Some}
 use Rattle.std.specs.Prelude.{◌≢◌, slice_get}
 use Rattle.std.specs.List.{AllPairs, range_with_len}
 use Rattle.std.proofs.lemmas.List.{get_or-map, length-map}
+use Rattle.std.proofs.lemmas.Option.{slice_get-get_or}
+use Rattle.xdg_facts.proofs.In.{differ_once}
 use Rattle.std.proofs.lemmas.List.Elements.{All-nil, All-cons, All-map}
 use Rattle.std.proofs.lemmas.List.FromFn.{length-map-range_with_len, get_or-map-range_with_len}
 use Rattle.xdg_domain.specs.declared.types.Ty.{Ty}
@@ -13,10 +14,11 @@ use Rattle.xdg_problem.specs.declared.parts.DimPlan.{DimPlan}
 use Rattle.xdg_problem.specs.Problems.{HasConstant, IsAttr, IsDim}
 use Rattle.xdg_types.specs.declared.table.DimType.{DimType}
 use Rattle.xdg_types.specs.Table.{Typed, typed, firsts, AreAttributes, KeepsDim, KeepDims, ArePlaces, IsTable, AreFeatures}
-use Rattle.xdg_build.specs.Grammars.{Grammar, no_dim}
+use Rattle.xdg_build.specs.Grammars.{Grammar}
+use Rattle.xdg_formula.specs.Tables.{no_dim}
 use Rattle.xdg_build.specs.Plans.{shown_as, attr_plan, attr_plans, dim_plan, plan_at, plans}
 use Rattle.xdg_build.proofs.Different.{differ_by, differ_all, same_tuple, some_text}
-use Rattle.xdg_facts.specs.Membership.{In, Differ}
+use Rattle.xdg_facts.specs.Membership.{Differ}
 use Rattle.xdg_terms.proofs.Meant.{one_place}
 use Rattle.xdg_formula.proofs.Turns.{place_within}
 
@@ -94,11 +96,13 @@ kept_at [] k h within = absurd (omega (arith, within))
 kept_at (dim ∷ dims) zero h within = h.0
 kept_at (dim ∷ dims) (suc k) h within = kept_at dims k h.1 (omega (arith, within))
 
-places_differ : (bound : ℕ) (ks : List ℕ) (i j d : ℕ) → ArePlaces bound ks → i < j → j < length ks → get_or ks i d ≢ get_or ks j d
-places_differ bound [] i j d h before within e = omega (arith, within)
-places_differ bound (k ∷ ks) i zero d h before within e = omega (arith, before)
-places_differ bound (k ∷ ks) zero (suc j) d h before within e = h.0.1 (subst (In ks) (sym e) (in_get ks j d (omega (arith, within))))
-places_differ bound (k ∷ ks) (suc i) (suc j) d h before within e = places_differ bound ks i j d h.1 (omega (arith, before)) (omega (arith, within)) e
+-- no place stands twice
+apart : (bound : ℕ) (ks : List ℕ) → ArePlaces bound ks → Differ ks
+apart bound [] h = tt
+apart bound (k ∷ ks) h = (h.0.1, apart bound ks h.1)
+
+pub places_once : (bound : ℕ) (ks : List ℕ) (i j : ℕ) → ArePlaces bound ks → i < length ks → j < length ks → get_or ks i 0 ≡ get_or ks j 0 → i ≡ j
+places_once bound ks i j h l m e = differ_once ks i j (get_or ks i 0) (apart bound ks h) (slice_get-get_or ks i 0 l) (slice_get-get_or ks j 0 m ∙ ap (λ (k : ℕ). Some k) (sym e))
 
 module _ (g : Grammar) (right : IsTable g.table) where
   abbrev at : ℕ → DimPlan
@@ -123,7 +127,7 @@ module _ (g : Grammar) (right : IsTable g.table) where
       let names : (at one).name ≡ (at two).name = ap (λ (plan : DimPlan). plan.name) (sym here) ∙ e ∙ ap (λ (plan : DimPlan). plan.name) there in
       let long : length (map (λ (dim : DimType). dim.name) g.table.dims) ≡ length g.table.dims = length-map g.table.dims (λ (dim : DimType). dim.name) in
       let same : one ≡ two = one_place (map (λ (dim : DimType). dim.name) g.table.dims) one two right.names (subst (λ n. one < n) (sym long) one_in) (subst (λ n. two < n) (sym long) two_in) (name_at one one_in ∙ names ∙ sym (name_at two two_in)) in
-      places_differ (length g.table.dims) g.table.used i j 0 right.used before inside same
+      omega (arith, before, places_once (length g.table.dims) g.table.used i j right.used earlier inside same)
 
   pub dims_are : All IsDim (plans g)
   dims_are = All-map IsDim at g.table.used (λ i d within.

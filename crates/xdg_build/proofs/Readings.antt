@@ -24,7 +24,8 @@ use Rattle.xdg_problem.specs.Vectors.{attr_sizes}
 use Rattle.xdg_problem.proofs.Counted.{length_attrs_of}
 use Rattle.xdg_types.specs.declared.table.DimType.{DimType}
 use Rattle.xdg_types.specs.Table.{typed, ArePlaces}
-use Rattle.xdg_build.specs.Grammars.{Grammar, no_dim, place_of_used, used_place, used_dims}
+use Rattle.xdg_build.specs.Grammars.{Grammar, place_of_used, used_place}
+use Rattle.xdg_formula.specs.Tables.{no_dim, used_dims}
 use Rattle.xdg_build.proofs.Dimensions.{used_at, used_below}
 use Rattle.xdg_build.specs.Compiled.{compiled}
 use Rattle.xdg_build.specs.Plans.{plans, plan_at}
@@ -33,14 +34,10 @@ use Rattle.xdg_build.specs.Solutions.{IsEntryOf, IsEdge, IsAnalysisOf, value_cou
 use Rattle.xdg_build.proofs.Conditions.{AreWithin}
 use Rattle.xdg_build.proofs.Planned as planned
 use Rattle.xdg_facts.specs.Membership.{In}
+use Rattle.xdg_facts.proofs.In.{in_get}
 use Rattle.xdg_facts.proofs.Compared.{fits_at}
 
 -- ---- used dimensions
-
-pub stands_at : (ks : List ℕ) (i : ℕ) → i < length ks → In ks (get_or ks i 0)
-stands_at [] i within = absurd (omega (arith, within))
-stands_at (k ∷ ks) zero within = inl refl
-stands_at (k ∷ ks) (suc i) within = inr (stands_at ks i (omega (arith, within)))
 
 -- a dimension stands at one place among the used ones
 pub place_is : (bound : ℕ) (used : List ℕ) (i k : ℕ) → ArePlaces bound used → i < length used → get_or used i 0 ≡ k → place_of_used used k ≡ i
@@ -48,7 +45,7 @@ place_is bound [] i k h within is = absurd (omega (arith, within))
 place_is bound (j ∷ used) zero k h within is = ap (λ b. cond b 0 (suc (place_of_used used k))) (eq-eqb j k is)
 place_is bound (j ∷ used) (suc i) k h within is =
     let inside : i < length used = omega (arith, within) in
-    ap (λ b. cond b 0 (suc (place_of_used used k))) (ne_eqb j k (λ e. h.0.1 (subst (In used) (is ∙ sym e) (stands_at used i inside)))) ∙ ap suc (place_is bound used i k h.1 inside is)
+    ap (λ b. cond b 0 (suc (place_of_used used k))) (ne_eqb j k (λ e. h.0.1 (subst (In used) (is ∙ sym e) (in_get used i 0 inside)))) ∙ ap suc (place_is bound used i k h.1 inside is)
 
 used_is : (used : List ℕ) (k : ℕ) → In used k → get_or used (place_of_used used k) 0 ≡ k
 used_is used k has = get_or_from_slice_get used (place_of_used used k) k 0 (used_at used k has)

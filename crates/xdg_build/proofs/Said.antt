@@ -1,5 +1,5 @@
 -- The features of an entry, by what their types say.
-use Rattle.std.proofs.Common.{◌≡◌, ℕ, zero, suc, ◌<◌, ◌+◌, List, [], ◌∷◌, length, get_or, map, refl, sym, ap, ◌∙◌, subst, arith}
+use Rattle.std.proofs.Common.{◌≡◌, ℕ, zero, suc, ◌<◌, ◌+◌, List, [], ◌∷◌, length, get_or, refl, sym, ap, ◌∙◌, subst, arith}
 use Rattle.std.specs.Prelude.{Option, None, Some, MatchOption, slice_get}
 use Rattle.xdg_domain.specs.Defaults.{IsFilledIn, AreFilled}
 use Rattle.xdg_domain.specs.Shapes.{Shape, fields_of}
@@ -17,12 +17,9 @@ use Rattle.xdg_problem.specs.declared.forms.Sort.TheVariants as s
 use Rattle.xdg_problem.specs.declared.forms.Typing.{Typing}
 use Rattle.xdg_problem.specs.declared.forms.Which.{Which}
 use Rattle.xdg_principles.specs.Typed.{IsTypedAs, IsTypedMember, number_of, labels_at}
-use Rattle.xdg_problem.specs.declared.parts.Feat.{Feat}
 use Rattle.xdg_build.specs.Features.{rows_of, feature}
 use Rattle.xdg_build.specs.Grammars.{used_place}
 use Rattle.xdg_build.proofs.Dimensions.{Home, is_used_home, members-home}
-use Rattle.xdg_build.proofs.Forms.{AreOf}
-use Rattle.xdg_build.proofs.Named.{AreMembers}
 use Rattle.xdg_build.proofs.TypeRows.{RowsFit, value_rows}
 use Rattle.xdg_facts.proofs.Options.{none_some, some_same}
 
@@ -71,24 +68,9 @@ entry_at table [] n h within = absurd (omega (arith, within))
 entry_at table (entry ∷ entries) zero h within = h.0
 entry_at table (entry ∷ entries) (suc n) h within = entry_at table entries n h.1 (omega (arith, within))
 
-feature_fits : (table : Table) (u : PrincipleUse) (shared : Shape) (which : Which) (typing : Typing) (entry : Entry) (place : ℕ) → number_of which < length u.dims → Home table (get_or u.dims (number_of which) 0) → IsEntry table entry
+pub feature_fits : (table : Table) (u : PrincipleUse) (shared : Shape) (which : Which) (typing : Typing) (entry : Entry) (place : ℕ) → number_of which < length u.dims → Home table (get_or u.dims (number_of which) 0) → IsEntry table entry
     → IsTypedMember table u shared s.Feature which typing place → RowsFit (labels_at table u) shared typing (feature table entry (get_or u.dims (number_of which) 0) place).rows
 feature_fits table u shared which typing entry place within home is member =
     said_rows (labels_at table u) shared typing home.dim (get_or entry (used_place table (get_or u.dims (number_of which) 0)) []) place member.name member.type
     (is.each (used_place table (get_or u.dims (number_of which) 0)) home.dim (is_used_home table (get_or u.dims (number_of which) 0) home))
     (sym (ap (λ all. slice_get all place) (members-home table u s.Feature which within home)) ∙ member.stands) member.wanted
-
--- features with rows for these types
-abbrev pub FitAll : (Which → List (List ℕ)) → Shape → List (Which × Typing) → List Feat → Type 0
-FitAll labels shared [] [] = Unit {0}
-FitAll labels shared (one ∷ more) (f ∷ fs) = RowsFit labels shared one.1 f.rows × FitAll labels shared more fs
-FitAll labels shared _ _ = ⊥
-
-pub all_fit : (table : Table) (u : PrincipleUse) (shared : Shape) (which : Which) (entry : Entry) (ts : List (Which × Typing)) (ks : List ℕ) → number_of which < length u.dims → Home table (get_or u.dims (number_of which) 0) → IsEntry table entry
-    → AreOf which ts → AreMembers table u shared s.Feature ts ks → FitAll (labels_at table u) shared ts (map (λ place. feature table entry (get_or u.dims (number_of which) 0) place) ks)
-all_fit table u shared which entry [] [] within home is of h = tt
-all_fit table u shared which entry (t ∷ ts) (k ∷ ks) within home is of h = (
-  feature_fits table u shared which t.1 entry k within home is (subst (λ (x : Which). IsTypedMember table u shared s.Feature x t.1 k) of.0 h.0),
-  all_fit table u shared which entry ts ks within home is of.1 h.1,
-)
-all_fit table u shared which entry _ _ within home is of h = absurd h

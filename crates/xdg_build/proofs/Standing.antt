@@ -1,8 +1,9 @@
 -- Turns of loops that look for the place of a name, and what stands there.
 use Rattle.std.proofs.Common.{◌≡◌, ℕ, suc, ◌+◌, ◌<◌, ◌≤◌, Bool, true, false, List, [], ◌∷◌, length, get_or, drop, map, Some, None, refl, sym, ap, ◌∙◌, subst, arith, add-one, drop-cons}
-use Rattle.std.specs.Prelude.{◌||◌, bytes_eq, if◌then◌else◌}
+use Rattle.std.specs.Prelude.{◌||◌, Option, bytes_eq, if◌then◌else◌, slice_get}
 use Rattle.std.proofs.lemmas.Bool.{false≢true}
 use Rattle.std.proofs.lemmas.List.{at_drop_all, get_or-map, get_or_default, length-map}
+use Rattle.std.proofs.lemmas.Option.{get_or_from_slice_get, slice_get_within}
 use Rattle.xdg_domain.specs.declared.types.Ty.{Ty}
 use Rattle.xdg_terms.specs.Built.{place_from}
 use Rattle.xdg_terms.proofs.Meant.{at_place}
@@ -44,27 +45,6 @@ has_place at (text ∷ texts) name there none = by (bytes_eq text name) refl (ha
 pub place_somewhere : {A : Type 0} (text : A → List ℕ) (xs : List A) (i : ℕ) (name : List ℕ) → place_from i (map text (drop i xs)) name ≡ place_from 0 (map text xs) name → length xs ≤ i → has_text (map text xs) name ≡ true → ⊥
 place_somewhere text xs i name so_far over there = has_place 0 (map text xs) name there (none_left text xs i name so_far over)
 
--- ---- texts themselves
-
-same_map : (xs : List (List ℕ)) → map (λ x. x) xs ≡ xs
-same_map [] = refl
-same_map (x ∷ xs) = ap (λ ys. x ∷ ys) (same_map xs)
-
-module _ (xs : List (List ℕ)) (i : ℕ) (name : List ℕ) (so_far : place_from i (drop i xs) name ≡ place_from 0 xs name) where
-  mapped : place_from i (map (λ y. y) (drop i xs)) name ≡ place_from 0 (map (λ y. y) xs) name
-  mapped = ap (λ ys. place_from i ys name) (same_map (drop i xs)) ∙ so_far ∙ ap (λ ys. place_from 0 ys name) (sym (same_map xs))
-
-  module _ (x : List ℕ) (l : i < length xs) (is : x ≡ get_or xs i x) where
-    pub text_here : bytes_eq x name ≡ true → place_from 0 xs name ≡ Some i
-    text_here same = ap (λ ys. place_from 0 ys name) (sym (same_map xs)) ∙ place_here (λ y. y) xs i name mapped x x l is same
-
-    pub text_later : bytes_eq x name ≡ false → place_from (i + 1) (drop (i + 1) xs) name ≡ place_from 0 xs name
-    text_later other =
-        ap (λ ys. place_from (i + 1) ys name) (sym (same_map (drop (i + 1) xs))) ∙ place_later (λ y. y) xs i name mapped x x l is other ∙ ap (λ ys. place_from 0 ys name) (same_map xs)
-
-  pub text_somewhere : length xs ≤ i → has_text xs name ≡ true → ⊥
-  text_somewhere over there = place_somewhere (λ y. y) xs i name mapped over (subst (λ ys. has_text ys name ≡ true) (sym (same_map xs)) there)
-
 -- ---- dimensions
 
 module _ (dims : List DimType) (used : List ℕ) (i : ℕ) (name : List ℕ) (so_far : place_from i (names_at dims (drop i used)) name ≡ place_from 0 (names_at dims used) name) where
@@ -92,71 +72,69 @@ dim_type_is dims dims_lent used used_lent d at dim same_dims same_used same l wi
     ∙ get_or_default dims (get_or used d 0) dim no_dim within
     ∙ sym (get_or-map (λ k. get_or dims k no_dim) used d 0 no_dim l)
 
-dim_from : (dims : List DimType) (used : List ℕ) (name : List ℕ) (at n : ℕ) → place_from at (names_at dims used) name ≡ Some n → (q : ℕ) × (n ≡ at + q) × IsDimAt (dims_at dims used) name q
-dim_from dims [] name at n h = absurd (cc)
-dim_from dims (k ∷ used) name at n h = by (bytes_eq (get_or dims k no_dim).name name) refl h (dim_from dims used name (at + 1) n)
-  where
-    by : (b : Bool) → bytes_eq (get_or dims k no_dim).name name ≡ b → (if b then Some at else place_from (at + 1) (names_at dims used) name) ≡ Some n
-        → (place_from (at + 1) (names_at dims used) name ≡ Some n → (q : ℕ) × (n ≡ (at + 1) + q) × IsDimAt (dims_at dims used) name q) → (q : ℕ) × (n ≡ at + q) × IsDimAt (dims_at dims (k ∷ used)) name q
-    by true e is later = (
-      0,
-      (let same : at ≡ n = cc in omega (arith, same)),
-      record { within = omega arith; is = ap (λ b. if b then Some (get_or dims k no_dim) else dim_named (dims_at dims used) name) e },
-    )
-    by false e is later =
-        let rest = later is in
-        let more = rest.1 in
-        let l = rest.2.within in (
-          suc rest.0,
-          omega (arith, more),
-          record { within = omega (arith, l); is = ap (λ b. if b then Some (get_or dims k no_dim) else dim_named (dims_at dims used) name) e ∙ rest.2.is },
-        )
+-- ---- what is found under a name
+
+-- of a walk that gives what the first element with the name has
+module _ {A B : Type 0} (text : A → List ℕ) (out : A → B) (name : List ℕ) (find : List A → Option B) (none : find [] ≡ None) (step : (x : A) (xs : List A) → find (x ∷ xs) ≡ (if bytes_eq (text x) name then Some (out x) else find xs)) where
+  -- it finds something only where the name stands
+  found_has : (xs : List A) (y : B) → find xs ≡ Some y → has_text (map text xs) name ≡ true
+  found_has [] y h = (let e : None ≡ Some y = sym none ∙ h in cc)
+  found_has (x ∷ xs) y h = by (bytes_eq (text x) name) refl (sym (step x xs) ∙ h) (found_has xs y)
+    where
+      by : (b : Bool) → bytes_eq (text x) name ≡ b → (if b then Some (out x) else find xs) ≡ Some y → (find xs ≡ Some y → has_text (map text xs) name ≡ true) → (b || has_text (map text xs) name) ≡ true
+      by true e is later = refl
+      by false e is later = later is
+
+  -- the element with that place has the name, and is the one that is found
+  record IsFoundAt (xs : List A) (place : ℕ) : Type 0 where
+    pub one : A
+    pub stands : slice_get xs place ≡ Some one
+    pub named : text one ≡ name
+    pub is : find xs ≡ Some (out one)
+
+  found_from : (xs : List A) (at n : ℕ) → place_from at (map text xs) name ≡ Some n → (q : ℕ) × (n ≡ at + q) × IsFoundAt xs q
+  found_from [] at n h = absurd (cc)
+  found_from (x ∷ xs) at n h = by (bytes_eq (text x) name) refl h (found_from xs (at + 1) n)
+    where
+      by : (b : Bool) → bytes_eq (text x) name ≡ b → (if b then Some at else place_from (at + 1) (map text xs) name) ≡ Some n
+          → (place_from (at + 1) (map text xs) name ≡ Some n → (q : ℕ) × (n ≡ (at + 1) + q) × IsFoundAt xs q) → (q : ℕ) × (n ≡ at + q) × IsFoundAt (x ∷ xs) q
+      by true e is later =
+          let same : at ≡ n = cc in
+          (0, omega (arith, same), record { one = x; stands = refl; named = same_text (text x) name e; is = step x xs ∙ ap (λ b. if b then Some (out x) else find xs) e })
+      by false e is later =
+          let rest = later is in
+          let more = rest.1 in
+          (suc rest.0, omega (arith, more), record { one = rest.2.one; stands = rest.2.stands; named = rest.2.named; is = step x xs ∙ ap (λ b. if b then Some (out x) else find xs) e ∙ rest.2.is })
+
+  found_at : (xs : List A) (n : ℕ) → place_from 0 (map text xs) name ≡ Some n → IsFoundAt xs n
+  found_at xs n h = (let found = found_from xs 0 n h in let e : found.0 ≡ n = (let is = found.1 in omega (arith, is)) in subst (IsFoundAt xs) e found.2)
+
+-- ---- dimensions by their names
+
+abbrev dim_of : List DimType → ℕ → DimType
+dim_of dims k = get_or dims k no_dim
 
 pub dim_at : (dims : List DimType) (used : List ℕ) (name : List ℕ) (n : ℕ) → IsPlaceOf (names_at dims used) name n → IsDimAt (dims_at dims used) name n
-dim_at dims used name n h = (let found = dim_from dims used name 0 n h in let e : found.0 ≡ n = (let is = found.1 in omega (arith, is)) in subst (IsDimAt (dims_at dims used) name) e found.2)
+dim_at dims used name n h =
+    let found = found_at (λ k. (dim_of dims k).name) (dim_of dims) name (λ ks. dim_named (dims_at dims ks) name) refl (λ k ks. refl) used n h in
+    let within = slice_get_within used n found.one found.stands in
+    record {
+      within = omega (arith, within, length-map used (dim_of dims));
+      is = found.is ∙ ap Some (sym (get_or-map (dim_of dims) used n 0 no_dim within ∙ ap (dim_of dims) (get_or_from_slice_get used n found.one 0 found.stands)));
+    }
 
 pub dim_has : (dims : List DimType) (used : List ℕ) (name : List ℕ) (found : DimType) → dim_named (dims_at dims used) name ≡ Some found → has_text (names_at dims used) name ≡ true
-dim_has dims [] name found h = absurd (cc)
-dim_has dims (k ∷ used) name found h = by (bytes_eq (get_or dims k no_dim).name name) refl h (dim_has dims used name found)
-  where
-    by : (b : Bool) → bytes_eq (get_or dims k no_dim).name name ≡ b → (if b then Some (get_or dims k no_dim) else dim_named (dims_at dims used) name) ≡ Some found
-        → (dim_named (dims_at dims used) name ≡ Some found → has_text (names_at dims used) name ≡ true) → has_text (names_at dims (k ∷ used)) name ≡ true
-    by true e is later = ap (λ b. b || has_text (names_at dims used) name) e
-    by false e is later = ap (λ b. b || has_text (names_at dims used) name) e ∙ later is
+dim_has dims used name = found_has (λ k. (dim_of dims k).name) (dim_of dims) name (λ ks. dim_named (dims_at dims ks) name) refl (λ k ks. refl) used
 
 pub dim_below : (dims : List DimType) (used : List ℕ) (name : List ℕ) (n : ℕ) → IsPlaceOf (names_at dims used) name n → n < length used
 dim_below dims used name n h = (let within = (at_place (names_at dims used) name n h).0 in omega (arith, within, length-map used (λ k. (get_or dims k no_dim).name)))
 
 -- ---- attributes and features
 
-type_from : (all : List (List ℕ × Ty)) (name : List ℕ) (at n : ℕ) → place_from at (firsts all) name ≡ Some n → (q : ℕ) × (n ≡ at + q) × (type : Ty) × IsTypeAt all name q type
-type_from [] name at n h = absurd (cc)
-type_from (one ∷ all) name at n h = by (bytes_eq one.0 name) refl h (type_from all name (at + 1) n)
-  where
-    by : (b : Bool) → bytes_eq one.0 name ≡ b → (if b then Some at else place_from (at + 1) (firsts all) name) ≡ Some n
-        → (place_from (at + 1) (firsts all) name ≡ Some n → (q : ℕ) × (n ≡ (at + 1) + q) × (type : Ty) × IsTypeAt all name q type) → (q : ℕ) × (n ≡ at + q) × (type : Ty) × IsTypeAt (one ∷ all) name q type
-    by true e is later = (
-      0,
-      (let same : at ≡ n = cc in omega (arith, same)),
-      one.1,
-      record { stands = ap (λ (first : List ℕ). Some (first, one.1)) (same_text one.0 name e); is = ap (λ b. if b then Some one.1 else type_named all name) e },
-    )
-    by false e is later =
-        let rest = later is in
-        let more = rest.1 in (
-          suc rest.0,
-          omega (arith, more),
-          rest.2,
-          record { stands = rest.3.stands; is = ap (λ b. if b then Some one.1 else type_named all name) e ∙ rest.3.is },
-        )
-
 pub type_found : (all : List (List ℕ × Ty)) (name : List ℕ) (n : ℕ) → IsPlaceOf (firsts all) name n → (type : Ty) × IsTypeAt all name n type
-type_found all name n h = (let found = type_from all name 0 n h in let e : found.0 ≡ n = (let is = found.1 in omega (arith, is)) in (found.2, subst (λ i. IsTypeAt all name i found.2) e found.3))
+type_found all name n h =
+    let found = found_at (λ (one : List ℕ × Ty). one.0) (λ one. one.1) name (λ ts. type_named ts name) refl (λ one ts. refl) all n h in
+    (found.one.1, record { stands = found.stands ∙ ap (λ (text : List ℕ). Some (text, found.one.1)) found.named; is = found.is })
 
 pub type_has : (all : List (List ℕ × Ty)) (name : List ℕ) (type : Ty) → type_named all name ≡ Some type → has_text (firsts all) name ≡ true
-type_has [] name type h = absurd (cc)
-type_has (one ∷ all) name type h = by (bytes_eq one.0 name) refl h (type_has all name type)
-  where
-    by : (b : Bool) → bytes_eq one.0 name ≡ b → (if b then Some one.1 else type_named all name) ≡ Some type → (type_named all name ≡ Some type → has_text (firsts all) name ≡ true) → has_text (firsts (one ∷ all)) name ≡ true
-    by true e is later = ap (λ b. b || has_text (firsts all) name) e
-    by false e is later = ap (λ b. b || has_text (firsts all) name) e ∙ later is
+type_has all name = found_has (λ (one : List ℕ × Ty). one.0) (λ one. one.1) name (λ ts. type_named ts name) refl (λ one ts. refl) all

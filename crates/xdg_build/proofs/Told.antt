@@ -16,9 +16,8 @@ use Rattle.xdg_domain.proofs.Keyed.{said_right}
 use Rattle.xdg_packed.specs.Lexicon.{Record}
 use Rattle.xdg_problem.specs.declared.analysis.Analysis.{Analysis}
 use Rattle.xdg_problem.specs.declared.parts.Feat.{Feat}
-use Rattle.xdg_problem.specs.declared.parts.Principle.{Principle}
 use Rattle.xdg_problem.specs.declared.parts.SentenceWord.{SentenceWord}
-use Rattle.xdg_problem.specs.Analyses.{HasCandidates}
+use Rattle.xdg_problem.specs.Analyses.{IsAnalysis}
 use Rattle.xdg_problem.specs.Features.{row}
 use Rattle.xdg_problem.specs.Vectors.{entry_places}
 use Rattle.xdg_types.specs.declared.table.DimType.{DimType}
@@ -32,10 +31,12 @@ use Rattle.xdg_problem.specs.declared.forms.Typing.{Typing}
 use Rattle.xdg_problem.specs.declared.forms.Which.{Which}
 use Rattle.xdg_principles.specs.Typed.{IsTypedUse, IsTypedMember, number_of, labels_at}
 use Rattle.xdg_build.specs.Features.{rows_in, rows_of, feature}
-use Rattle.xdg_build.specs.Grammars.{Grammar, is_used, no_dim, used_place}
+use Rattle.xdg_build.specs.Grammars.{Grammar, is_used, used_place}
+use Rattle.xdg_formula.specs.Tables.{no_dim}
 use Rattle.xdg_build.specs.Groups.{features_in, features_at, group_of, dims_of}
 use Rattle.xdg_build.proofs.Dimensions.{Home, home_of, has_place, is_used_home, labels-home, members-home}
 use Rattle.xdg_build.proofs.Said as reading
+use Rattle.xdg_build.specs.Compiled.{candidates_of, compiled}
 use Rattle.xdg_build.specs.Readings.{dimension, type_at, record_for, entry_at, said_for, OnFeature, feature_place}
 use Rattle.xdg_build.specs.Solutions.{IsAnalysisOf}
 use Rattle.xdg_build.proofs.Readings.{record_same, entry_within}
@@ -63,19 +64,28 @@ on_feature g a k v f type argument P told is =
       λ p. subst (λ o. OnFeature g a k v (feature_place o) P) (sym is) (subst (λ o. A o (type_at (typed (dimension g k).fields) f)) (sym told.said) (subst (A (Some told.value)) (sym told.typed) p)),
     )
 
-module _ (g : Grammar) (words : List SentenceWord) (a : Analysis) (u : PrincipleUse) (table : IsTable g.table) (lexicon : IsRightLexicon g.table g.lexicon.entries) (used : is_used g.table u.home ≡ true) (right : IsTypedUse g.table u) (is : IsAnalysisOf g words a) where
+-- what is known of an analysis and of a use in a used dimension
+pub record Given (g : Grammar) (words : List SentenceWord) (a : Analysis) (u : PrincipleUse) : Type 0 where
+  pub table : IsTable g.table
+  pub lexicon : IsRightLexicon g.table g.lexicon.entries
+  pub used : is_used g.table u.home ≡ true
+  pub right : IsTypedUse g.table u
+  pub fit : IsAnalysis (compiled g words) a
+  pub is : IsAnalysisOf g words a
+
+module _ (g : Grammar) (words : List SentenceWord) (a : Analysis) (u : PrincipleUse) (h : Given g words a u) where
   abbrev pub dim_number : Which → ℕ
   dim_number which = get_or u.dims (number_of which) 0
 
   pub has_dim : (m : ℕ) → m < length u.dims → In g.table.used (get_or u.dims m 0)
-  has_dim m within = right.used (has_place g.table.used u.home used) (get_or u.dims m 0) (in_get u.dims m 0 within)
+  has_dim m within = h.right.used (has_place g.table.used u.home h.used) (get_or u.dims m 0) (in_get u.dims m 0 within)
 
   -- the dimension with that number, compiled
   pub dim_same : (m : ℕ) → m < length u.dims → (get_or (dims_of g u) m (record { 0 = 0 })).0 ≡ used_place g.table (get_or u.dims m 0)
   dim_same m within = ap (λ (d : DimId). d.0) (get_or-map (λ (k : ℕ). dim_id (used_place g.table k)) u.dims m 0 (dim_id 0) within)
 
   home : (m : ℕ) → m < length u.dims → Home g.table (get_or u.dims m 0)
-  home m within = home_of g.table u right used m within
+  home m within = home_of g.table u h.right h.used m within
 
   dim_is : (m : ℕ) (within : m < length u.dims) → dimension g (get_or u.dims m 0) ≡ (home m within).dim
   dim_is m within = get_or_from_slice_get g.table.dims (get_or u.dims m 0) (home m within).dim no_dim (home m within).stands
@@ -84,60 +94,61 @@ module _ (g : Grammar) (words : List SentenceWord) (a : Analysis) (u : Principle
   labels_are which within = labels-home g.table u which within (home (number_of which) within) ∙ ap (λ (dim : DimType). dim.labels) (sym (dim_is (number_of which) within))
 
   pub kept_dim : (m : ℕ) → m < length u.dims → KeepsDim (dimension g (get_or u.dims m 0))
-  kept_dim m within = kept_at g.table.dims (get_or u.dims m 0) table.dims (slice_get_within g.table.dims (get_or u.dims m 0) (home m within).dim (home m within).stands)
+  kept_dim m within = kept_at g.table.dims (get_or u.dims m 0) h.table.dims (slice_get_within g.table.dims (get_or u.dims m 0) (home m within).dim (home m within).stands)
 
-  module _ (shared : Shape) where
-    pub attribute_stands : (which : Which) (typing : Typing) (i : ℕ) → number_of which < length u.dims → (member : IsTypedMember g.table u shared sorts.Attribute which typing i) → slice_get (typed (dimension g (dim_number which)).attrs) i ≡ Some (member.name, member.type)
-    attribute_stands which typing i within member =
-        ap (λ (dim : DimType). slice_get (typed dim.attrs) i) (dim_is (number_of which) within)
-        ∙ sym (ap (λ (all : Typed). slice_get all i) (members-home g.table u sorts.Attribute which within (home (number_of which) within))) ∙ member.stands
+  pub attribute_stands : (which : Which) (typing : Typing) (i : ℕ) → number_of which < length u.dims → (member : IsTypedMember g.table u h.right.shared sorts.Attribute which typing i) → slice_get (typed (dimension g (dim_number which)).attrs) i ≡ Some (member.name, member.type)
+  attribute_stands which typing i within member =
+      ap (λ (dim : DimType). slice_get (typed dim.attrs) i) (dim_is (number_of which) within)
+      ∙ sym (ap (λ (all : Typed). slice_get all i) (members-home g.table u sorts.Attribute which within (home (number_of which) within))) ∙ member.stands
 
-    pub attribute_small : (which : Which) (typing : Typing) (i : ℕ) → number_of which < length u.dims → (member : IsTypedMember g.table u shared sorts.Attribute which typing i) → IsSmall member.type × (0 < count member.type)
-    attribute_small which typing i within member = attribute_right (typed (dimension g (dim_number which)).attrs) i member.name member.type (kept_dim (number_of which) within).attributes (attribute_stands which typing i within member)
+  pub attribute_small : (which : Which) (typing : Typing) (i : ℕ) → number_of which < length u.dims → (member : IsTypedMember g.table u h.right.shared sorts.Attribute which typing i) → IsSmall member.type × (0 < count member.type)
+  attribute_small which typing i within member =
+      attribute_right (typed (dimension g (dim_number which)).attrs) i member.name member.type (kept_dim (number_of which) within).attributes (attribute_stands which typing i within member)
 
-    feature_stands : (which : Which) (typing : Typing) (f : ℕ) (within : number_of which < length u.dims) (member : IsTypedMember g.table u shared sorts.Feature which typing f) → slice_get (typed (home (number_of which) within).dim.fields) f ≡ Some (member.name, member.type)
-    feature_stands which typing f within member = sym (ap (λ (all : Typed). slice_get all f) (members-home g.table u sorts.Feature which within (home (number_of which) within))) ∙ member.stands
+  entry_is : (v : ℕ) → v < length words → IsEntry g.table (entry_at g a v)
+  entry_is v node = reading.entry_at g.table g.lexicon.entries (get_or a.entries v (record { 0 = 0 })).0 h.lexicon.entries (entry_within g words a h.table.used h.is v node).1
 
-    feature_there : (which : Which) (typing : Typing) (f : ℕ) (within : number_of which < length u.dims) (member : IsTypedMember g.table u shared sorts.Feature which typing f) → slice_get (typed (dimension g (dim_number which)).fields) f ≡ Some (member.name, member.type)
-    feature_there which typing f within member = ap (λ (dim : DimType). slice_get (typed dim.fields) f) (dim_is (number_of which) within) ∙ feature_stands which typing f within member
+  record_is : (k v : ℕ) → v < length words → record_for g.table.used (entry_at g a v) k ≡ get_or (entry_at g a v) (used_place g.table k) []
+  record_is k v node = record_same g.table.used (entry_at g a v) k (entry_is v node).count
 
-    pub feature_type : (which : Which) (typing : Typing) (f : ℕ) → number_of which < length u.dims → (member : IsTypedMember g.table u shared sorts.Feature which typing f) → IsType member.type
-    feature_type which typing f within member = feature_right (typed (dimension g (dim_number which)).fields) f member.name member.type (kept_dim (number_of which) within).features (feature_there which typing f within member)
+  module _ (which : Which) (typing : Typing) (f : ℕ) (within : number_of which < length u.dims) (member : IsTypedMember g.table u h.right.shared sorts.Feature which typing f) where
+    abbrev there : Home g.table (dim_number which)
+    there = home (number_of which) within
 
-    entry_is : (v : ℕ) → v < length words → IsEntry g.table (entry_at g a v)
-    entry_is v node = reading.entry_at g.table g.lexicon.entries (get_or a.entries v (record { 0 = 0 })).0 lexicon.entries (entry_within g words a table.used is v node).1
+    feature_stands : slice_get (typed there.dim.fields) f ≡ Some (member.name, member.type)
+    feature_stands = sym (ap (λ (all : Typed). slice_get all f) (members-home g.table u sorts.Feature which within there)) ∙ member.stands
 
-    record_is : (k v : ℕ) → v < length words → record_for g.table.used (entry_at g a v) k ≡ get_or (entry_at g a v) (used_place g.table k) []
-    record_is k v node = record_same g.table.used (entry_at g a v) k (entry_is v node).count
+    feature_there : slice_get (typed (dimension g (dim_number which)).fields) f ≡ Some (member.name, member.type)
+    feature_there = ap (λ (dim : DimType). slice_get (typed dim.fields) f) (dim_is (number_of which) within) ∙ feature_stands
 
-    pub told : (which : Which) (typing : Typing) (f v : ℕ) → number_of which < length u.dims → (member : IsTypedMember g.table u shared sorts.Feature which typing f) → v < length words → IsTold g a (dim_number which) v f member.type
-    told which typing f v within member node =
+    pub feature_type : IsType member.type
+    feature_type = feature_right (typed (dimension g (dim_number which)).fields) f member.name member.type (kept_dim (number_of which) within).features feature_there
+
+    pub told : (v : ℕ) → v < length words → IsTold g a (dim_number which) v f member.type
+    told v node =
         let k : ℕ = dim_number which in
-        let there : Home g.table k = home (number_of which) within in
         let m : Record = get_or (entry_at g a v) (used_place g.table k) [] in
         let whole : IsWhole there.dim m = (entry_is v node).each (used_place g.table k) there.dim (is_used_home g.table k there) in
-        let stands : slice_get (typed there.dim.fields) f ≡ Some (member.name, member.type) = feature_stands which typing f within member in
-        let x : (x : Value) × (said_at m f ≡ Some x) × IsFilledIn member.type (out-Value x) = reading.filled_at (typed there.dim.fields) 0 f f member.name member.type m (reading.zero_first f) stands (reading.filled_of there.dim m whole) in
+        let x : (x : Value) × (said_at m f ≡ Some x) × IsFilledIn member.type (out-Value x) = reading.filled_at (typed there.dim.fields) 0 f f member.name member.type m (reading.zero_first f) feature_stands (reading.filled_of there.dim m whole) in
         record {
           value = x.0;
           said = ap (λ (r : Record). said_at r f) (record_is k v node) ∙ x.1;
-          typed = ap (λ (one : List ℕ × Shape). one.1) (get_or_from_slice_get (typed (dimension g k).fields) f (member.name, member.type) ([], text) (feature_there which typing f within member));
-          right = reading.field_in (typed there.dim.fields) f member.name member.type x.0 stands (said_right (IsFieldOf (fields_of (typed there.dim.fields))) m f x.0 (reading.each_of there.dim m whole) x.1);
+          typed = ap (λ (one : List ℕ × Shape). one.1) (get_or_from_slice_get (typed (dimension g k).fields) f (member.name, member.type) ([], text) feature_there);
+          right = reading.field_in (typed there.dim.fields) f member.name member.type x.0 feature_stands (said_right (IsFieldOf (fields_of (typed there.dim.fields))) m f x.0 (reading.each_of there.dim m whole) x.1);
           filled = x.2;
         }
 
-    -- the rows of a feature of a node's entry, compiled
-    pub row_is : (which : Which) (q : Principle) (places : List ℕ) (f v j l : ℕ) (type : Shape) (candidates : List (List EntryNo))
-        → u.principle ≡ q → feature_dim q ≡ number_of which → flat_map features_in u.args ≡ places → j < length places → get_or places j 0 ≡ f
-        → HasCandidates candidates a.entries → v < length words → (x : IsTold g a (dim_number which) v f type)
-        → row (group_of g candidates u) v (slice_index (entry_places candidates a.entries) v) j l ≡ get_or (rows_in (out-Value x.value)) l []
-    row_is which q places f v j l type candidates is_called which_is places_are within at has node x =
-        let k : ℕ = dim_number which in
-        let e : EntryNo = get_or a.entries v (record { 0 = 0 }) in
-        let one : ℕ → ℕ → Feat = λ d place. feature g.table (entry_at g a v) d place in
-        let kd : get_or u.dims (feature_dim u.principle) 0 ≡ k = ap (λ p. get_or u.dims (feature_dim p) 0) is_called ∙ ap (λ n. get_or u.dims n 0) which_is in
-        let feats : features_at g u e ≡ map (one k) places = ap₂ (λ d ps. map (one d) ps) kd places_are in
-        let here : get_or (features_at g u e) j (record { rows = [] }) ≡ one k f = ap (λ (fs : List Feat). get_or fs j (record { rows = [] })) feats ∙ get_or-map (one k) places j 0 (record { rows = [] }) within ∙ ap (one k) at in
-        let rows : (one k f).rows ≡ rows_in (out-Value x.value) = ap rows_of (ap (λ (r : Record). said_at r f) (sym (record_is k v node)) ∙ x.said) in
-        ap (λ (fs : List Feat). get_or (get_or fs j (record { rows = [] })).rows l []) (of_entries (features_at g u) candidates a.entries has v ∙ get_or-map (features_at g u) a.entries v (record { 0 = 0 }) [] (entry_within g words a table.used is v node).0)
-        ∙ ap (λ (one : Feat). get_or one.rows l []) here ∙ ap (λ (rs : List (List ℕ)). get_or rs l []) rows
+  -- the rows of a feature of a node's entry, compiled
+  pub row_is : (which : Which) (places : List ℕ) (f v j l : ℕ) (type : Shape) → feature_dim u.principle ≡ number_of which → flat_map features_in u.args ≡ places → slice_get places j ≡ Some f → v < length words → (x : IsTold g a (dim_number which) v f type)
+      → row (group_of g (candidates_of g words) u) v (slice_index (entry_places (candidates_of g words) a.entries) v) j l ≡ get_or (rows_in (out-Value x.value)) l []
+  row_is which places f v j l type which_is places_are at node x =
+      let k : ℕ = dim_number which in
+      let e : EntryNo = get_or a.entries v (record { 0 = 0 }) in
+      let one : ℕ → ℕ → Feat = λ d place. feature g.table (entry_at g a v) d place in
+      let feats : features_at g u e ≡ map (one k) places = ap₂ (λ n ps. map (one (get_or u.dims n 0)) ps) which_is places_are in
+      let here : get_or (features_at g u e) j (record { rows = [] }) ≡ one k f =
+      ap (λ (fs : List Feat). get_or fs j (record { rows = [] })) feats ∙ get_or-map (one k) places j 0 (record { rows = [] }) (slice_get_within places j f at) ∙ ap (one k) (get_or_from_slice_get places j f 0 at) in
+      let rows : (one k f).rows ≡ rows_in (out-Value x.value) = ap rows_of (ap (λ (r : Record). said_at r f) (sym (record_is k v node)) ∙ x.said) in
+      ap (λ (fs : List Feat). get_or (get_or fs j (record { rows = [] })).rows l [])
+      (of_entries (features_at g u) (candidates_of g words) a.entries h.fit.entries v ∙ get_or-map (features_at g u) a.entries v (record { 0 = 0 }) [] (entry_within g words a h.table.used h.is v node).0)
+      ∙ ap (λ (one : Feat). get_or one.rows l []) here ∙ ap (λ (rs : List (List ℕ)). get_or rs l []) rows

@@ -13,7 +13,9 @@ use Rattle.xdg_terms.specs.Built.{constants_each}
 use Rattle.xdg_terms.specs.Means.{chosen}
 use Rattle.xdg_types.specs.declared.table.DimType.{DimType}
 use Rattle.xdg_types.specs.Table.{typed, AreAttributes, KeepDims}
-use Rattle.xdg_build.specs.Grammars.{Grammar, no_dim}
+use Rattle.xdg_build.specs.Grammars.{Grammar}
+use Rattle.xdg_formula.specs.Tables.{no_dim}
+use Rattle.xdg_build.proofs.Planned.{kept_at}
 use Rattle.xdg_build.specs.Plans.{shown_as, dim_plan, plan_at}
 
 -- ---- constants of a tuple
@@ -64,9 +66,7 @@ small_at (first ∷ attrs) (suc i) attr within is h = small_at attrs i attr (ome
 -- ---- dimensions
 
 pub attributes_at : (dims : List DimType) (k : ℕ) (dim : DimType) → KeepDims dims → k < length dims → dim ≡ get_or dims k dim → AreAttributes (typed dim.attrs)
-attributes_at [] k dim kept within is = absurd (omega (arith, within))
-attributes_at (first ∷ dims) zero dim kept within is = subst (λ (one : DimType). AreAttributes (typed one.attrs)) (sym is) kept.0.attributes
-attributes_at (first ∷ dims) (suc k) dim kept within is = attributes_at dims k dim kept.1 (omega (arith, within)) is
+attributes_at dims k dim kept within is = subst (λ (one : DimType). AreAttributes (typed one.attrs)) (sym (is ∙ get_or_default dims k dim no_dim within)) (kept_at dims k kept within).attributes
 
 pub plans_more : (g : Grammar) (dims : List DimType) (used : List ℕ) (i k : ℕ) (dim : DimType) (made new : List DimPlan) (one : DimPlan) → i < length used → k ≡ get_or used i 0 → k < length dims → dim ≡ get_or dims k dim → one ≡ dim_plan g k dim
     → made ≡ map (plan_at g dims) (take i used) → new ≡ made ++ one ∷ [] → new ≡ map (plan_at g dims) (take (i + 1) used)

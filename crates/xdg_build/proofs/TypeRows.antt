@@ -105,13 +105,21 @@ RowsFit labels shared (t.Set element) rows = (length rows ≡ 1) × All (IsSet (
 RowsFit labels shared (t.Valency which) rows = (length rows ≡ length (labels which)) × All IsCardinality rows
 RowsFit labels shared (t.Map which element) rows = (length rows ≡ length (labels which)) × All (IsSet (size labels shared element)) rows
 
-set_rows : (bound : ℕ) (s : Shape) (v : Value-F Value) → count s ≡ bound → IsIn (set s) v → (length (rows_in v) ≡ 1) × All (IsSet bound) (rows_in v)
-set_rows bound s (Value-F.Set ns) same h = (refl, all_one (IsSet bound) ns (set_right bound ns h.0 (below_along (count s) bound ns same h.1)))
-set_rows bound s _ same h = absurd h
+-- what holds of each set holds of every value of a type of sets
+pub sets : (P : Shape → Type 0) (Q : Shape → Value-F Value → Type 0) → ((s : Shape) (ns : List ℕ) → P s → IsIn (set s) (Value-F.Set ns) → Q (set s) (Value-F.Set ns) × Q (iset s) (Value-F.Set ns))
+    → (type : Shape) (v : Value-F Value) → IsSetOf P type → IsIn type v → Q type v
+sets P Q each (set s) (Value-F.Set ns) h is = (each s ns h is).0
+sets P Q each (iset s) (Value-F.Set ns) h is = (each s ns h is).1
+sets P Q each (set s) _ h is = absurd is
+sets P Q each (iset s) _ h is = absurd is
+sets P Q each _ v h is = absurd h
 
-iset_rows : (bound : ℕ) (s : Shape) (v : Value-F Value) → count s ≡ bound → IsIn (iset s) v → (length (rows_in v) ≡ 1) × All (IsSet bound) (rows_in v)
-iset_rows bound s (Value-F.Set ns) same h = (refl, all_one (IsSet bound) ns (set_right bound ns h.0 (below_along (count s) bound ns same h.1)))
-iset_rows bound s _ same h = absurd h
+member_rows : (bound : ℕ) (P : Shape → Type 0) → ((s : Shape) → P s → count s ≡ bound) → (u : Shape) (v : Value-F Value) → IsSetOf P u → IsIn u v → IsSet bound (members_in v)
+member_rows bound P same = sets P (λ u v. IsSet bound (members_in v)) (λ s ns p h.
+    let right : IsSet bound ns = set_right bound ns h.0 (below_along (count s) bound ns (same s p) h.1) in (right, right))
+
+pub set_rows_are : (P : Shape → Type 0) (type : Shape) (v : Value-F Value) → IsSetOf P type → IsIn type v → rows_in v ≡ members_in v ∷ []
+set_rows_are P = sets P (λ type v. rows_in v ≡ members_in v ∷ []) (λ s ns p h. (refl, refl))
 
 none_more : (a b : ℕ) → 0 + a ≡ b → a ≡ b
 none_more a b h = omega (arith, h)
@@ -123,19 +131,12 @@ valency_rows keys (Value-F.Valency m) h filled = (
 )
 valency_rows keys _ h filled = absurd h
 
-member_rows : (bound : ℕ) (u : Shape) (v : Value-F Value) (P : Shape → Type 0) → ((s : Shape) → P s → count s ≡ bound) → IsSetOf P u → IsIn u v → IsSet bound (members_in v)
-member_rows bound (set s) (Value-F.Set ns) P same is h = set_right bound ns h.0 (below_along (count s) bound ns (same s is) h.1)
-member_rows bound (iset s) (Value-F.Set ns) P same is h = set_right bound ns h.0 (below_along (count s) bound ns (same s is) h.1)
-member_rows bound (set s) _ P same is h = absurd h
-member_rows bound (iset s) _ P same is h = absurd h
-member_rows bound _ v P same is h = absurd is
-
 map_rows : (keys : List (List ℕ)) (bound : ℕ) (u : Shape) (v : Value-F Value) (P : Shape → Type 0) → ((s : Shape) → P s → count s ≡ bound) → IsSetOf P u → IsIn (mapping (domain keys) u) v → IsFilledIn (mapping (domain keys) u) v
     → (length (rows_in v) ≡ length keys) × All (IsSet bound) (rows_in v)
 map_rows keys bound u (Value-F.Map m) P same is h filled = (
   length-map m (λ said. members_in (out-Value said.1))
       ∙ none_more (length m) (length keys) (one_each (λ key v. (key < length keys) × IsIn u (out-Value v)) 0 (length keys) m (omega arith) (λ key v p. p.0) h.0 h.1 (λ key _ less none. is_said (λ v. IsFilledIn u (out-Value v)) (said_at m key) (filled key less) none)),
-  each_row (λ key v. (key < length keys) × IsIn u (out-Value v)) (IsSet bound) (λ v. members_in (out-Value v)) m (λ key v p. member_rows bound u (out-Value v) P same is p.1) h.1,
+  each_row (λ key v. (key < length keys) × IsIn u (out-Value v)) (IsSet bound) (λ v. members_in (out-Value v)) m (λ key v p. member_rows bound P same u (out-Value v) is p.1) h.1,
 )
 map_rows keys bound u _ P same is h filled = absurd h
 
@@ -147,8 +148,9 @@ mapped labels shared which element k u v same is h filled =
 
 pub value_rows : (labels : Which → List (List ℕ)) (shared : Shape) (typing : Typing) (type : Shape) (v : Value-F Value) → IsTypedAs labels shared typing type → IsIn type v → IsFilledIn type v → RowsFit labels shared typing (rows_in v)
 value_rows labels shared (t.One element) type v is h filled = tt
-value_rows labels shared (t.Set element) (set s) v is h filled = set_rows (size labels shared element) s v (element_size labels shared element s is) h
-value_rows labels shared (t.Set element) (iset s) v is h filled = iset_rows (size labels shared element) s v (element_size labels shared element s is) h
+value_rows labels shared (t.Set element) type v is h filled =
+    let P : Shape → Type 0 = IsElementOf labels shared element in
+    subst (RowsFit labels shared (t.Set element)) (sym (set_rows_are P type v is h)) (refl, all_one (IsSet (size labels shared element)) (members_in v) (member_rows (size labels shared element) P (element_size labels shared element) type v is h))
 value_rows labels shared (t.Valency which) type v is h filled =
     valency_rows (labels which) v (subst (λ s. IsIn s v) is h) (subst (λ s. IsFilledIn s v) is filled)
 value_rows labels shared (t.Map which element) (mapping k u) v is h filled = mapped labels shared which element k u v is.0 is.1 h filled

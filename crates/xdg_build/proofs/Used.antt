@@ -1,7 +1,6 @@
 -- The used dimensions of a grammar, by their places and their names, and the dimensions of a problem.
-use Rattle.std.proofs.Common.{◌≡◌, ℕ, zero, suc, ◌<◌, Bool, true, false, inl, inr, List, [], ◌∷◌, length, get_or, map, Some, refl, sym, ap, ◌∙◌, subst, arith}
+use Rattle.std.proofs.Common.{◌≡◌, ℕ, ◌<◌, Bool, true, false, inl, inr, List, [], ◌∷◌, length, get_or, map, Some, refl, sym, ap, ◌∙◌, subst, arith}
 use Rattle.std.specs.Prelude.{◌==◌, Contains, bytes_eq, if◌then◌else◌, slice_index_or}
-use Rattle.std.specs.List.{AllZip}
 use Rattle.std.proofs.lemmas.Bool.{cases_eq, eq-eqb, ne_eqb}
 use Rattle.std.proofs.lemmas.List.{get_or-map, length-map}
 use Rattle.std.proofs.lemmas.List.Elements.{All-contains}
@@ -20,37 +19,24 @@ use Rattle.xdg_types.specs.Table.{Table, IsTable, ArePlaces, typed, dim_named}
 use Rattle.xdg_build.specs.Grammars.{Grammar}
 use Rattle.xdg_build.specs.Plans.{attr_plan}
 use Rattle.xdg_build.specs.Readings.{dimension, edges_in}
-use Rattle.xdg_build.proofs.Readings.{stands_at, filter_same}
+use Rattle.xdg_build.proofs.Readings.{filter_same}
+use Rattle.xdg_build.proofs.Planned.{places_once}
+use Rattle.xdg_facts.proofs.In.{in_get}
 use Rattle.xdg_formula.specs.Tables.{no_dim, used_dims}
 use Rattle.xdg_packed.specs.Lexicon.{Lexicon}
 use Rattle.xdg_build.specs.Places.{IsDimAt}
 use Rattle.xdg_build.specs.Problems.{IsPlanOf, IsFor}
+use Rattle.xdg_build.proofs.Lists.{zip_at}
 use Rattle.xdg_build.specs.Truths.{IsCalled}
 use Rattle.xdg_facts.proofs.Lists.{zip_length}
 use Rattle.xdg_facts.specs.Membership.{In}
 use Rattle.xdg_terms.proofs.Meant.{one_place}
-
--- ---- lists side by side
-
-zip_at : {A B : Type 0} (R : A → B → Type 0) (xs : List A) (ys : List B) (i : ℕ) (d : A) (e : B) → AllZip R xs ys → i < length xs → R (get_or xs i d) (get_or ys i e)
-zip_at R [] ys i d e zip l = absurd (omega (arith, l))
-zip_at R (x ∷ xs) [] i d e zip l = absurd zip
-zip_at R (x ∷ xs) (y ∷ ys) zero d e zip l = zip.0
-zip_at R (x ∷ xs) (y ∷ ys) (suc i) d e zip l = zip_at R xs ys i d e zip.1 (omega (arith, l))
 
 -- ---- places of used dimensions
 
 pub below_of : (bound : ℕ) (used : List ℕ) (k : ℕ) → ArePlaces bound used → In used k → k < bound
 below_of bound [] k are has = absurd has
 below_of bound (j ∷ used) k are has = elim has [ inl same ↦ subst (λ m. m < bound) same are.0.0 | inr later ↦ below_of bound used k are.1 later ]
-
--- no dimension is used twice
-differ_at : (bound : ℕ) (used : List ℕ) (i j : ℕ) → ArePlaces bound used → i < length used → j < length used → get_or used i 0 ≡ get_or used j 0 → i ≡ j
-differ_at bound [] i j are l m same = absurd (omega (arith, l))
-differ_at bound (k ∷ used) zero zero are l m same = refl
-differ_at bound (k ∷ used) zero (suc j) are l m same = (let n : j < length used = omega (arith, m) in absurd (are.0.1 (subst (In used) (sym same) (stands_at used j n))))
-differ_at bound (k ∷ used) (suc i) zero are l m same = (let n : i < length used = omega (arith, l) in absurd (are.0.1 (subst (In used) same (stands_at used i n))))
-differ_at bound (k ∷ used) (suc i) (suc j) are l m same = ap suc (differ_at bound used i j are.1 (omega (arith, l)) (omega (arith, m)) same)
 
 -- ---- dimensions by their names
 
@@ -84,7 +70,7 @@ module _ (table : Table) (lexicon : Lexicon) (is : IsTable table) where
     called = ap (λ (dim : DimType). dim.name) (sym (used_is d at.within)) ∙ dim_named_is (used_dims table) name (get_or (used_dims table) d no_dim) at.is
 
     pub is_called : IsCalled table lexicon nodes a name (among_all d)
-    is_called = (stands_at table.used d (used_within d at.within), called)
+    is_called = (in_get table.used d 0 (used_within d at.within), called)
 
     -- no other dimension has the name
     pub one_called : (k : ℕ) → IsCalled table lexicon nodes a name k → k ≡ among_all d
@@ -126,5 +112,5 @@ module _ (table : Table) (lexicon : Lexicon) (parts : Parts) (is : IsTable table
     edges_same d l = filter_same (λ e. e.dim.0 == d) (λ e. get_or table.used e.dim.0 0 == among_all table lexicon is d) a.edges (λ e stands. elim (cases_eq e.dim.0 d) [
       | inl same ↦ eq-eqb e.dim.0 d same ∙ sym (eq-eqb (get_or table.used e.dim.0 0) (among_all table lexicon is d) (ap (λ i. get_or table.used i 0) same))
       | inr other ↦ ne_eqb e.dim.0 d other ∙ sym (ne_eqb (get_or table.used e.dim.0 0) (among_all table lexicon is d)
-          (λ same. other (differ_at (length table.dims) table.used e.dim.0 d is.used (edge_dim e stands) (used_within table lexicon is d l) same)))
+          (λ same. other (places_once (length table.dims) table.used e.dim.0 d is.used (edge_dim e stands) (used_within table lexicon is d l) same)))
     ])

@@ -25,7 +25,8 @@ use Rattle.xdg_types.specs.Table.{Table, IsTable, ArePlaces, typed}
 use Rattle.xdg_build.specs.Grammars.{Grammar}
 use Rattle.xdg_build.specs.Plans.{attr_plan, shown_as}
 use Rattle.xdg_build.specs.Readings.{dimension, values_before, value_number, type_at}
-use Rattle.xdg_build.proofs.Readings.{stands_at, repeated_length, repeated_at}
+use Rattle.xdg_build.proofs.Readings.{repeated_length, repeated_at}
+use Rattle.xdg_facts.proofs.In.{in_get}
 use Rattle.xdg_formula.specs.Tables.{used_dims}
 use Rattle.xdg_build.specs.Problems.{IsPlanOf, IsFor}
 use Rattle.xdg_build.proofs.Used.{among_all, used_within, plan_of, attrs_are}
@@ -85,7 +86,7 @@ before_same g bound n (j ∷ used) (plan ∷ plans) zero are zip l = ap (λ b. c
 before_same g bound n (j ∷ used) (plan ∷ plans) (suc d) are zip l =
     let inside : d < length used = omega (arith, l) in
     let k : ℕ = get_or used d 0 in
-    ap (λ b. cond b 0 (n * length (dimension g j).attrs + values_before g n used k)) (ne_eqb j k (λ e. are.0.1 (subst (In used) (sym e) (stands_at used d inside))))
+    ap (λ b. cond b 0 (n * length (dimension g j).attrs + values_before g n used k)) (ne_eqb j k (λ e. are.0.1 (subst (In used) (sym e) (in_get used d 0 inside))))
     ∙ ap₂ (λ x y. x + y) (sym (length_attrs_of n plan ∙ ap (λ m. n * m) (plan_attrs (dimension g j) plan zip.0))) (before_same g bound n used plans d are.1 zip.1 inside)
     ∙ sym (length-append (flat_map (λ (node : ℕ). map (λ (attr : AttrPlan). length attr.values) plan.attrs) (below n)) (attr_sizes n (take d plans)))
 

@@ -1,7 +1,6 @@
 -- What sentences are compiled with.
-use Rattle.std.specs.Prelude.{ℕ, suc, ◌==◌, Bool, List, [], ◌∷◌, cond, map, get_or}
+use Rattle.std.specs.Prelude.{ℕ, suc, ◌==◌, Bool, List, [], ◌∷◌, cond}
 use Rattle.std.specs.List.{list_any}
-use Rattle.xdg_types.specs.declared.table.DimType.{DimType}
 use Rattle.xdg_types.specs.Table.{Table}
 use Rattle.xdg_principles.specs.declared.building.PrincipleUse.{PrincipleUse}
 use Rattle.xdg_check.specs.Checked.{Parts}
@@ -17,13 +16,6 @@ abbrev pub grammar_of : Parts → Lexicon → Grammar
 grammar_of checked lexicon = record { table = checked.types; uses = checked.principles; lexicon = lexicon }
 
 -- ---- used dimensions
-
-abbrev pub no_dim : DimType
-no_dim = record { name = []; labels = []; attrs = []; fields = [] }
-
--- the used dimensions, in the order of their uses
-abbrev pub used_dims : Table → List DimType
-used_dims table = map (λ k. get_or table.dims k no_dim) table.used
 
 -- the dimension with that place among all is used
 abbrev pub is_used : Table → ℕ → Bool

@@ -12,7 +12,8 @@ use Rattle.xdg_terms.specs.Means.{tuple_texts}
 use Rattle.xdg_types.specs.declared.table.DimType.{DimType}
 use Rattle.xdg_types.specs.Table.{Table, Typed, typed}
 use Rattle.xdg_principles.specs.declared.building.PrincipleUse.{PrincipleUse}
-use Rattle.xdg_build.specs.Grammars.{Grammar, no_dim, is_used}
+use Rattle.xdg_build.specs.Grammars.{Grammar, is_used}
+use Rattle.xdg_formula.specs.Tables.{no_dim}
 
 -- how the value with that number is shown: by its constant, or by those of its tuple
 abbrev pub shown_as : Shape → ℕ → Shown

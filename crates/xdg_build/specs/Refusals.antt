@@ -1,5 +1,5 @@
 -- Which sentences a grammar refuses, and why.
-use Rattle.std.specs.Prelude.{◌≡◌, ℕ, List, [], ◌∷◌, Option, Some, None, slice_get}
+use Rattle.std.specs.Prelude.{◌≡◌, ℕ, ◌+◌, List, [], ◌∷◌, Option, Some, None, slice_get}
 use Rattle.xdg_base.specs.declared.ids.EntryNo.{EntryNo}
 use Rattle.xdg_base.specs.declared.faults.Cause.{Cause}
 use Rattle.xdg_base.specs.declared.faults.Cause.TheVariants as causes
@@ -23,19 +23,23 @@ abbrev pub first_unknown : Lexicon → List SentenceWord → Option Fault
 first_unknown lexicon [] = None
 first_unknown lexicon (word ∷ words) = unknown_or word (numbers_of (words_of lexicon) word.text) (first_unknown lexicon words)
 
--- the word that is one too many, or what else is wrong
-abbrev pub too_many_or : Option SentenceWord → Option Fault → Option Fault
-too_many_or None other = other
-too_many_or (Some word) other = Some (fault causes.TooManyWords word.at 129)
+-- the word that is one too many where that many may stand, or what else is wrong
+abbrev pub too_many_or : ℕ → Cause → Option SentenceWord → Option Fault → Option Fault
+too_many_or most too_many None other = other
+too_many_or most too_many (Some word) other = Some (fault too_many word.at (most + 1))
 
--- a sentence has 1 to 128 words, and each has an entry in the lexicon: the first of these that does not hold
-abbrev pub refusal_by : Lexicon → List SentenceWord → Option Fault
-refusal_by lexicon [] = Some (fault causes.EmptySentence 0 0)
-refusal_by lexicon (word ∷ words) = too_many_or (slice_get (word ∷ words) 128) (first_unknown lexicon (word ∷ words))
+-- there are words, at most that many, and each has an entry in the lexicon: the first of these that does not hold
+abbrev pub refusal_within : ℕ → Cause → Lexicon → List SentenceWord → Option Fault
+refusal_within most too_many lexicon [] = Some (fault causes.EmptySentence 0 0)
+refusal_within most too_many lexicon (word ∷ words) = too_many_or most too_many (slice_get (word ∷ words) most) (first_unknown lexicon (word ∷ words))
 
--- the same with the lexicon of a grammar
+-- the most words that a sentence has
+abbrev pub most_words : ℕ
+most_words = 128
+
+-- why a sentence is refused
 abbrev pub refusal : Grammar → List SentenceWord → Option Fault
-refusal g words = refusal_by g.lexicon words
+refusal g words = refusal_within most_words causes.TooManyWords g.lexicon words
 
 -- a sentence is refused for its fault, and for no other
 abbrev pub IsRefused : Grammar → List SentenceWord → Stop → Type 0

@@ -17,7 +17,8 @@ use Rattle.xdg_problem.specs.Solutions as compiled
 use Rattle.xdg_principles.specs.declared.building.PrincipleUse.{PrincipleUse}
 use Rattle.xdg_types.specs.declared.table.DimType.{DimType}
 use Rattle.xdg_types.specs.Table.{typed}
-use Rattle.xdg_build.specs.Grammars.{Grammar, used_dims, no_dim}
+use Rattle.xdg_build.specs.Grammars.{Grammar}
+use Rattle.xdg_formula.specs.Tables.{used_dims, no_dim}
 use Rattle.xdg_build.specs.Groups.{used_uses}
 use Rattle.xdg_build.specs.Plans.{has_graph}
 use Rattle.xdg_build.specs.Principles.{Satisfies}

@@ -1,7 +1,8 @@
 //! Which sentences are refused.
 
-ghost use Rattle.std.specs.Prelude.{◌≡◌};
-ghost use Rattle.xdg_build.specs.Refusals.{first_unknown, refusal_by};
+ghost use Rattle.std.specs.Prelude.{◌≡◌, ◌≤◌};
+ghost use Rattle.xdg_base.specs.declared.faults.Cause.TheVariants as causes;
+ghost use Rattle.xdg_build.specs.Refusals as spec;
 
 use xdg_base::{Cause, Fault};
 use xdg_packed::Packed;
@@ -12,7 +13,7 @@ const WORDS: usize = 128;
 
 /// The first word that has no entry.
 pub fn first_unknown(packed: &Packed, words: &[SentenceWord]) -> Option<Fault>
-    ensures { result ≡ first_unknown packed.now words.now }
+    ensures { result ≡ spec.first_unknown packed.now words.now }
 {
     for word in words {
         if packed.of_word(word.text.as_str()).is_empty() {
@@ -22,19 +23,32 @@ pub fn first_unknown(packed: &Packed, words: &[SentenceWord]) -> Option<Fault>
     None
 }
 
-/// Why a sentence is refused: it has no word, or too many, or a word without entry.
-pub(crate) fn refusal(packed: &Packed, words: &[SentenceWord]) -> Option<Fault>
-    ensures { result ≡ refusal_by packed.now words.now }
+/// Why words are refused where that many may stand: there is none, or too many, or one has no entry. The cause is that of too many.
+pub fn refusal_within(
+    most: usize,
+    too_many: Cause,
+    packed: &Packed,
+    words: &[SentenceWord],
+) -> Option<Fault>
+    requires { most ≤ spec.most_words }
+    ensures { result ≡ spec.refusal_within most too_many packed.now words.now }
 {
     if words.is_empty() {
         return Some(Fault::at(Cause::EmptySentence, 0));
     }
-    match words.get(WORDS) {
+    match words.get(most) {
         Some(word) => Some(Fault {
-            cause: Cause::TooManyWords,
+            cause: too_many,
             at: word.at,
-            reached: WORDS as u64 + 1,
+            reached: most as u64 + 1,
         }),
         None => first_unknown(packed, words),
     }
+}
+
+/// Why a sentence is refused.
+pub(crate) fn refusal(packed: &Packed, words: &[SentenceWord]) -> Option<Fault>
+    ensures { result ≡ spec.refusal_within spec.most_words causes.TooManyWords packed.now words.now }
+{
+    refusal_within(WORDS, Cause::TooManyWords, packed, words)
 }

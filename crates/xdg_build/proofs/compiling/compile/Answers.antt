@@ -3,7 +3,8 @@ use Rattle.xdg_base.specs.declared.faults.Fault.{Fault}
 use Rattle.xdg_formula.specs.Answers.{Offends}
 use Rattle.xdg_build.specs.Formulas.{formulas_of}
 use Rattle.xdg_build.specs.Says.{Compiles, KeepsEach}
-use Rattle.xdg_build.proofs.Compiled.{all_are, keeps_all, zip_more, zip_all}
+use Rattle.xdg_build.proofs.Compiled.{all_are, keeps_all}
+use Rattle.xdg_build.proofs.ListTurns.{zip_more, zip_all}
 use Rattle.xdg_build.proofs.Rightly.{body_right}
 use Rattle.xdg_build.proofs.compiling.compile.Goals as goal
 

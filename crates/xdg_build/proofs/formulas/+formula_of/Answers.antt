@@ -6,7 +6,8 @@ use Rattle.xdg_formula.specs.Rules.{RuleTerm}
 use Rattle.xdg_formula.specs.Written.{tree}
 use Rattle.xdg_formula.specs.declared.tree.RuleKind.TheViews.{the_lemmas}
 use Rattle.xdg_build.specs.Says.{IsMade}
-use Rattle.xdg_build.proofs.Compiled.{right_by, inside_each, inside_at, deeper, zip_more, made_by, made_or, made_and, made_even, made_odd, made_every, made_any, made_left, made_same}
+use Rattle.xdg_build.proofs.Compiled.{right_by, inside_each, inside_at, deeper, made_by, made_or, made_and, made_even, made_odd, made_every, made_any, made_left, made_same}
+use Rattle.xdg_build.proofs.ListTurns.{zip_more}
 use Rattle.xdg_build.proofs.Rightly.{not_right, every_right, any_right, left_right, same_right}
 use Rattle.xdg_formula.proofs.Treed.{tree_or, tree_and, tree_not, tree_every, tree_any, tree_edge, tree_above, tree_left, tree_same, tree_attr, tree_feat}
 use Rattle.std.proofs.lemmas.Result.{IfOk-weaker}

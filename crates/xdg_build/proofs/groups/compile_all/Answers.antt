@@ -1,8 +1,10 @@
-use Rattle.std.proofs.Common.{◌<◌, ◌++◌, map, filter, [], ◌∷◌, ap, sym, ◌∙◌, subst}
+use Rattle.std.proofs.Common.{◌<◌, ◌++◌, get_or, map, filter, [], ◌∷◌, ap, sym, ◌∙◌, subst}
 use Rattle.xdg_build.specs.Grammars.{grammar_of, is_used}
 use Rattle.xdg_build.specs.Groups.{group_of}
 use Rattle.xdg_build.specs.Known.{IsKnownFor}
-use Rattle.xdg_build.proofs.Recorded.{zip_at, zip_length, zip_set}
+use Rattle.std.proofs.lemmas.Slice.Zip.{AllZip-long}
+use Rattle.xdg_build.proofs.Lists.{zip_at}
+use Rattle.xdg_build.proofs.Recorded.{zip_set}
 use Rattle.xdg_build.proofs.ListTurns.{skipped, kept, used_told}
 use Rattle.xdg_build.proofs.groups.compile_all.Goals as goal
 
@@ -16,12 +18,13 @@ loop-place-preserved-then-not-is_used c = (
 
 pub bounds-kept-place : goal.bounds-kept-place
 bounds-kept-place c =
-    subst (λ n. c.loop-place.place < n) (sym (zip_length (λ u known. IsKnownFor (grammar_of c.args.checked.now c.args.packed.now) u known.entries) c.args.uses.now c.loop-place.kept c.loop-place.invariant.1)) c.loop-place-test.true
+    subst (λ n. c.loop-place.place < n) (sym (AllZip-long (λ u known. IsKnownFor (grammar_of c.args.checked.now c.args.packed.now) u known.entries) c.args.uses.now c.loop-place.kept c.loop-place.invariant.1)) c.loop-place-test.true
 
 pub compile_use-requires-clause-kept : goal.compile_use-requires-clause-kept
 compile_use-requires-clause-kept c =
-    zip_at (λ u known. IsKnownFor (grammar_of c.args.checked.now c.args.packed.now) u known.entries) c.args.uses.now c.loop-place.kept c.loop-place.place c.index-uses-place.result c.index-kept-place.result
-    c.loop-place-test.true c.index-uses-place.is c.loop-place.invariant.1
+    subst (λ u. IsKnownFor (grammar_of c.args.checked.now c.args.packed.now) u (get_or c.loop-place.kept c.loop-place.place c.index-kept-place.result).entries) (sym c.index-uses-place.is)
+    (zip_at (λ u known. IsKnownFor (grammar_of c.args.checked.now c.args.packed.now) u known.entries) c.args.uses.now c.loop-place.kept c.loop-place.place c.index-uses-place.result c.index-kept-place.result
+    c.loop-place.invariant.1 c.loop-place-test.true)
 
 pub loop-place-preserved : goal.loop-place-preserved
 loop-place-preserved c = (
