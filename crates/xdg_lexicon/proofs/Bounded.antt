@@ -1,9 +1,9 @@
 -- A body denotes at most as many partial entries as it has combinations, and the classes that an entry uses have places.
-use Rattle.std.proofs.Common.{◌≡◌, ℕ, zero, suc, ◌<◌, ◌≤◌, ◌+◌, ◌*◌, List, [], ◌∷◌, ◌++◌, length, get_or, ap, sym, ◌∙◌, arith, inl, inr, subst}
+use Rattle.std.proofs.Common.{◌≡◌, ℕ, zero, suc, ◌<◌, ◌≤◌, ◌+◌, ◌*◌, List, ◌++◌, length, ap, sym, ◌∙◌, arith, subst}
 use Rattle.std.specs.Prelude.{Some}
 use Rattle.std.proofs.Math.Nat.{suc-mul}
 use Rattle.std.proofs.lemmas.List.{length-append, length-map}
-use Rattle.xdg_names.proofs.Texts.{place_of-Some, place_of-has_text, stands-has_text}
+use Rattle.xdg_names.proofs.Texts.{among_has, place_of-Some, place_of-has_text}
 use Rattle.xdg_terms.specs.Forms.{Bindings}
 use Rattle.xdg_types.specs.declared.table.DimType.{DimType}
 use Rattle.xdg_classes.specs.Bodies.{Expr, Body, Bodies, body, calls}
@@ -15,7 +15,7 @@ use Rattle.xdg_check.specs.Counts.{Counting, Agrees, combos, sum_of_combos, prod
 use Rattle.xdg_lexicon.specs.Denotes.{JoinsEach, no_other, clashes, joins, JoinsAll, no_first, first_then, Denotes, record_said, class_used, conjunction, disjunction, DenotesBoth, all_joined, join_first, DenotesEither, all_listed, list_first, IsRanked}
 use Rattle.xdg_lexicon.specs.Partial.{Partial}
 use Rattle.xdg_facts.specs.Membership.{In}
-use Rattle.xdg_facts.proofs.In.{in_map, in_index}
+use Rattle.xdg_facts.proofs.In.{in_map, map_in, in_index}
 
 -- ---- counts
 
@@ -76,18 +76,12 @@ module _ (checked : Parts) (names : Counting) (agrees : Agrees combos checked.cl
 
 -- ---- places
 
-named : (cs : List Class) (c : Class) → In cs c → (k : ℕ) × ((k < length (class_texts cs)) × (get_or (class_texts cs) k [] ≡ c.name))
-named [] c h = absurd h
-named (x ∷ cs) c (inl is) = (0, (omega arith, ap (λ (y : Class). y.name) is))
-named (x ∷ cs) c (inr h) = (let found = named cs c h in (suc found.0, ((let l = found.1.0 in omega (arith, l)), found.1.1)))
-
 pub entry_ranked : (checked : Parts) (e : EntryDef) (expr : Expr) → IsChecked checked → In checked.entries e → e.body ≡ expr → IsRanked checked (length checked.order) (body expr.kind)
 entry_ranked checked e expr keeps stands is call used =
     let bound = ((keeps.entries e stands).called call (subst (λ (x : Expr). In (calls (body x.kind)) call) (sym is) used)).bound in
     let known = class_texts checked.classes in
     let text = call.name.text in
-    let there = named checked.classes bound.class bound.stands in
-    let place = place_of-has_text known text (stands-has_text known text there.0 there.1.0 (there.1.1 ∙ bound.name)) in
+    let place = place_of-has_text known text (among_has known text (subst (In known) bound.name (map_in (λ (c : Class). c.name) checked.classes bound.class bound.stands))) in
     let inside : place.0 < length checked.classes = (let l = (place_of-Some known text place.0 place.1).0 in let long : length known ≡ length checked.classes = length-map checked.classes (λ (c : Class). c.name) in omega (arith, l, long)) in
     let found = in_index checked.order place.0 0 (keeps.ordered.placed place.0 inside) in
     (found.0, (found.1.0, place.1 ∙ ap Some (sym found.1.1)))

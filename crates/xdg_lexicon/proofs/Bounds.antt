@@ -1,5 +1,5 @@
 -- The place of words, and the limits of entries.
-use Rattle.std.proofs.Common.{◌≡◌, ℕ, zero, suc, ◌-◌, ◌^◌, ◌<◌, ◌≤◌, List, [], ◌∷◌, length, get_or, map, Option, None, Some, Err, false, refl, sym, ap, ◌∙◌, subst, inr, arith, codes}
+use Rattle.std.proofs.Common.{◌≡◌, ℕ, ◌-◌, ◌^◌, ◌<◌, ◌≤◌, List, [], length, get_or, map, Option, None, Some, Err, false, refl, sym, ap, ◌∙◌, subst, inr, arith, codes}
 use Rattle.std.specs.Prelude.{slice_get, option_map}
 use Rattle.std.proofs.lemmas.List.{length-map, get_or-map}
 use Rattle.xdg_base.specs.declared.faults.Cause.TheVariants as causes
@@ -19,8 +19,9 @@ use Rattle.xdg_packed.specs.Entries.{IsWordPlace, count_of}
 use Rattle.xdg_lexicon.specs.Growing.{IsFirstCrowded, count_at}
 use Rattle.xdg_lexicon.specs.Lexicon.{AreFewEach, IsCrowded, reaching}
 use Rattle.xdg_lexicon.specs.Steps.{KeepsLimits}
-use Rattle.xdg_lexicon.proofs.Right.{keeps_at}
+use Rattle.xdg_lexicon.proofs.Dims.{keeps_at}
 use Rattle.xdg_facts.proofs.In.{differ_once}
+use Rattle.xdg_facts.proofs.Lists.{fused}
 use Rattle.xdg_types.proofs.Places.{places_once}
 use Rattle.std.proofs.lemmas.Option.{slice_get-map}
 use Rattle.xdg_lexicon.proofs.OneMeaning.{some_same}
@@ -31,12 +32,8 @@ map_at : {A B : Type 0} (f : A → B) (xs : List A) (k : ℕ) (x : A) → slice_
 map_at f xs k x is = slice_get-map f xs k ∙ ap (option_map f) is
 
 name_at : (fs : List (List ℕ × Ty)) (k : ℕ) (name : List ℕ) (s : Shape) → slice_get (typed fs) k ≡ Some (name, s) → slice_get (firsts fs) k ≡ Some name
-name_at [] k name s is = absurd (cc)
-name_at (f ∷ fs) zero name s is = ap Some (heads (f.0, shape f.1) (name, s) is)
-  where
-    heads : (a b : List ℕ × Shape) → Some a ≡ Some b → a.0 ≡ b.0
-    heads a b e = (let same : a ≡ b = cc in ap (λ (x : List ℕ × Shape). x.0) same)
-name_at (f ∷ fs) (suc k) name s is = name_at fs k name s is
+name_at fs k name s is =
+    subst (λ l. slice_get l k ≡ Some name) (fused (λ (p : List ℕ × Shape). p.0) (λ (f : List ℕ × Ty). (f.0, shape f.1)) fs) (map_at (λ (p : List ℕ × Shape). p.0) (typed fs) k (name, s) is)
 
 pub words_once : (table : Table) → IsTable table → (d f e g : ℕ) → IsWordPlace table d f → IsWordPlace table e g → (d ≡ e) × (f ≡ g)
 words_once table is d f e g x y =

@@ -3,7 +3,7 @@ use Rattle.std.proofs.Common.{◌≡◌, ℕ, zero, suc, ◌<◌, ◌≤◌, ◌
 use Rattle.std.proofs.Math.Seq.{get_or-append_seam}
 use Rattle.std.proofs.lemmas.Bool.{cases_eq}
 use Rattle.std.proofs.lemmas.List.{length-append, length-map, get_or_append_left, get_or-map}
-use Rattle.std.specs.Prelude.{Option, Some, MatchOption}
+use Rattle.std.specs.Prelude.{Option, Some, MatchOption, slice_get}
 use Rattle.std.proofs.lemmas.Option.{get_or_from_slice_get, slice_get_within}
 use Rattle.xdg_domain.specs.Joined.{fields_in}
 use Rattle.xdg_domain.specs.Joins.{SaysBoth, JoinsField, OnSome, ClashesField}
@@ -42,10 +42,10 @@ module _ (Q : ℕ → Record → Type 0) where
 pub one_dim : (dims : List DimType) (k : ℕ) (d dim : DimType) → d ≡ get_or dims k d → IsDim dims k dim → dim ≡ d
 one_dim dims k d dim is at = sym (get_or_from_slice_get dims k dim d at) ∙ sym is
 
-pub keeps_at : (dims : List DimType) (k : ℕ) (d : DimType) → k < length dims → d ≡ get_or dims k d → KeepDims dims → KeepsDim d
-keeps_at [] k d within is h = absurd (omega (arith, within))
-keeps_at (e ∷ dims) zero d within is h = subst KeepsDim (sym is) h.0
-keeps_at (e ∷ dims) (suc k) d within is h = keeps_at dims k d (omega (arith, within)) is h.1
+pub keeps_at : (dims : List DimType) (k : ℕ) (dim : DimType) → slice_get dims k ≡ Some dim → KeepDims dims → KeepsDim dim
+keeps_at [] k dim is keeps = absurd (cc)
+keeps_at (d ∷ dims) zero dim is keeps = (let same : d ≡ dim = cc in subst KeepsDim same keeps.0)
+keeps_at (d ∷ dims) (suc k) dim is keeps = keeps_at dims k dim is keeps.1
 
 pub types_of : (fs : List (List ℕ × Ty)) → AreFeatures (typed fs) → AreTypes (fields_in fs)
 types_of [] h = tt

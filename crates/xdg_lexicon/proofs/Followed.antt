@@ -1,5 +1,5 @@
 -- What a use of a class stands for, class after class.
-use Rattle.std.proofs.Common.{◌≡◌, ℕ, zero, suc, ◌<◌, ◌≤◌, ◌+◌, ◌-◌, List, [], ◌∷◌, length, get_or, refl, ap, sym, ◌∙◌, arith, inl, subst, slice_get, slice_index_or}
+use Rattle.std.proofs.Common.{◌≡◌, ℕ, zero, suc, ◌<◌, ◌≤◌, ◌+◌, ◌-◌, List, length, refl, ap, sym, ◌∙◌, arith, inl, subst, slice_get, slice_index_or}
 use Rattle.std.specs.Prelude.{Some}
 use Rattle.std.proofs.lemmas.List.{length-map}
 use Rattle.xdg_ast.specs.declared.names.Name.{Name}
@@ -15,16 +15,11 @@ use Rattle.xdg_lexicon.specs.Denotes.{closed_args, Denotes, IsRanked}
 use Rattle.xdg_lexicon.specs.Partial.{Partial}
 use Rattle.xdg_lexicon.specs.Right.{IsRightUnder}
 use Rattle.xdg_lexicon.specs.Weights.{weigh, sized}
-use Rattle.xdg_lexicon.proofs.Settled.{named_stands, used_right}
+use Rattle.xdg_lexicon.proofs.Settled.{used_right}
 use Rattle.xdg_check.proofs.Naming.{name_at}
-use Rattle.xdg_facts.proofs.In.{in_got}
+use Rattle.xdg_facts.proofs.In.{in_got, map_in}
 
 -- ---- classes by name
-
-pub stands_at : (cs : List Class) (k : ℕ) (c : Class) → k < length cs → c ≡ get_or cs k c → slice_get cs k ≡ Some c
-stands_at [] k c within is = absurd (omega (arith, within))
-stands_at (x ∷ cs) zero c within is = ap (λ z. Some z) (sym is)
-stands_at (x ∷ cs) (suc k) c within is = stands_at cs k c (omega (arith, within)) is
 
 pub place_within : (cs lent : List Class) (text : List ℕ) (k : ℕ) → lent ≡ cs → Some k ≡ place_of (class_texts cs) text → k < length lent
 place_within cs lent text k same found =
@@ -88,7 +83,7 @@ module _ (checked : Parts) (depth : ℕ) (name : Name) (args : Pairs) (r : IsRan
       within = omega (arith, within);
       ranked = below;
       right = used_right checked bs (calling name args) (record { name = name; args = args }) c keeps right (inl refl) (in_got checked.classes found.0 c found.1.1) class_name;
-      means = λ ms d. den.class_used bs name args (named_body c) ms (named_stands checked.classes c (in_got checked.classes found.0 c found.1.1)) class_name d;
+      means = λ ms d. den.class_used bs name args (named_body c) ms (map_in named_body checked.classes c (in_got checked.classes found.0 c found.1.1)) class_name d;
       lighter = light;
     })
 

@@ -6,42 +6,36 @@ use Rattle.xdg_terms.specs.Forms.{Bindings}
 use Rattle.xdg_classes.specs.Bodies.{Body, either, both, saying, calling, Bodies, no_body, body_then}
 use Rattle.xdg_classes.specs.Wants.{NamedBody}
 use Rattle.xdg_check.specs.declared.checked.Class.{Class}
-use Rattle.xdg_check.specs.Checked.{named_bodies}
+use Rattle.xdg_check.specs.Checked.{named_body, named_bodies}
 use Rattle.xdg_check.specs.Counts.{class_texts}
 use Rattle.xdg_lexicon.specs.Denotes.{JoinsAll, closed_args, Denotes, record_said, class_used, conjunction, disjunction, DenotesBoth, all_joined, join_first, DenotesEither, all_listed, list_first}
 use Rattle.xdg_lexicon.specs.Partial.{Partial, SaysRecord, nothing}
 use Rattle.xdg_lexicon.proofs.OneJoin.{all_once}
 use Rattle.xdg_lexicon.proofs.OneMeaning.{one_record}
 use Rattle.xdg_facts.specs.Membership.{In, Differ}
+use Rattle.xdg_facts.proofs.In.{map_in}
+use Rattle.xdg_facts.proofs.Lists.{fused}
 
 -- ---- names
 
 -- of things whose names differ one has each name
 module _ {A : Type 0} (name : A → List ℕ) where
-  pub name_among : (xs : List A) (x : A) → In xs x → In (map name xs) (name x)
-  name_among [] x h = absurd h
-  name_among (y ∷ xs) x h = elim h [ inl e ↦ inl (ap name e) | inr k ↦ inr (name_among xs x k) ]
-
   pub one_named : (xs : List A) (x y : A) → Differ (map name xs) → In xs x → In xs y → name x ≡ name y → x ≡ y
   one_named [] x y differ h k e = absurd h
   one_named (z ∷ xs) x y differ h k e = elim h [
     | inl i ↦ elim k [
       | inl j ↦ sym i ∙ j
-      | inr l ↦ absurd (differ.0 (subst (In (map name xs)) (sym (ap name i ∙ e)) (name_among xs y l)))
+      | inr l ↦ absurd (differ.0 (subst (In (map name xs)) (sym (ap name i ∙ e)) (map_in name xs y l)))
     ]
     | inr i ↦ elim k [
-      | inl j ↦ absurd (differ.0 (subst (In (map name xs)) (e ∙ sym (ap name j)) (name_among xs x i)))
+      | inl j ↦ absurd (differ.0 (subst (In (map name xs)) (e ∙ sym (ap name j)) (map_in name xs x i)))
       | inr l ↦ one_named xs x y differ.1 i l e
     ]
   ]
 
 -- the bodies of classes have the names of the classes
-names_are : (cs : List Class) → map (λ (n : NamedBody). n.name) (named_bodies cs) ≡ class_texts cs
-names_are [] = refl
-names_are (c ∷ cs) = ap (λ ns. c.name ∷ ns) (names_are cs)
-
 pub bodies_differ : (cs : List Class) → Differ (class_texts cs) → Differ (map (λ n. n.name) (named_bodies cs))
-bodies_differ cs h = subst Differ (sym (names_are cs)) h
+bodies_differ cs h = subst Differ (sym (fused (λ (n : NamedBody). n.name) named_body cs)) h
 
 module _ (dims : List DimType) (classes : List NamedBody) (keeps : KeepDims dims) (differ : Differ (map (λ c. c.name) classes)) where
   -- ---- what a list of a body's members comes from

@@ -1,5 +1,6 @@
 -- Two partial entries have one join at most, and none where they clash.
-use Rattle.std.proofs.Common.{◌≡◌, ℕ, suc, ◌<◌, List, [], ◌∷◌, ◌++◌, length, get_or, refl, ap₂, sym, ◌∙◌, arith, inl, inr, ◌⊎◌}
+use Rattle.std.proofs.Common.{◌≡◌, List, [], ◌∷◌, ◌++◌, refl, ap₂, sym, ◌∙◌, arith, inl, inr, ◌⊎◌}
+use Rattle.std.proofs.lemmas.List.{ext_get_or}
 use Rattle.xdg_domain.specs.Joins.{JoinsField, ClashesField}
 use Rattle.xdg_domain.proofs.Keyed.{says_unique, says_exclusive}
 use Rattle.xdg_types.specs.declared.table.DimType.{DimType}
@@ -10,15 +11,8 @@ use Rattle.xdg_facts.proofs.Lists.{some_at}
 
 -- ---- partial entries
 
--- lists that have the same at each place are the same
-pub same_items : {A : Type 0} (d : A) (a b : List A) → length a ≡ length b → ((k : ℕ) → k < length a → get_or a k d ≡ get_or b k d) → a ≡ b
-same_items d [] [] e h = refl
-same_items d [] (y ∷ b) e h = absurd (omega (arith, e))
-same_items d (x ∷ a) [] e h = absurd (omega (arith, e))
-same_items d (x ∷ a) (y ∷ b) e h = ap₂ (λ z l. z ∷ l) (h 0 (omega arith)) (same_items d a b (omega (arith, e)) (λ k i. h (suc k) (omega (arith, i))))
-
 pub one_join : (dims : List DimType) (a b c d : Partial) → PartialsJoin dims a b c → PartialsJoin dims a b d → c ≡ d
-one_join dims a b c d h k = same_items [] c d (h.count ∙ sym k.count) (λ i within.
+one_join dims a b c d h k = ext_get_or [] c d (h.count ∙ sym k.count) (λ i within.
     let at = some_at dims i (let long = h.count in omega (arith, within, long)) in
     says_unique (JoinsField (features at.0)) (unique_field (features at.0)) (said_of a i) (said_of b i) (said_of c i) (said_of d i) (h.each i at.0 at.1) (k.each i at.0 at.1))
 

@@ -2,7 +2,7 @@
 use Rattle.std.proofs.Common.{◌≡◌, ◌⊎◌, inl, inr, ℕ, ◌<◌, zero, suc, List, [], length, Option, Some, None, refl, sym, ap, ◌∙◌, subst, arith, codes}
 use Rattle.std.specs.Prelude.{Bool, true, false, bytes_eq, ◌&&◌}
 use Rattle.std.proofs.lemmas.Bool.{true≢false}
-use Rattle.std.proofs.lemmas.Option.{get_or_from_slice_get}
+use Rattle.std.proofs.lemmas.List.{ext_get_or}
 use Rattle.xdg_ast.specs.declared.names.Name.{Name}
 use Rattle.xdg_domain.specs.Shapes.{Shape, domain, tuple, truth, integer, text, set, iset, card, valency, mapping, fields, Fields, no_field, field_then, sizes, constants, constants_of, IsType, AreTypes}
 use Rattle.xdg_domain.specs.Tuples.{index, places}
@@ -21,7 +21,6 @@ use Rattle.xdg_classes.specs.Bodies.{Pairs}
 use Rattle.xdg_lexicon.specs.Partial.{Record, Partial, features, SaysFields, SaysRecord, written}
 use Rattle.xdg_lexicon.proofs.Dims.{types_of, keeps_at}
 use Rattle.xdg_facts.proofs.Lists.{some_at}
-use Rattle.xdg_lexicon.proofs.OneJoin.{same_items}
 use Rattle.xdg_facts.proofs.Truths.{same_flag}
 use Rattle.xdg_facts.proofs.Texts.{same_text, is_same}
 use Rattle.xdg_facts.specs.Rises.{has}
@@ -100,11 +99,11 @@ one_said bs fs pairs m n types h k = said_same 0 m n h.0 k.0 (λ key. one_field 
 
 -- one partial entry says what is written of a dimension
 pub one_record : (dims : List DimType) (bs : Bindings) (name : List ℕ) (pairs : Pairs) (p q : Partial) → KeepDims dims → SaysRecord dims bs name pairs p → SaysRecord dims bs name pairs q → p ≡ q
-one_record dims bs name pairs p q keeps h k = same_items [] p q (h.count ∙ sym k.count) (λ i within.
+one_record dims bs name pairs p q keeps h k = ext_get_or [] p q (h.count ∙ sym k.count) (λ i within.
     let inside : i < length dims = (let long = h.count in omega (arith, within, long)) in
     let at = some_at dims i inside in
     let dim : DimType = at.0 in
     elim (same_or_not dim.name name) [
-      | inl is ↦ one_said bs (features dim) pairs _ _ (types_of dim.fields (keeps_at dims i dim inside (sym (get_or_from_slice_get dims i dim dim at.1)) keeps).features) (h.said i dim at.1 is) (k.said i dim at.1 is)
+      | inl is ↦ one_said bs (features dim) pairs _ _ (types_of dim.fields (keeps_at dims i dim at.1 keeps).features) (h.said i dim at.1 is) (k.said i dim at.1 is)
       | inr other ↦ h.unsaid i dim at.1 other ∙ sym (k.unsaid i dim at.1 other)
     ])

@@ -1,6 +1,7 @@
 -- A grammar has one answer.
 use Rattle.std.proofs.Common.{◌≡◌, ℕ, ◌+◌, ◌<◌, ◌≤◌, List, [], ◌∷◌, ◌++◌, length, get_or, None, Result, Ok, Err, refl, sym, ap, ap₂, ◌∙◌, subst, inl, inr, arith}
 use Rattle.std.proofs.lemmas.Bool.{cases_order}
+use Rattle.xdg_base.specs.Told.{Gives}
 use Rattle.xdg_base.specs.declared.faults.Cause.{Cause}
 use Rattle.xdg_base.specs.declared.faults.Cause.TheVariants as causes
 use Rattle.xdg_base.specs.declared.faults.Fault.{Fault}
@@ -14,7 +15,7 @@ use Rattle.xdg_packed.specs.Entries.{IsWordPlace, count_of}
 use Rattle.xdg_lexicon.specs.Sources.{Source, HasNumber}
 use Rattle.xdg_lexicon.specs.Lexicon.{whole, AreWhole, Adds, SoFar, nothing_yet, IsWithinLimits, IsCounted, IsExpanded, Expands, ExpandsAll, no_more, one_more, IsTooMany, alone, together, IsCrowded, OffendsAt, many_uses, many_combos, unsaid, many_entries, many_of_word, Refuses, reaching}
 use Rattle.xdg_lexicon.specs.Steps.{Once, AllOnce, OnceCounted}
-use Rattle.xdg_lexicon.specs.Answers.{IsAnswer, Gives}
+use Rattle.xdg_lexicon.specs.Answers.{IsAnswer}
 use Rattle.xdg_lexicon.proofs.Adding.{same_added, same_whole, none_lacks}
 use Rattle.xdg_facts.proofs.Lists.{head_of, tail_of}
 use Rattle.xdg_facts.specs.Membership.{In}
@@ -184,14 +185,14 @@ module _ (source : Source) (definite : IsDefinite source) where
   -- ---- answers
 
   pub only_expanded : (last : SoFar) → AllOnce source source.entries → ExpandsAll source nothing_yet source.entries last → (answer : Result (List Entry) Fault) → IsAnswer source answer → Gives answer (Ok last.entries)
-  only_expanded last once all (Ok entries) is = sym is.1.1 ∙ ap (λ (s : SoFar). s.entries) (all_same nothing_yet source.entries is.0 last once is.1.0 all)
+  only_expanded last once all (Ok entries) is = ap Ok (sym is.1.1 ∙ ap (λ (s : SoFar). s.entries) (all_same nothing_yet source.entries is.0 last once is.1.0 all))
   only_expanded last once all (Err f) refuses =
       let once' = subst (AllOnce source) refuses.are once in
-      refused_not nothing_yet refuses.so_far last refuses.front refuses.rest refuses.one f (once_front refuses.front (refuses.one ∷ refuses.rest) once') (λ c. once_there refuses.front refuses.rest refuses.one once')
-      (subst (λ l. ExpandsAll source nothing_yet l last) refuses.are all) refuses.expanded refuses.offends
+      absurd (refused_not nothing_yet refuses.so_far last refuses.front refuses.rest refuses.one f (once_front refuses.front (refuses.one ∷ refuses.rest) once') (λ c. once_there refuses.front refuses.rest refuses.one once')
+      (subst (λ l. ExpandsAll source nothing_yet l last) refuses.are all) refuses.expanded refuses.offends)
 
   pub only_refused : (f : Fault) (r : Refuses source f) → AllOnce source r.front → OnceCounted source r.so_far r.one.1 → (answer : Result (List Entry) Fault) → IsAnswer source answer → Gives answer (Err (stops.Fault f))
   only_refused f r once here (Ok entries) is =
-      refused_not nothing_yet r.so_far is.0 r.front r.rest r.one f once here (subst (λ l. ExpandsAll source nothing_yet l is.0) r.are is.1.0) r.expanded r.offends
+      absurd (refused_not nothing_yet r.so_far is.0 r.front r.rest r.one f once here (subst (λ l. ExpandsAll source nothing_yet l is.0) r.are is.1.0) r.expanded r.offends)
   only_refused f r once here (Err g) other =
-      sym (two_refused nothing_yet r.so_far other.so_far r.front r.rest other.front other.rest r.one other.one f g (sym r.are ∙ other.are) once here r.expanded r.offends other.expanded other.offends)
+      ap Err (sym (two_refused nothing_yet r.so_far other.so_far r.front r.rest other.front other.rest r.one other.one f g (sym r.are ∙ other.are) once here r.expanded r.offends other.expanded other.offends))

@@ -1,14 +1,13 @@
 -- An entry more in a lexicon that grows.
-use Rattle.std.proofs.Common.{◌≡◌, ℕ, zero, suc, ◌<◌, List, [], ◌∷◌, ◌++◌, length, get_or, max, sym, subst, inl, inr, arith}
+use Rattle.std.proofs.Common.{◌≡◌, ℕ, List, [], ◌∷◌, ◌++◌, max, sym, subst, inl, inr}
 use Rattle.std.specs.Prelude.{Err}
 use Rattle.xdg_base.specs.declared.faults.Stop.{Stop}
 use Rattle.xdg_base.specs.declared.faults.Stop.TheVariants as stops
 use Rattle.xdg_types.specs.Table.{Table}
-use Rattle.xdg_types.specs.declared.table.DimType.{DimType}
 use Rattle.xdg_packed.specs.Lexicon.{Entry, word_of}
 use Rattle.xdg_packed.specs.Packing.{Puts}
 use Rattle.xdg_packed.specs.Entries.{IsEntry, AreEntries, count_of}
-use Rattle.xdg_lexicon.specs.Partial.{Partial, IsPartial, ArePartial}
+use Rattle.xdg_lexicon.specs.Partial.{Partial}
 use Rattle.xdg_lexicon.specs.Growing.{IsRightGrowing, entries_in}
 use Rattle.xdg_lexicon.specs.Steps.{AddsMember, AddsMembers}
 use Rattle.xdg_lexicon.specs.declared.growing.Growing.{Growing}
@@ -36,11 +35,6 @@ still_right table growing after e count right one place puts own most = record {
 }
 
 -- ---- one member after the other
-
-pub partial_at : (dims : List DimType) (ps : List Partial) (i : ℕ) (p : Partial) → ArePartial dims ps → i < length ps → p ≡ get_or ps i p → IsPartial dims p
-partial_at dims [] i p are within is = absurd (omega (arith, within))
-partial_at dims (q ∷ ps) zero p are within is = subst (IsPartial dims) (sym is) are.0
-partial_at dims (q ∷ ps) (suc i) p are within is = partial_at dims ps i p are.1 (omega (arith, within)) is
 
 -- what is known before a member
 pub record MembersSoFar (table : Table) (members : List Partial) (i : ℕ) (old now : Growing) : Type 0 where

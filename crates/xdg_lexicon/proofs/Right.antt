@@ -14,13 +14,14 @@ use Rattle.xdg_packed.specs.Filled as filled
 use Rattle.xdg_packed.specs.Filled.{filled_fields, fields_said, AreSaid}
 use Rattle.xdg_packed.proofs.Laws.{record_said, filled_right}
 use Rattle.xdg_types.specs.declared.table.DimType.{DimType}
-use Rattle.xdg_types.specs.Table.{Table, IsTable, KeepsDim, KeepDims, ArePlaces, AreFeatures, typed, firsts}
+use Rattle.xdg_types.specs.Table.{Table, IsTable, KeepsDim, ArePlaces, AreFeatures, typed, firsts}
 use Rattle.xdg_packed.specs.Lexicon.{Record, Entry}
 use Rattle.xdg_lexicon.specs.Partial.{Partial, IsPartial, IsRecord, said_of}
 use Rattle.xdg_packed.specs.Entries.{IsWhole, IsEntry, record_type}
 use Rattle.xdg_lexicon.specs.Lexicon.{whole_record, record_then, records_of, whole}
 use Rattle.xdg_facts.proofs.Lists.{any_default}
 use Rattle.xdg_facts.specs.Membership.{Differ}
+use Rattle.xdg_lexicon.proofs.Dims.{keeps_at, types_of as fields_right}
 use Rattle.xdg_lexicon.proofs.OneMeaning.{some_same}
 
 -- ---- types
@@ -31,8 +32,7 @@ same_features [] = refl
 same_features (f ∷ fs) = ap (field_then f.0 (shape f.1)) (same_features fs)
 
 pub types_of : (fs : List (List ℕ × Ty)) → AreFeatures (typed fs) → AreTypes (fields_of (typed fs))
-types_of [] h = tt
-types_of (f ∷ fs) h = (h.0, types_of fs h.1)
+types_of fs h = subst AreTypes (same_features fs) (fields_right fs h)
 
 names_are : (fs : List (List ℕ × Ty)) → names_of (fields_of (typed fs)) ≡ firsts fs
 names_are [] = refl
@@ -40,11 +40,6 @@ names_are (f ∷ fs) = ap (λ l. f.0 ∷ l) (names_are fs)
 
 record_is_type : (dim : DimType) → KeepsDim dim → IsType (record_type dim)
 record_is_type dim keeps = (subst Differ (sym (names_are dim.fields)) keeps.fields, types_of dim.fields keeps.features)
-
-pub keeps_at : (dims : List DimType) (k : ℕ) (dim : DimType) → slice_get dims k ≡ Some dim → KeepDims dims → KeepsDim dim
-keeps_at [] k dim is keeps = absurd (cc)
-keeps_at (d ∷ dims) zero dim is keeps = (let same : d ≡ dim = cc in subst KeepsDim same keeps.0)
-keeps_at (d ∷ dims) (suc k) dim is keeps = keeps_at dims k dim is keeps.1
 
 -- ---- records
 
@@ -149,57 +144,47 @@ place_within bound [] i k are within is = absurd (omega (arith, within))
 place_within bound (j ∷ ks) zero k are within is = subst (λ n. n < bound) (sym is) are.0.0
 place_within bound (j ∷ ks) (suc i) k are within is = place_within bound ks i k are.1 (omega (arith, within)) is
 
+-- of the dimension at a place of the used ones: its features, and what is said of them
+pub record Here (table : Table) (p : Partial) (i k : ℕ) (fs : List (List ℕ × Ty)) (said : Record) : Type 0 where
+  pub inside : i < length table.used
+  pub own : k ≡ get_or table.used i k
+  pub types : AreTypes (fields_of (typed fs))
+  pub right : KeysRise 0 said × AreSaid 0 (fields_of (typed fs)) said
+  pub whole_is : whole_record (slice_get table.dims k) (said_of p k) ≡ filled_fields 0 (fields_of (typed fs)) said
+
 module _ (table : Table) (p : Partial) (dims : List DimType) (used : List ℕ) (i : ℕ) (d : DimType) (m said : Record) (fs : List (List ℕ × Ty)) (is : IsTable table) (partial : IsPartial table.dims p) (same_dims : dims ≡ table.dims) (same_used : used ≡ table.used) (within : i < length used)
     (d_is : d ≡ get_or dims (get_or used i 0) d) (m_is : m ≡ get_or p (get_or used i 0) m) (said_is : said ≡ m) (fs_is : fs ≡ d.fields) where
-  k : ℕ
+  abbrev k : ℕ
   k = get_or used i 0
 
-  inside : i < length table.used
-  inside = subst (λ l. i < length l) same_used within
+  within_used : i < length table.used
+  within_used = subst (λ l. i < length l) same_used within
 
-  own : k ≡ get_or table.used i k
-  unfolding k
-  own = ap (λ l. get_or l i 0) same_used ∙ any_default table.used i 0 (get_or used i 0) inside
+  at_used : k ≡ get_or table.used i k
+  at_used = ap (λ l. get_or l i 0) same_used ∙ any_default table.used i 0 k within_used
 
   k_within : k < length table.dims
-  k_within = place_within (length table.dims) table.used i k is.used inside own
+  k_within = place_within (length table.dims) table.used i k is.used within_used at_used
 
   dim_here : slice_get table.dims k ≡ Some d
-  unfolding k
-  dim_here = slice_get_read table.dims (length table.dims) (get_or used i 0) d refl k_within (d_is ∙ ap (λ l. get_or l (get_or used i 0) d) same_dims)
-
-  keeps : KeepsDim d
-  keeps = keeps_at table.dims k d dim_here is.dims
-
-  pub types_here : AreTypes (fields_of (typed fs))
-  types_here = subst (λ l. AreTypes (fields_of (typed l))) (sym fs_is) (types_of d.fields keeps.features)
+  dim_here = slice_get_read table.dims (length table.dims) k d refl k_within (d_is ∙ ap (λ l. get_or l k d) same_dims)
 
   said_here : said ≡ said_of p k
-  unfolding k
-  said_here = said_is ∙ m_is ∙ any_default p (get_or used i 0) m [] (subst (λ n. get_or used i 0 < n) (sym partial.count) k_within)
+  said_here = said_is ∙ m_is ∙ any_default p k m [] (subst (λ n. k < n) (sym partial.count) k_within)
 
-  both_here : KeysRise 0 said × AreSaid 0 (fields_of (typed fs)) said
-  both_here =
-      let right = subst (λ l. IsRecord l (said_of p k)) (same_features d.fields) (partial.each k d dim_here) in
-      said_right (fields_of (typed fs)) said (subst (λ l. IsRecord (fields_of (typed l)) said) (sym fs_is) (subst (IsRecord (fields_of (typed d.fields))) (sym said_here) right))
-
-  pub rises_here : KeysRise 0 said
-  rises_here = both_here.0
-
-  pub are_here : AreSaid 0 (fields_of (typed fs)) said
-  are_here = both_here.1
-
-  record_here : whole_record (slice_get table.dims k) (said_of p k) ≡ filled_fields 0 (fields_of (typed fs)) said
-  record_here =
-      ap (λ o. whole_record o (said_of p k)) dim_here
-      ∙ ap (filled_fields 0 (fields_of (typed d.fields))) (sym said_here)
-      ∙ ap (λ l. filled_fields 0 (fields_of (typed l)) said) (sym fs_is)
-
-  pub further_here : (made next : Entry) (r : Record) → Some r ≡ filled_fields 0 (fields_of (typed fs)) said → next ≡ made ++ r ∷ [] → RecordsSoFar table p i made → RecordsSoFar table p (i + 1) next
-  further_here made next r has grown so_far = records_further table p i k made next r inside own (record_here ∙ sym has) grown so_far
-
-  pub lacking_here : (made : Entry) → None ≡ filled_fields 0 (fields_of (typed fs)) said → RecordsSoFar table p i made → None ≡ whole table p
-  lacking_here made none so_far = records_lacking table p i k made inside own (record_here ∙ sym none) so_far
+  pub here : Here table p i k fs said
+  here = record {
+    inside = within_used;
+    own = at_used;
+    types = subst (λ l. AreTypes (fields_of (typed l))) (sym fs_is) (types_of d.fields (keeps_at table.dims k d dim_here is.dims).features);
+    right =
+        let right = subst (λ l. IsRecord l (said_of p k)) (same_features d.fields) (partial.each k d dim_here) in
+        said_right (fields_of (typed fs)) said (subst (λ l. IsRecord (fields_of (typed l)) said) (sym fs_is) (subst (IsRecord (fields_of (typed d.fields))) (sym said_here) right));
+    whole_is =
+        ap (λ o. whole_record o (said_of p k)) dim_here
+        ∙ ap (filled_fields 0 (fields_of (typed d.fields))) (sym said_here)
+        ∙ ap (λ l. filled_fields 0 (fields_of (typed l)) said) (sym fs_is);
+  }
 
 pub past : (used own : List ℕ) (i : ℕ) → used ≡ own → length used ≤ i → length own ≤ i
 past used own i same all = subst (λ l. length l ≤ i) same all

@@ -2,6 +2,7 @@
 use Rattle.std.proofs.Common.{◌≡◌, inl, inr, ℕ, zero, suc, ◌<◌, List, [], ◌∷◌, length, map, get_or, refl, sym, ap, ◌∙◌, subst, arith}
 use Rattle.std.specs.Prelude.{Bool, true, false, bytes_eq, if◌then◌else◌, Option, None, Some, IfSome}
 use Rattle.std.proofs.lemmas.Bool.{true≢false}
+use Rattle.std.proofs.lemmas.Option.{slice_get_read}
 use Rattle.xdg_ast.specs.declared.names.Name.{Name}
 use Rattle.xdg_ast.specs.declared.names.Pair.{Pair}
 use Rattle.xdg_ast.specs.declared.expressions.ExprKind.{ExprKind}
@@ -29,10 +30,12 @@ use Rattle.xdg_check.proofs.Opened.{wants_stand}
 use Rattle.xdg_lexicon.specs.Denotes.{closed_args}
 use Rattle.xdg_lexicon.specs.Partial.{written}
 use Rattle.xdg_lexicon.specs.Right.{AreRight, IsRightUnder}
-use Rattle.xdg_lexicon.proofs.Once.{name_among, one_named}
+use Rattle.xdg_lexicon.proofs.Dims.{keeps_at}
+use Rattle.xdg_lexicon.proofs.Once.{one_named}
 use Rattle.xdg_facts.proofs.Texts.{same_text, is_same}
 use Rattle.xdg_facts.specs.Membership.{In, Differ}
-use Rattle.xdg_facts.proofs.In.{in_left, in_right}
+use Rattle.xdg_facts.proofs.In.{in_left, in_right, in_index, map_in}
+use Rattle.xdg_facts.proofs.Lists.{fused}
 use Rattle.xdg_ast.specs.Texts.{texts}
 
 -- ---- features by name
@@ -51,27 +54,18 @@ dim_found : (dims : List DimType) (dim : DimType) → Differ (map (λ d. d.name)
 dim_found [] dim differ h = absurd h
 dim_found (x ∷ dims) dim differ h = elim h [
   | inl e ↦ at_name x.name dim.name (Some x) (dim_named dims dim.name) (ap (λ (d : DimType). d.name) e) ∙ ap (λ z. Some z) e
-  | inr k ↦ past_name x.name dim.name (Some x) (dim_named dims dim.name) (λ i. differ.0 (subst (In (map (λ (d : DimType). d.name) dims)) (sym i) (name_among (λ (d : DimType). d.name) dims dim k))) ∙ dim_found dims dim differ.1 k
+  | inr k ↦ past_name x.name dim.name (Some x) (dim_named dims dim.name) (λ i. differ.0 (subst (In (map (λ (d : DimType). d.name) dims)) (sym i) (map_in (λ (d : DimType). d.name) dims dim k))) ∙ dim_found dims dim differ.1 k
 ]
 
 type_found : (fs : List (List ℕ × Ty)) (name : List ℕ) (s : Shape) → Differ (firsts fs) → In (typed fs) (name, s) → type_named fs name ≡ Some s
 type_found [] name s differ h = absurd h
 type_found (f ∷ fs) name s differ h = elim h [
   | inl e ↦ at_name f.0 name (Some (shape f.1)) (type_named fs name) (ap (λ (p : List ℕ × Shape). p.0) e) ∙ ap (λ (p : List ℕ × Shape). Some p.1) e
-  | inr k ↦ past_name f.0 name (Some (shape f.1)) (type_named fs name) (λ i. differ.0 (subst (In (firsts fs)) (sym i) (typed_among fs name s k))) ∙ type_found fs name s differ.1 k
+  | inr k ↦ past_name f.0 name (Some (shape f.1)) (type_named fs name) (λ i. differ.0 (subst (In (firsts fs)) (sym i) (subst (λ l. In l name) (fused (λ (p : List ℕ × Shape). p.0) (λ (x : List ℕ × Ty). (x.0, shape x.1)) fs) (map_in (λ (p : List ℕ × Shape). p.0) (typed fs) (name, s) k)))) ∙ type_found fs name s differ.1 k
 ]
-  where
-    typed_among : (gs : List (List ℕ × Ty)) (n : List ℕ) (t : Shape) → In (typed gs) (n, t) → In (firsts gs) n
-    typed_among [] n t j = absurd j
-    typed_among (g ∷ gs) n t j = elim j [ inl e ↦ inl (ap (λ (p : List ℕ × Shape). p.0) e) | inr l ↦ inr (typed_among gs n t l) ]
-
-field_typed : (fs : List (List ℕ × Ty)) (f : List ℕ × Ty) → In fs f → In (typed fs) (f.0, shape f.1)
-field_typed [] f h = absurd h
-field_typed (g ∷ fs) f h = elim h [ inl e ↦ inl (ap (λ (x : List ℕ × Ty). (x.0, shape x.1)) e) | inr k ↦ inr (field_typed fs f k) ]
 
 keeps_in : (dims : List DimType) (dim : DimType) → KeepDims dims → In dims dim → KeepsDim dim
-keeps_in [] dim keeps h = absurd h
-keeps_in (x ∷ dims) dim keeps h = elim h [ inl e ↦ subst KeepsDim e keeps.0 | inr k ↦ keeps_in dims dim keeps.1 k ]
+keeps_in dims dim keeps h = let at = in_index dims dim dim h in keeps_at dims at.0 dim (slice_get_read dims (length dims) at.0 dim refl at.1.0 (sym at.1.1)) keeps
 
 -- the type of a feature of a dimension is found by their names
 feature_found : (table : Table) (dim : DimType) (name key : List ℕ) (s : Shape) → IsTable table → In table.dims dim → dim.name ≡ name → In (typed dim.fields) (key, s) → feature_shape table name key ≡ Some s
@@ -103,7 +97,7 @@ record_right table cs bs kind name pairs dim keeps right is stands same f among 
     by (Some t) e =
         let r = written_in pairs f.0 t e in
         let type : feature_shape table name.text r.0.key.text ≡ Some (shape f.1) =
-        ap (feature_shape table name.text) r.1.1.0 ∙ feature_found table dim name.text f.0 (shape f.1) keeps stands same (field_typed dim.fields f among) in
+        ap (feature_shape table name.text) r.1.1.0 ∙ feature_found table dim name.text f.0 (shape f.1) keeps stands same (map_in (λ (x : List ℕ × Ty). (x.0, shape x.1)) dim.fields f among) in
         subst (IsRight bs (shape f.1)) r.1.1.1 (right.said (record { dim = name; pairs = pairs }) there r.0 r.1.0 (shape f.1) type)
 
 -- ---- parts of a body
@@ -162,10 +156,6 @@ bound_first bs (p ∷ args) param h = by (bytes_eq p.key.text param) refl (bound
     by true e later = (p, (inl refl, (same_text p.key.text param e, refl)))
     by false e later = (let r = later (rest e) in (r.0, (inr r.1.0, r.1.1)))
 
-pub named_stands : (cs : List Class) (c : Class) → In cs c → In (named_bodies cs) (named_body c)
-named_stands [] c h = absurd h
-named_stands (x ∷ cs) c h = elim h [ inl e ↦ inl (ap named_body e) | inr k ↦ inr (named_stands cs c k) ]
-
 module _ (parts : Parts) (keeps : IsChecked parts) (bs : Bindings) (call : Called) (c : Class) (stands : In parts.classes c) (is : c.name ≡ call.name.text) (bound : IsBound parts.classes call)
     (given : (pair : Pair Term) → In call.args pair → (s : Shape) → Wants parts.types (named_bodies parts.classes) call.name.text pair.key.text s → IsOpenRight [] s (closed bs pair.value)) where
   wanted : (param : List ℕ) (u : Shape) → In c.params param → Wants parts.types (named_bodies parts.classes) c.name param u → (b : Term) × ((bound_to (closed_args bs call.args) param ≡ Some b) × IsOpenRight [] u b)
@@ -187,12 +177,12 @@ module _ (parts : Parts) (keeps : IsChecked parts) (bs : Bindings) (call : Calle
         let found = feature_found parts.types r.dim said.dim.text pair.key.text p.type keeps.types r.defined r.name p.has in
         let same : p.type ≡ s = (let o : Some p.type ≡ Some s = sym found ∙ type in cc) in
         bound_law c.params (closed_args bs call.args) s pair.value (subst (λ z. IsOpenRight c.params z pair.value) same p.right)
-        (λ param u w. wanted param u (scoped_in pair.value p.scoped s param u w) (at_feature (named_body c) said pair s param u (named_stands parts.classes c stands) h j type w));
+        (λ param u w. wanted param u (scoped_in pair.value p.scoped s param u w) (at_feature (named_body c) said pair s param u (map_in named_body parts.classes c stands) h j type w));
     bound = λ other h. ((keeps.classes c stands).called other h).bound;
     given = λ other h pair j s wants.
         let r = (keeps.classes c stands).called other h in
         closed_law c.params (closed_args bs call.args) s pair.value (r.right pair j s wants)
-        (λ param u w. wanted param u (scoped_in pair.value (r.scoped pair j) s param u w) (at_argument (named_body c) other pair s param u (named_stands parts.classes c stands) h j wants w));
+        (λ param u w. wanted param u (scoped_in pair.value (r.scoped pair j) s param u w) (at_argument (named_body c) other pair s param u (map_in named_body parts.classes c stands) h j wants w));
   }
 
 pub used_right : (parts : Parts) (bs : Bindings) (b : Body) (call : Called) (c : Class) → IsChecked parts → IsRightUnder parts.types parts.classes bs b → In (calls b) call → In parts.classes c → c.name ≡ call.name.text

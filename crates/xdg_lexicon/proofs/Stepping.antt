@@ -2,6 +2,7 @@
 use Rattle.std.proofs.Common.{◌≡◌, ℕ, ◌+◌, ◌<◌, ◌≤◌, List, [], ◌∷◌, ◌++◌, length, get_or, drop, take, map, Result, Ok, Err, sym, ap, ◌∙◌, subst, inl, inr, arith}
 use Rattle.std.proofs.lemmas.List.{map-append, take_more, take_all, take-append-drop}
 use Rattle.xdg_facts.proofs.Lists.{from_place}
+use Rattle.xdg_base.specs.Told.{Gives, answer_of}
 use Rattle.xdg_base.specs.declared.faults.Cause.{Cause}
 use Rattle.xdg_base.specs.declared.faults.Cause.TheVariants as causes
 use Rattle.xdg_base.specs.declared.faults.Fault.{Fault}
@@ -20,7 +21,7 @@ use Rattle.xdg_lexicon.specs.Lexicon.{Adds, SoFar, nothing_yet, IsWithinLimits, 
 use Rattle.xdg_lexicon.specs.Steps.{one_of, AddsMembers, KeepsLimits, Once, AllOnce, CountsOne, AddsOne, ExpandsOne}
 use Rattle.xdg_lexicon.proofs.Bounds.{words_once}
 use Rattle.xdg_lexicon.proofs.Numbers.{number_once, has_number, alike_uses, alike_combos}
-use Rattle.xdg_lexicon.specs.Answers.{IsAnswer, Gives, Tells, answer_of}
+use Rattle.xdg_lexicon.specs.Answers.{IsAnswer, Tells}
 use Rattle.xdg_lexicon.proofs.Only.{IsDefinite, not_within, only_expanded, only_refused}
 
 -- ---- the numbers of one `defentry`
@@ -204,8 +205,7 @@ module _ (parts : Parts) (defs : List EntryDef) (i : ℕ) (def : EntryDef) (with
   pub refused_only : IsChecked parts → (stop : Stop) → parts.entries ≡ defs → ExpandsOne (source_of parts) so (one_of def) (Err stop) → (answer : Result (List Entry) Fault) → IsAnswer (source_of parts) answer → Gives answer (Err stop)
   unfolding refused
   refused_only checked (stops.Fault f) same one answer told = only_refused (source_of parts) (definite parts checked) f (refused f same one) so_far.once one.1 answer told
-  refused_only checked stops.OutOfMemory same one (Ok entries) told = tt
-  refused_only checked stops.OutOfMemory same one (Err g) told = tt
+  refused_only checked stops.OutOfMemory same one answer told = tt
 
 abbrev with_entries : List Entry → SoFar
 with_entries entries = record { uses = 0; combos = 0; entries = entries }

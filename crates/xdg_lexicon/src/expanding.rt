@@ -1,12 +1,13 @@
 //! Expansion, `defentry` by `defentry`.
 
 ghost use Rattle.std.specs.Prelude.{◌≡◌, ◌≤◌, List, Result, IfOk};
+ghost use Rattle.xdg_base.specs.Told.{Gives, answer_of};
 ghost use Rattle.xdg_base.specs.declared.faults.Fault as faults;
 ghost use Rattle.xdg_check.specs.Checked.{IsChecked};
 ghost use Rattle.xdg_facts.specs.Membership.{In};
 ghost use Rattle.xdg_packed.specs.Entries.{IsRightLexicon};
 ghost use Rattle.xdg_packed.specs.Lexicon as spec;
-ghost use Rattle.xdg_lexicon.specs.Answers.{IsAnswer, Gives, Tells, IsPlaced, answer_of, entries_of};
+ghost use Rattle.xdg_lexicon.specs.Answers.{IsAnswer, Tells, IsPlaced, entries_of};
 ghost use Rattle.xdg_lexicon.specs.Growing.{IsRightGrowing, entries_in};
 ghost use Rattle.xdg_lexicon.specs.Lexicon.{SoFar};
 ghost use Rattle.xdg_lexicon.specs.Expanding.{IsRight, so_far};

@@ -1,9 +1,8 @@
 //! Partial entries, made whole.
 
-ghost use Rattle.std.specs.Prelude.{◌≡◌, ◌+◌, ◌<◌, ℕ, IfOk, IfSome};
-ghost use Rattle.std.specs.Option.{option_copied};
+ghost use Rattle.std.specs.Prelude.{◌≡◌, IfOk, IfSome};
 ghost use Rattle.xdg_domain.specs.Shapes.{fields_of, AreTypes};
-ghost use Rattle.xdg_domain.specs.Valencies.{said_at, KeysRise};
+ghost use Rattle.xdg_domain.specs.Valencies.{KeysRise};
 ghost use Rattle.xdg_packed.specs.Filled.{filled_fields, AreSaid};
 ghost use Rattle.xdg_lexicon.specs.Partial.{IsPartial};
 ghost use Rattle.xdg_types.specs.Table.{typed};
@@ -13,7 +12,7 @@ ghost use Rattle.xdg_lexicon.specs.Lexicon.{whole};
 use std::alloc::Global;
 use xdg_base::{List, OutOfMemory, Text};
 use xdg_domain::{Entry, Fields, Ty, Value};
-use xdg_packed::fill;
+use xdg_packed::{fill, taken};
 use xdg_types::TypeTable;
 
 /// What a partial entry says of the used dimensions, with all defaults. None where it leaves a plain feature of one unsaid.
@@ -63,20 +62,4 @@ fn filled_record(
         rest = later;
     }
     Ok(Some(all))
-}
-
-/// What stands at the front of what is said for the feature with that place, and what is said of later ones.
-fn taken(said: &[(u32, Value)], place: u32) -> (Option<&Value>, &[(u32, Value)])
-    requires { KeysRise place said.now }
-    ensures here { option_copied result.0 ≡ said_at said.now place }
-    ensures rises { KeysRise (place + 1) result.1.now }
-    ensures later { (key : ℕ) → place < key → said_at result.1.now key ≡ said_at said.now key }
-{
-    let Some((first, more)) = said.split_first() else {
-        return (None, said);
-    };
-    if first.0 == place {
-        return (Some(&first.1), more);
-    }
-    (None, said)
 }

@@ -1,7 +1,7 @@
 //! A packed lexicon to which entries are added, and its limits.
 
 ghost use Rattle.std.specs.Prelude.{◌≡◌, ℕ, ◌<◌, ◌≤◌, [], length, MatchOption, IfOk, IfSome, ◌^◌};
-ghost use Rattle.xdg_lexicon.specs.Answers.{answer_of};
+ghost use Rattle.xdg_base.specs.Told.{answer_of};
 ghost use Rattle.xdg_lexicon.specs.Partial.{IsPartial, ArePartial};
 ghost use Rattle.xdg_types.specs.Table.{Table, IsTable};
 ghost use Rattle.xdg_packed.specs.Entries.{IsWordPlace};
@@ -79,10 +79,10 @@ fn add_member(
     match whole_entry(alloc, types, member)? {
         None => Err(passed(Cause::MissingArg, at, 0)),
         Some(entry) => {
-            let (packing, count) = growing.packing.add(alloc, entry)?;
+            let added = growing.packing.add(alloc, entry)?;
             Ok(Growing {
-                packing,
-                most: growing.most.max(count),
+                packing: added.packing,
+                most: growing.most.max(added.of_word),
             })
         }
     }

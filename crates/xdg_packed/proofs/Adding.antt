@@ -1,27 +1,22 @@
 -- An entry is added to a packed lexicon, or stands there already.
-use Rattle.std.proofs.Common.{◌≡◌, ℕ, suc, ◌+◌, ◌-◌, ◌^◌, ◌<◌, ◌≤◌, true, false, List, [], ◌∷◌, ◌++◌, ◌⊎◌, length, get_or, map, take, refl, sym, ap, ap₂, subst, inl, inr, ◌∙◌, arith, All, true≢false}
+use Rattle.std.proofs.Common.{◌≡◌, ℕ, suc, ◌+◌, ◌-◌, ◌<◌, ◌≤◌, true, false, List, [], ◌∷◌, ◌++◌, ◌⊎◌, length, get_or, map, take, refl, sym, ap, ap₂, subst, inl, inr, ◌∙◌, arith, true≢false}
 use Rattle.std.proofs.lemmas.Bool.{cases_lt}
 use Rattle.std.proofs.lemmas.List.{map-append, length-map, length-append, get_or-map, get_or_past, take_more}
-use Rattle.std.proofs.lemmas.List.Elements.{All-push, All-take}
-use Rattle.std.proofs.lemmas.List.FromFn.{length-map-range_with_len, get_or-map-range_with_len}
+use Rattle.std.proofs.lemmas.List.Elements.{All-take}
 use Rattle.std.proofs.Math.ListN.{get_or-append}
 use Rattle.std.proofs.Math.Seq.{get_or-append_seam}
-use Rattle.xdg_base.specs.declared.ids.EntryNo.{EntryNo}
 use Rattle.xdg_names.specs.Texts.{has_text}
 use Rattle.xdg_names.proofs.Texts.{has_text-stands, stands-has_text}
-use Rattle.xdg_packed.specs.Lexicon.{Entry, Lexicon, HasWord, IsSaid, said_in, word_of, number, places_of, numbers_of, AreAsLong, width, column, columns, CountsRows}
-use Rattle.xdg_packed.specs.Entries.{count_of}
-use Rattle.xdg_packed.specs.Packing.{unpacked, IsPacked, IsPacking}
+use Rattle.xdg_packed.specs.Lexicon.{Entry, AreAsLong, width, column, columns}
 use Rattle.xdg_packed.specs.Rows.{shown, IsTable, AreSpelled}
 use Rattle.xdg_packed.specs.Spelling.{numbers}
 use Rattle.xdg_packed.specs.Tables.{no_table, records, IsRight, AreTables, AddsEntry, IsWithoutLast, places_at, key, AreKeys}
-use Rattle.xdg_packed.specs.Words.{IsWordIndex}
 use Rattle.xdg_packed.specs.declared.table.Table.{Table}
-use Rattle.xdg_packed.proofs.Firsts.{in_column, in_shown, long_shown, same_row}
+use Rattle.xdg_packed.proofs.Firsts.{in_shown, same_row}
 use Rattle.xdg_packed.proofs.Growing.{empty_right, cut_last}
 use Rattle.xdg_packed.proofs.Packs.{taken_back}
 use Rattle.xdg_packed.proofs.Prefixes.{numbers_alone}
-use Rattle.xdg_packed.proofs.Unpacked.{all_places, row_back, unpacked_columns, made_packed, table_within}
+use Rattle.xdg_packed.proofs.Unpacked.{all_places, row_back, columns_wide, columns_at, long_places}
 use Rattle.xdg_facts.proofs.In.{in_get, in_index, map_in}
 use Rattle.xdg_facts.proofs.Lists.{head_of, tail_of}
 use Rattle.xdg_facts.specs.Membership.{In}
@@ -71,22 +66,7 @@ places_told (table ∷ tables) m k right one other e =
 
 -- ---- tables of entries
 
-columns_wide : (entries : List Entry) (tables : List Table) → map records tables ≡ columns entries → length tables ≡ width entries
-columns_wide entries tables are = sym (length-map tables records) ∙ ap length are ∙ length-map-range_with_len (λ d. column d entries) 0 (width entries)
-
-columns_at : (entries : List Entry) (tables : List Table) (dim : ℕ) → map records tables ≡ columns entries → dim < length tables → records (get_or tables dim no_table) ≡ column dim entries
-columns_at entries tables dim are inside =
-    let wide = columns_wide entries tables are in
-    let below : dim < width entries = omega (arith, wide, inside) in
-    sym (get_or-map records tables dim no_table [] inside) ∙ ap (λ ts. get_or ts dim []) are ∙ get_or-map-range_with_len (λ d. column d entries) 0 (width entries) dim dim [] below (from_zero dim)
-
--- each table has as many places as there are entries
-pub long_places : (entries : List Entry) (tables : List Table) (dim : ℕ) → map records tables ≡ columns entries → dim < length tables → length (get_or tables dim no_table).places ≡ length entries
-long_places entries tables dim are inside =
-    let table = get_or tables dim no_table in
-    sym (long_shown table.rows table.places) ∙ ap length (columns_at entries tables dim are inside) ∙ length-map entries (λ e. get_or e dim [])
-
--- or none
+-- each table has fewer places than a bound
 pub few_places : (entries : List Entry) (tables : List Table) (bound : ℕ) → map records tables ≡ columns entries → length entries < bound → (dim : ℕ) → length (get_or tables dim no_table).places < bound
 few_places entries tables bound are few dim = elim (cases_lt dim (length tables)) [
   | inl inside ↦ (let size = long_places entries tables dim are inside in omega (arith, size, few))
@@ -95,23 +75,6 @@ few_places entries tables bound are few dim = elim (cases_lt dim (length tables)
 
 pub reach : (entries : List Entry) (tables : List Table) (n : ℕ) → map records tables ≡ columns entries → n < length entries → Reach tables n
 reach entries tables n are within dim inside = let size = long_places entries tables dim are inside in omega (arith, size, within)
-
--- ---- words
-
--- an entry with a word has that dimension
-pub has_dim : (dim field : ℕ) (entry : Entry) → HasWord dim field entry → dim < length entry
-has_dim dim field entry h = elim (cases_lt dim (length entry)) [
-  | inl inside ↦ inside
-  | inr past ↦ absurd (subst (λ r. IsSaid r field) (get_or_past entry dim [] past) h)
-]
-
-module _ (lexicon : Lexicon) (tables : List Table) (rows : ℕ) (words : List (List ℕ)) (numbers : List (List EntryNo)) (packed : IsPacked lexicon tables rows words numbers) where
-  pub word_within : (n : ℕ) → n < length lexicon.entries → lexicon.dim < length tables
-  word_within n within = table_within lexicon tables rows words numbers packed n lexicon.dim within (has_dim lexicon.dim lexicon.field (get_or lexicon.entries n []) (packed.right.words n [] within))
-
-  pub word_is : (n : ℕ) (word : List ℕ) → n < length lexicon.entries → word ≡ said_in (get_or (records (get_or tables lexicon.dim no_table)) n []) lexicon.field → word ≡ word_of lexicon.dim lexicon.field (get_or lexicon.entries n [])
-  word_is n word within is =
-      is ∙ ap (λ r. said_in r lexicon.field) (ap (λ rs. get_or rs n []) (columns_at lexicon.entries tables lexicon.dim packed.tables_are (word_within n within)) ∙ in_column lexicon.entries n lexicon.dim within)
 
 -- ---- one entry more
 
@@ -215,7 +178,7 @@ module _ (entries : List Entry) (entry : Entry) (old new : List Table) (equal : 
 
     -- ---- the entry is new
 
-    keys_more : (grown : List (List ℕ)) → grown ≡ keys ++ text ∷ [] → AreKeys new grown (length entries + 1)
+    pub keys_more : (grown : List (List ℕ)) → grown ≡ keys ++ text ∷ [] → AreKeys new grown (length entries + 1)
     keys_more grown more = subst (λ ks. AreKeys new ks (length entries + 1)) (sym more) (record {
       as_many = length-append keys (text ∷ []) ∙ ap (λ n. n + 1) keyed.as_many;
       each = λ n below. by n below (cases_lt n (length entries));
@@ -298,102 +261,3 @@ first_long entries i item copy equal within is same =
     by : (es : List Entry) → AreAsLong es → AreAsLong (take (suc i) es)
     by [] h = h
     by (x ∷ xs) h = All-take (λ e. length e ≡ length x) (suc i) (x ∷ xs) h
-
--- ---- the whole
-
-count_here : (tables : List Table) (count : ℕ) → length (unpacked tables count) ≡ count
-count_here tables count = length-map-range_with_len (λ n. map (λ table. get_or (records table) n []) tables) 0 count
-
-made_packing : (entries : List Entry) (tables : List Table) (spellings : List (List (List ℕ))) (count rows dim field : ℕ) (words : List (List ℕ)) (numbers : List (List EntryNo)) (keys : List (List ℕ)) → All (HasWord dim field) entries → AreAsLong entries
-    → length entries ≤ 2 ^ 32 - 1 → AreTables tables spellings → map records tables ≡ columns entries → count ≡ length entries → CountsRows (map records tables) rows → IsWordIndex (map (word_of dim field) entries) words numbers → AreKeys tables keys (length entries)
-    → IsPacking (record { entries = unpacked tables count; dim = dim; field = field }) tables spellings rows words numbers keys
-made_packing entries tables spellings count rows dim field words numbers keys said equal few right are size counted indexed keyed = record {
-  packed = made_packed entries tables count rows dim field words numbers said equal few right.right are size counted indexed;
-  spelled = right;
-  keyed = subst (λ es. AreKeys tables keys (length es)) (sym (unpacked_columns entries tables count equal are size)) keyed;
-}
-
--- what is packed, and an entry that is added to its tables
-module _ (tables : List Table) (spellings : List (List (List ℕ))) (count rows dim field : ℕ) (words : List (List ℕ)) (numbers : List (List EntryNo)) (keys : List (List ℕ))
-    (packing : IsPacking (record { entries = unpacked tables count; dim = dim; field = field }) tables spellings rows words numbers keys) (entry : Entry) (equal : AreAsLong (unpacked tables count ++ entry ∷ [])) where
-  abbrev so_far : List Entry
-  so_far = unpacked tables count
-
-  are : map records tables ≡ columns so_far
-  are = packing.packed.tables_are
-
-  pub room : length tables ≤ length entry
-  room = within_entry so_far entry tables equal are
-
-  pub few : (bound : ℕ) → count < bound → (d : ℕ) → length (get_or tables d no_table).places < bound
-  few bound below = few_places so_far tables bound are (let size = count_here tables count in omega (arith, size, below))
-
-  module _ (new : List Table) (adds : AddsEntry tables new entry) where
-    pub reached : (d : ℕ) → d < length new → count < length (get_or new d no_table).places
-    reached d inside = let last = reaches_last so_far entry tables new equal are adds d inside in let size = count_here tables count in omega (arith, last, size)
-
-    module _ (said : HasWord dim field entry) where
-      dim_new : dim < length new
-      dim_new = let size = adds.as_many in let inside = has_dim dim field entry said in omega (arith, size, inside)
-
-      pub word_reached : count < length (get_or new dim no_table).places
-      word_reached = reached dim dim_new
-
-      word_last : (word : List ℕ) → word ≡ said_in (get_or (records (get_or new dim no_table)) count []) field → word ≡ word_of dim field entry
-      word_last word is =
-          let inside = has_dim dim field entry said in
-          let e : count ≡ length (records (get_or tables dim no_table)) = sym (count_here tables count) ∙ sym (ap length (column_old so_far entry tables new equal are adds dim inside) ∙ length-map so_far (λ e. get_or e dim [])) in
-          is ∙ ap (λ r. said_in r field) (ap₂ (λ n rs. get_or rs n []) e (adds.each dim inside).records_grow ∙ get_or-append_seam (records (get_or tables dim no_table)) (get_or entry dim []) [] [])
-
-      pub index_more : (word : List ℕ) (new_words : List (List ℕ)) (new_numbers : List (List EntryNo)) → word ≡ said_in (get_or (records (get_or new dim no_table)) count []) field
-          → ((before : List (List ℕ)) → count ≡ length before → IsWordIndex before words numbers → IsWordIndex (before ++ word ∷ []) new_words new_numbers) → IsWordIndex (map (word_of dim field) (so_far ++ entry ∷ [])) new_words new_numbers
-      index_more word new_words new_numbers is step =
-          subst (λ all. IsWordIndex all new_words new_numbers)
-          (ap (λ w. map (word_of dim field) so_far ++ w ∷ []) (word_last word is) ∙ sym (map-append (word_of dim field) so_far (entry ∷ [])))
-          (step (map (word_of dim field) so_far) (sym (length-map so_far (word_of dim field) ∙ count_here tables count)) packing.packed.indexed)
-
-      -- how many entries the word then has
-      pub count_told : (list : List EntryNo) (word : List ℕ) (all now : List Entry) → word ≡ said_in (get_or (records (get_or new dim no_table)) count []) field → list ≡ numbers_of (map (word_of dim field) all) word → now ≡ all
-          → length list ≡ count_of dim field now (word_of dim field entry)
-      count_told list word all now is numbers_are same =
-          ap length numbers_are ∙ length-map (places_of (map (word_of dim field) all) word) number ∙ ap₂ (λ es w. count_of dim field es w) (sym same) (word_last word is)
-
-    module _ (new_spellings : List (List (List ℕ))) (right : AreTables new new_spellings) (text : List ℕ) (is : text ≡ key new count) where
-      key_is : text ≡ key new (length so_far)
-      key_is = is ∙ ap (key new) (sym (count_here tables count))
-
-      module _ (found : has_text keys text ≡ true) where
-        pub known_stands : In so_far entry
-        known_stands = stands so_far entry tables new equal are adds keys text packing.keyed key_is found
-
-        module _ (back : List Table) (long : length back ≡ length new) (less : (d : ℕ) → IsWithoutLast (get_or new d no_table) (get_or back d no_table)) where
-          columns_are : map records back ≡ columns so_far
-          columns_are = back_columns so_far entry tables new equal are adds keys text packing.keyed key_is known_stands back right.right long less
-
-          pub known_entries : unpacked back count ≡ so_far
-          known_entries = unpacked_columns so_far back count packing.packed.right.equal columns_are (sym (count_here tables count))
-
-          pub known_packing : (back_spellings : List (List (List ℕ))) → back_spellings ≡ new_spellings → IsPacking (record { entries = unpacked back count; dim = dim; field = field }) back back_spellings rows words numbers keys
-          known_packing back_spellings same =
-              made_packing so_far back back_spellings count rows dim field words numbers keys packing.packed.right.words packing.packed.right.equal packing.packed.right.few
-              (subst (AreTables back) (sym same) (back_tables so_far entry tables new equal are adds keys text packing.keyed key_is known_stands back right.right long less new_spellings right))
-              columns_are (sym (count_here tables count)) (subst (λ ts. CountsRows ts rows) (are ∙ sym columns_are) packing.packed.counted) packing.packed.indexed
-              (back_keys so_far entry tables new equal are adds keys text packing.keyed key_is known_stands back right.right long less)
-
-      module _ (absent : has_text keys text ≡ false) where
-        pub new_fresh : In so_far entry → ⊥
-        new_fresh = fresh so_far entry tables new equal are adds keys text packing.keyed key_is right.right absent
-
-        size : count + 1 ≡ length (so_far ++ entry ∷ [])
-        size = ap (λ n. n + 1) (sym (count_here tables count)) ∙ sym (length-append so_far (entry ∷ []))
-
-        pub new_entries : unpacked new (count + 1) ≡ so_far ++ entry ∷ []
-        new_entries = unpacked_columns (so_far ++ entry ∷ []) new (count + 1) equal (grown_columns so_far entry tables new equal are adds) size
-
-        pub new_packing : (new_rows : ℕ) (new_words : List (List ℕ)) (new_numbers : List (List EntryNo)) (new_keys : List (List ℕ)) → HasWord dim field entry → count < 2 ^ 32 - 1 → CountsRows (map records new) new_rows
-            → IsWordIndex (map (word_of dim field) (so_far ++ entry ∷ [])) new_words new_numbers → new_keys ≡ keys ++ text ∷ []
-            → IsPacking (record { entries = unpacked new (count + 1); dim = dim; field = field }) new new_spellings new_rows new_words new_numbers new_keys
-        new_packing new_rows new_words new_numbers new_keys said below counts index grown =
-            made_packing (so_far ++ entry ∷ []) new new_spellings (count + 1) new_rows dim field new_words new_numbers new_keys
-            (All-push (HasWord dim field) so_far entry packing.packed.right.words said) equal (let e = size in omega (arith, e, below)) right (grown_columns so_far entry tables new equal are adds) size counts index
-            (subst (AreKeys new new_keys) (sym (length-append so_far (entry ∷ []))) (keys_more so_far entry tables new equal are adds keys text packing.keyed key_is new_keys grown))

@@ -12,8 +12,8 @@ unfolding digits
 none_of_zero zero = refl
 none_of_zero (suc turns) = refl
 
-halved : (n turns : ℕ) → n ≤ suc turns → n / 2 ≤ turns
-halved n turns within = omega (arith, within)
+less_left : (n turns : ℕ) → n ≤ suc turns → n / 64 ≤ turns
+less_left n turns within = omega (arith, within)
 
 below_zero : (n : ℕ) → n ≤ 0 → n ≡ 0
 below_zero n within = omega (arith, within)
@@ -22,39 +22,39 @@ same_digits : (t u n : ℕ) → n ≤ t → n ≤ u → digits t n ≡ digits u 
 unfolding digits
 same_digits zero u n p q = ap (digits zero) (below_zero n p) ∙ sym (ap (digits u) (below_zero n p) ∙ none_of_zero u)
 same_digits (suc t) zero n p q = ap (digits (suc t)) (below_zero n q) ∙ sym (ap (digits zero) (below_zero n q))
-same_digits (suc t) (suc u) n p q = ap (λ ds. cond (n == 0) [] ((48 + n % 2) ∷ ds)) (same_digits t u (n / 2) (halved n t p) (halved n u q))
+same_digits (suc t) (suc u) n p q = ap (λ ds. cond (n == 0) [] ((48 + n % 64) ∷ ds)) (same_digits t u (n / 64) (less_left n t p) (less_left n u q))
 
 le_self : (n : ℕ) → n ≤ n
 le_self n = omega arith
 
 -- what is left of a number that is not 0
-pub digits_next : (n : ℕ) → 0 < n → digits n n ≡ (48 + n % 2) ∷ digits (n / 2) (n / 2)
+pub digits_next : (n : ℕ) → 0 < n → digits n n ≡ (48 + n % 64) ∷ digits (n / 64) (n / 64)
 unfolding digits
 digits_next zero some = absurd (omega (arith, some))
 digits_next (suc n) some =
-    cond_both (suc n == 0) [] ((48 + suc n % 2) ∷ digits n (suc n / 2)) (λ ds. ds ≡ (48 + suc n % 2) ∷ digits (suc n / 2) (suc n / 2))
+    cond_both (suc n == 0) [] ((48 + suc n % 64) ∷ digits n (suc n / 64)) (λ ds. ds ≡ (48 + suc n % 64) ∷ digits (suc n / 64) (suc n / 64))
     (λ e. absurd (let z = eqb-true (suc n) 0 e in omega (arith, z)))
-    (λ e. ap (λ ds. (48 + suc n % 2) ∷ ds) (same_digits n (suc n / 2) (suc n / 2) (halved (suc n) n (le_self (suc n))) (le_self (suc n / 2))))
+    (λ e. ap (λ ds. (48 + suc n % 64) ∷ ds) (same_digits n (suc n / 64) (suc n / 64) (less_left (suc n) n (le_self (suc n))) (le_self (suc n / 64))))
 
 -- ---- reading digits
 
 abbrev read : List ℕ → ℕ
 read [] = 0
-read (d ∷ ds) = (d - 48) + read ds * 2
+read (d ∷ ds) = (d - 48) + read ds * 64
 
 of_zero : (n : ℕ) → (n == 0) ≡ true → 0 ≡ n
 of_zero n e = sym (eqb-true n 0 e)
 
-put_together : (n rest : ℕ) → rest ≡ n / 2 → (48 + n % 2) - 48 + rest * 2 ≡ n
+put_together : (n rest : ℕ) → rest ≡ n / 64 → (48 + n % 64) - 48 + rest * 64 ≡ n
 put_together n rest e = omega (arith, e)
 
 read-digits : (turns n : ℕ) → n ≤ turns → read (digits turns n) ≡ n
 unfolding digits
 read-digits zero n within = sym (below_zero n within)
 read-digits (suc turns) n within =
-    cond_both (n == 0) [] ((48 + n % 2) ∷ digits turns (n / 2)) (λ ds. read ds ≡ n)
+    cond_both (n == 0) [] ((48 + n % 64) ∷ digits turns (n / 64)) (λ ds. read ds ≡ n)
     (λ e. of_zero n e)
-    (λ e. put_together n (read (digits turns (n / 2))) (read-digits turns (n / 2) (halved n turns within)))
+    (λ e. put_together n (read (digits turns (n / 64))) (read-digits turns (n / 64) (less_left n turns within)))
 
 -- ---- the full stop
 
@@ -63,13 +63,13 @@ abbrev AreDigits : List ℕ → Type 0
 AreDigits [] = Unit {0}
 AreDigits (d ∷ ds) = (46 < d) × AreDigits ds
 
-digit : (n : ℕ) → 46 < 48 + n % 2
+digit : (n : ℕ) → 46 < 48 + n % 64
 digit n = omega arith
 
 are_digits : (turns n : ℕ) → AreDigits (digits turns n)
 unfolding digits
 are_digits zero n = tt
-are_digits (suc turns) n = cond_both (n == 0) [] ((48 + n % 2) ∷ digits turns (n / 2)) AreDigits (λ e. tt) (λ e. (digit n, are_digits turns (n / 2)))
+are_digits (suc turns) n = cond_both (n == 0) [] ((48 + n % 64) ∷ digits turns (n / 64)) AreDigits (λ e. tt) (λ e. (digit n, are_digits turns (n / 64)))
 
 pub heads : (a b : ℕ) (x y : List ℕ) → a ∷ x ≡ b ∷ y → a ≡ b
 heads a b x y e = cc

@@ -5,8 +5,10 @@ pub mod Counted
 pub mod Digits
 pub mod Firsts
 pub mod Growing
+pub mod Kept
 pub mod Packs
 pub mod Prefixes
+pub mod Said
 pub mod Standing
 pub mod Unpacked
 pub mod Variants

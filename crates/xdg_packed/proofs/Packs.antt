@@ -1,6 +1,7 @@
 -- The different records of a dimension, while further ones are added, and one that was added is taken back.
 use Rattle.std.proofs.Common.{◌≡◌, ℕ, ◌+◌, ◌<◌, ◌≤◌, List, [], ◌∷◌, ◌++◌, ◌⊎◌, length, get_or, Bool, true, false, not, if◌then◌else◌, refl, sym, ap, ap₂, inl, inr, subst, ◌∙◌, arith, Some, None, All}
 use Rattle.std.specs.Prelude.{◌↔◌}
+use Rattle.std.proofs.lemmas.Bool.{not-false, not-true}
 use Rattle.std.proofs.lemmas.List.{map-append, length-map, length-append, get_or-map}
 use Rattle.std.proofs.lemmas.List.Elements.{All-push, All-tail, All-head, All-weaker}
 use Rattle.std.proofs.Math.ListN.{get_or-append}
@@ -204,6 +205,14 @@ taken_back rows firsts before place table known = record {
         let low = subst (λ p. get_or firsts p 0 ≤ found.0) (get_or-append before (place ∷ []) 0 found.0 at ∙ one) (table.firsts_are.least found.0 (omega (arith, at, longer ℕ before place))) in
         omega (arith, low, at)
 
+-- a text that is asked for stands there, or is added last
+module _ (texts more : List (List ℕ)) (t : List ℕ) (added : Bool) (told : added ≡ not (has_text texts t)) (is : more ≡ (if added then texts ++ t ∷ [] else texts)) where
+  pub stands_already : added ≡ false → (has_text texts t ≡ true) × (more ≡ texts)
+  stands_already known = (not-false (has_text texts t) (sym told ∙ known), is ∙ ap (λ b. if b then texts ++ t ∷ [] else texts) known)
+
+  pub goes_last : added ≡ true → (has_text texts t ≡ false) × (more ≡ texts ++ t ∷ [])
+  goes_last new = (not-true (has_text texts t) (sym told ∙ new), is ∙ ap (λ b. if b then texts ++ t ∷ [] else texts) new)
+
 -- a spelling that has no place is added
 pub added_last : (spellings more : List (List ℕ)) (t : List ℕ) (added : Bool) → place_of spellings t ≡ None → added ≡ not (has_text spellings t) → more ≡ (if added then spellings ++ t ∷ [] else spellings) → more ≡ spellings ++ t ∷ []
-added_last spellings more t added none is e = e ∙ ap (λ b. if b then spellings ++ t ∷ [] else spellings) (is ∙ ap not (place_of-None spellings t none))
+added_last spellings more t added none is e = (goes_last spellings more t added is e (is ∙ ap not (place_of-None spellings t none))).1

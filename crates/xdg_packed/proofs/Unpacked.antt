@@ -84,55 +84,63 @@ made_packed entries tables count rows dim field words numbers said equal few rig
       indexed = indexed;
     })
 
-module _ (lexicon : Lexicon) (tables : List Table) (rows : ℕ) (words : List (List ℕ)) (numbers : List (List EntryNo)) (packed : IsPacked lexicon tables rows words numbers) where
-  columns_wide : length tables ≡ width lexicon.entries
-  columns_wide = sym (length-map tables records) ∙ ap length packed.tables_are ∙ length-map-range_with_len (λ d. column d lexicon.entries) 0 (width lexicon.entries)
+-- what is known of tables that hold entries
+pub record Holds (entries : List Entry) (tables : List Table) : Type 0 where
+  pub equal : AreAsLong entries
+  pub right : (dim : ℕ) → IsRight (get_or tables dim no_table)
+  pub are : map records tables ≡ columns entries
+
+-- and of that of one dimension
+pub record HoldsDim (entries : List Entry) (dim : ℕ) (table : Table) : Type 0 where
+  pub right : IsRight table
+  pub are : records table ≡ column dim entries
+  pub long : length table.places ≡ length entries
+
+pub columns_wide : (entries : List Entry) (tables : List Table) → map records tables ≡ columns entries → length tables ≡ width entries
+columns_wide entries tables are = sym (length-map tables records) ∙ ap length are ∙ length-map-range_with_len (λ d. column d entries) 0 (width entries)
+
+pub columns_at : (entries : List Entry) (tables : List Table) (dim : ℕ) → map records tables ≡ columns entries → dim < length tables → records (get_or tables dim no_table) ≡ column dim entries
+columns_at entries tables dim are inside =
+    let wide = columns_wide entries tables are in
+    let below : dim < width entries = omega (arith, wide, inside) in
+    sym (get_or-map records tables dim no_table [] inside) ∙ ap (λ ts. get_or ts dim []) are ∙ get_or-map-range_with_len (λ d. column d entries) 0 (width entries) dim dim [] below (from_zero dim)
+
+-- each table has as many places as there are entries
+pub long_places : (entries : List Entry) (tables : List Table) (dim : ℕ) → map records tables ≡ columns entries → dim < length tables → length (get_or tables dim no_table).places ≡ length entries
+long_places entries tables dim are inside =
+    let table = get_or tables dim no_table in
+    sym (long_shown table.rows table.places) ∙ ap length (columns_at entries tables dim are inside) ∙ length-map entries (λ e. get_or e dim [])
+
+module _ (entries : List Entry) (tables : List Table) (holds : Holds entries tables) where
+  -- of a table that is read
+  pub read_dim : (read : List Table) (dim : ℕ) (table : Table) → read ≡ tables → dim < length tables → table ≡ get_or read dim table → HoldsDim entries dim table
+  read_dim read dim table lent inside is =
+      subst (HoldsDim entries dim) (sym (is ∙ ap (λ ts. get_or ts dim table) lent ∙ any_default tables dim table no_table inside))
+      (record { right = holds.right dim; are = columns_at entries tables dim holds.are inside; long = long_places entries tables dim holds.are inside })
 
   -- a dimension of an entry has a table
-  pub table_within : (n dim : ℕ) → n < length lexicon.entries → dim < length (get_or lexicon.entries n []) → dim < length tables
+  pub table_within : (n dim : ℕ) → n < length entries → dim < length (get_or entries n []) → dim < length tables
   table_within n dim within inside =
-      let same = packed.right.equal n [] within in
-      let count = columns_wide in
+      let same = holds.equal n [] within in
+      let count = columns_wide entries tables holds.are in
       omega (arith, same, count, inside)
 
-  module _ (dim : ℕ) (table : Table) (inside : dim < length tables) (is : table ≡ get_or tables dim table) where
-    -- that is right
-    pub table_right : IsRight table
-    table_right = subst IsRight (sym (is ∙ any_default tables dim table no_table inside)) (packed.tables_right dim)
+-- the record of an entry, and the first entry with it
+pub record_is : (entries : List Entry) (dim : ℕ) (table : Table) (n : ℕ) (fields : Record) → HoldsDim entries dim table → n < length entries → fields ≡ get_or (records table) n [] → fields ≡ get_or (get_or entries n []) dim []
+record_is entries dim table n fields holds within own = own ∙ ap (λ t. get_or t n []) holds.are ∙ in_column entries n dim within
 
-    table_is : records table ≡ column dim lexicon.entries
-    table_is =
-        let count = columns_wide in
-        let below : dim < width lexicon.entries = omega (arith, count, inside) in
-        ap records is
-        ∙ sym (get_or-map records tables dim table [] inside)
-        ∙ ap (λ ts. get_or ts dim []) packed.tables_are
-        ∙ get_or-map-range_with_len (λ k. column k lexicon.entries) 0 (width lexicon.entries) dim dim [] below (from_zero dim)
+pub first_is : (lexicon : Lexicon) (dim : ℕ) (table : Table) (n first : ℕ) → HoldsDim lexicon.entries dim table → n < length lexicon.entries → IsFirst (records table) n first
+    → (first < length lexicon.entries) × IsFirstAlike lexicon dim n first
+first_is lexicon dim table n first holds within own = column_first lexicon dim n first within (subst (λ t. IsFirst t n first) holds.are own)
 
-    -- which has a record of each entry
-    pub record_within : (n : ℕ) → n < length lexicon.entries → n < length table.places
-    record_within n within =
-        let size : length table.places ≡ length lexicon.entries = sym (long_shown table.rows table.places) ∙ ap length table_is ∙ length-map lexicon.entries (λ e. get_or e dim []) in
-        omega (arith, within, size)
+-- of what is packed
 
-    -- and that is the entry's
-    pub record_is : (n : ℕ) (fields : Record) → n < length lexicon.entries → fields ≡ get_or (records table) n [] → fields ≡ get_or (get_or lexicon.entries n []) dim []
-    record_is n fields within own = own ∙ ap (λ t. get_or t n []) table_is ∙ in_column lexicon.entries n dim within
+module _ {view now : Lexicon} {tables : List Table} {rows : ℕ} {words : List (List ℕ)} {numbers : List (List EntryNo)} (is : view ≡ now) (packed : IsPacked view tables rows words numbers) where
+  pub holds_packed : Holds now.entries tables
+  holds_packed = subst (λ (l : Lexicon). Holds l.entries tables) is (record { equal = packed.right.equal; right = packed.tables_right; are = packed.tables_are })
 
-    -- its first entry with a record is the lexicon's
-    pub first_is : (n first : ℕ) → n < length lexicon.entries → IsFirst (records table) n first → (first < length lexicon.entries) × IsFirstAlike lexicon dim n first
-    first_is n first within own = column_first lexicon dim n first within (subst (λ t. IsFirst t n first) table_is own)
-
-  pub rows_are : (count : ℕ) → count ≡ rows → CountsRows (columns lexicon.entries) count
-  rows_are count is = subst (λ n. CountsRows (columns lexicon.entries) n) (sym is) (subst (λ ts. CountsRows ts rows) packed.tables_are packed.counted)
-
-  pub entry_row : (n : ℕ) → n < length lexicon.entries → map (λ table. get_or (records table) n []) tables ≡ get_or lexicon.entries n []
-  entry_row n within = row_back lexicon.entries tables packed.right.equal packed.tables_are n within
-
--- the same of what is seen
-
-pub seen : (view now : Lexicon) (tables : List Table) (rows : ℕ) (words : List (List ℕ)) (numbers : List (List EntryNo)) → view ≡ now → IsPacked view tables rows words numbers → IsPacked now tables rows words numbers
-seen view now tables rows words numbers is packed = subst (λ l. IsPacked l tables rows words numbers) is packed
+  pub rows_are : CountsRows (columns now.entries) rows
+  rows_are = subst (λ ts. CountsRows ts rows) (packed.tables_are ∙ ap (λ (l : Lexicon). columns l.entries) is) packed.counted
 
 pub count_is : (now : Lexicon) (tables : List Table) (count dim field : ℕ) → record { entries = unpacked tables count; dim = dim; field = field } ≡ now → count ≡ length now.entries
 count_is now tables count dim field is = sym (length-map-range_with_len (λ n. map (λ table. get_or (records table) n []) tables) 0 count) ∙ ap (λ (l : Lexicon). length l.entries) is

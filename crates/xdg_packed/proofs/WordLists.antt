@@ -96,6 +96,14 @@ module _ (said : List (List ℕ)) (last : List ℕ) where
   pub other_word : (word : List ℕ) → bytes_eq last word ≡ false → after word ≡ before word
   other_word word is = numbers_more said last word ∙ ap (λ b. before word ++ cond b (number (length said) ∷ []) []) is ∙ append-nil (before word)
 
+  -- and it has one place more
+  pub own_count : length (places_of (said ++ last ∷ []) last) ≡ length (places_of said last) + 1
+  own_count =
+      sym (length-map (places_of (said ++ last ∷ []) last) number)
+      ∙ ap (λ (l : List EntryNo). length l) (same_word last ((bytes_eq-Decides last last).1 refl))
+      ∙ length-append (before last) (number (length said) ∷ [])
+      ∙ ap (λ n. n + 1) (length-map (places_of said last) number)
+
   differs : (a b : List ℕ) → bytes_eq a b ≡ false → bytes_eq b a ≡ false
   differs a b e = elim (cases_Bool (bytes_eq b a)) [
     | inl t ↦ absurd (true≢false (sym ((bytes_eq-Decides a b).1 (sym ((bytes_eq-Decides b a).0 t))) ∙ e))

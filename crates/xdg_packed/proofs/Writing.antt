@@ -11,15 +11,15 @@ use Rattle.xdg_facts.specs.Rises.{has, numbers_below}
 
 -- ---- numbers
 
-pub number_next : (n : ℕ) → 0 < n → number n ≡ (48 + n % 2) ∷ number (n / 2)
+pub number_next : (n : ℕ) → 0 < n → number n ≡ (48 + n % 64) ∷ number (n / 64)
 unfolding number
 number_next n some = ap (λ ds. ds ++ codes ".") (digits_next n some)
 
 -- one digit
-pub digit_written : (now after whole digit : List ℕ) (n : ℕ) → 0 < n → digit ≡ (48 + n % 2) ∷ [] → after ≡ now ++ digit → now ++ number n ≡ whole → after ++ number (n / 2) ≡ whole
-digit_written now after whole digit n some is e h =
-    ap (λ l. l ++ number (n / 2)) (e ∙ ap (λ ds. now ++ ds) is)
-    ∙ append_assoc now ((48 + n % 2) ∷ []) (number (n / 2))
+pub digit_written : (now after whole : List ℕ) (n : ℕ) → 0 < n → after ≡ now ++ (48 + n % 64) ∷ [] → now ++ number n ≡ whole → after ++ number (n / 64) ≡ whole
+digit_written now after whole n some e h =
+    ap (λ l. l ++ number (n / 64)) e
+    ∙ append_assoc now ((48 + n % 64) ∷ []) (number (n / 64))
     ∙ ap (λ l. now ++ l) (sym (number_next n some))
     ∙ h
 
@@ -36,7 +36,7 @@ stop_written now after whole n none e h =
 -- ---- lists
 
 -- an element: a comma, and its spelling
-pub element_written : {A : Type 0} (code : A → List ℕ) (now marked after whole : List ℕ) (x : A) (rest : List A) → marked ≡ now ++ codes "," → after ≡ marked ++ code x → now ++ each code (x ∷ rest) ≡ whole → after ++ each code rest ≡ whole
+element_written : {A : Type 0} (code : A → List ℕ) (now marked after whole : List ℕ) (x : A) (rest : List A) → marked ≡ now ++ codes "," → after ≡ marked ++ code x → now ++ each code (x ∷ rest) ≡ whole → after ++ each code rest ≡ whole
 element_written code now marked after whole x rest m e h =
     ap (λ l. l ++ each code rest) (e ∙ ap (λ l. l ++ code x) m ∙ append_assoc now (codes ",") (code x))
     ∙ append_assoc now (codes "," ++ code x) (each code rest)

@@ -5,7 +5,9 @@ use Rattle.xdg_base.specs.declared.ids.EntryNo.{EntryNo}
 use Rattle.xdg_packed.specs.Lexicon.{Entry, Lexicon, HasWord, AreAsLong, columns, words_of, CountsRows}
 use Rattle.xdg_packed.specs.Tables.{records, no_table, IsRight, AreTables, AreKeys}
 use Rattle.xdg_packed.specs.Words.{IsWordIndex}
+use Rattle.xdg_packed.specs.declared.entry_set.EntrySet.{EntrySet}
 use Rattle.xdg_packed.specs.declared.table.Table.{Table}
+use Rattle.xdg_packed.specs.declared.words.WordIndex.{WordIndex}
 use Rattle.xdg_facts.specs.Membership.{In}
 
 -- each entry has a word and as many records as the others, and there are at most 4,294,967,295 entries
@@ -26,12 +28,27 @@ pub record IsPacked (lexicon : Lexicon) (tables : List Table) (rows : ℕ) (word
   pub counted : CountsRows (map records tables) rows
   pub indexed : IsWordIndex (words_of lexicon) words numbers
 
--- The lexicon so far is packed, the spellings are those of the rows of the tables, and each entry has its key, all different.
-pub record IsPacking (lexicon : Lexicon) (tables : List Table) (spellings : List (List (List ℕ))) (rows : ℕ) (words : List (List ℕ))
-    (numbers : List (List EntryNo)) (keys : List (List ℕ)) : Type 0 where
-  pub packed : IsPacked lexicon tables rows words numbers
-  pub spelled : AreTables tables spellings
-  pub keyed : AreKeys tables keys (length lexicon.entries)
+-- ---- entries that are kept once
+
+-- the entries
+abbrev pub kept : EntrySet → List Entry
+kept set = unpacked set.tables.tables.items set.count
+
+-- The tables are those of the records of each dimension, with the spellings of the rows, the rows are counted, and each entry has its
+-- key, all different.
+pub record AreKept (entries : List Entry) (set : EntrySet) : Type 0 where
+  pub equal : AreAsLong entries
+  pub few : length entries ≤ 2 ^ 32 - 1
+  pub tables_are : map records set.tables.tables.items ≡ columns entries
+  pub spelled : AreTables set.tables.tables.items set.tables.spellings.items
+  pub counted : CountsRows (map records set.tables.tables.items) set.rows
+  pub keyed : AreKeys set.tables.tables.items set.keys (length entries)
+
+-- these are the entries of the lexicon so far, each of which has a word, and the index is that of the words
+pub record IsPacking (lexicon : Lexicon) (set : EntrySet) (index : WordIndex) : Type 0 where
+  pub entries : AreKept lexicon.entries set
+  pub words : All (HasWord lexicon.dim lexicon.field) lexicon.entries
+  pub indexed : IsWordIndex (words_of lexicon) index.words index.numbers.items
 
 -- how an entry changes a list: it stood there, or it goes last
 abbrev pub Puts : List Entry → Entry → List Entry → Type 0

@@ -5,10 +5,10 @@ use Rattle.xdg_domain.specs.declared.values.Value.{Value}
 use Rattle.xdg_domain.specs.declared.values.Value.TheOpen.{Value-F}
 use Rattle.xdg_domain.specs.declared.values.Value.TheFolds.{fold-Value}
 
--- the binary digits of a number, the lowest first, at most so many
+-- the digits of a number in base 64, the lowest first, at most so many: the characters from `0` on
 unfoldable pub digits : ℕ → ℕ → List ℕ
 digits zero n = []
-digits (suc turns) n = cond (n == 0) [] ((48 + n % 2) ∷ digits turns (n / 2))
+digits (suc turns) n = cond (n == 0) [] ((48 + n % 64) ∷ digits turns (n / 64))
 
 -- a number: its digits, and a full stop
 unfoldable pub number : ℕ → List ℕ

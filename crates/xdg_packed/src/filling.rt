@@ -173,7 +173,7 @@ fn value_for(entries: &[(u8, Value)], key: u8) -> Option<&Value>
 }
 
 /// What stands at the front of what is said for the field with that place, and what is said of later ones.
-fn taken(said: &[(u32, Value)], place: u32) -> (Option<&Value>, &[(u32, Value)])
+pub fn taken(said: &[(u32, Value)], place: u32) -> (Option<&Value>, &[(u32, Value)])
     requires { KeysRise place said.now }
     ensures here { option_copied result.0 ≡ said_at said.now place }
     ensures rises { KeysRise (place + 1) result.1.now }

@@ -3,6 +3,7 @@
 //! index of the words.
 #![tactic(auto)]
 
+mod entry_set;
 mod filling;
 mod packed;
 mod packing;
@@ -12,8 +13,8 @@ mod tables;
 mod word;
 mod words;
 
-pub use filling::fill;
+pub use filling::{fill, taken};
 pub use packed::{EntryView, Packed, pack};
-pub use packing::Packing;
+pub use packing::{Added, Packing};
 pub use word::word_place;
 pub use words::text_at;

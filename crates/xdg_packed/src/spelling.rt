@@ -1,6 +1,6 @@
 //! Values as texts, so that different values have different texts, and values can be looked up as texts are.
 
-ghost use Rattle.std.specs.Prelude.{◌≡◌, ◌+◌, ◌%◌, [], ◌∷◌, ◌++◌, IfOk, OnOk};
+ghost use Rattle.std.specs.Prelude.{◌≡◌, ◌+◌, ◌<◌, [], ◌∷◌, ◌++◌, IfOk, OnOk};
 ghost use Rattle.xdg_packed.specs.Spelling as spec;
 
 use std::alloc::Global;
@@ -97,27 +97,26 @@ fn digit_of(holds: bool) -> &'static str
     "0"
 }
 
-/// Adds the spelling of a number: its binary digits, the lowest first, and a full stop.
+/// Adds the spelling of a number: its digits in base 64, the lowest first, and a full stop.
 #[tactic(auto, using(crate::proofs::Writing::digit_written, crate::proofs::Writing::stop_written))]
 pub(crate) fn push_number(out: &mut Text, number: u64) -> Result<(), OutOfMemory>
     ensures { OnOk result (out.new ≡ out.old ++ spec.number number) }
 {
     let mut rest = number;
     while rest > 0 {
-        out.push_str(lowest_digit(rest))?;
-        rest /= 2;
+        push_digit(out, (rest % 64) as u8)?;
+        rest /= 64;
     }
     out.push_str(".")
 }
 
-/// The lowest binary digit of a number.
-fn lowest_digit(number: u64) -> &'static str
-    ensures { result.now ≡ (48 + number % 2) ∷ [] }
+/// Adds the character of a digit, one of those from `0` on.
+fn push_digit(out: &mut Text, digit: u8) -> Result<(), OutOfMemory>
+    requires { digit < 64 }
+    ensures { OnOk result (out.new ≡ out.old ++ (48 + digit) ∷ []) }
 {
-    if number % 2 == 0 {
-        return "0";
-    }
-    "1"
+    let mut buffer = [0; 4];
+    out.push_str(char::from(b'0' + digit).encode_utf8(&mut buffer))
 }
 
 /// Adds the spelling of numbers: a comma before each, and a semicolon at the end.

@@ -85,7 +85,7 @@ pub(crate) fn index_words(
 }
 
 /// The word of an entry: what it says, if that is a text, for that field of that dimension, or else nothing.
-fn word_at(entry: &[Fields], dim: usize, field: usize) -> &str
+pub(crate) fn word_at(entry: &[Fields], dim: usize, field: usize) -> &str
     ensures { result.now ≡ word_of dim field entry.now }
 {
     match entry.get(dim) {

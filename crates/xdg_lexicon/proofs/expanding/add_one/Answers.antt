@@ -1,6 +1,6 @@
 use Rattle.std.proofs.Common.{Ok, Err, refl, sym, ap, ◌∙◌, subst}
 use Rattle.std.proofs.lemmas.Result.{err_from_is_err_and}
-use Rattle.xdg_lexicon.specs.Answers.{answer_of}
+use Rattle.xdg_base.specs.Told.{answer_of}
 use Rattle.xdg_lexicon.specs.Growing.{entries_in}
 use Rattle.xdg_lexicon.specs.Sources.{source_of}
 use Rattle.xdg_lexicon.specs.Steps.{one_of, AddsOne}

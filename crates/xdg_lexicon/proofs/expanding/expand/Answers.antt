@@ -1,6 +1,7 @@
 use Rattle.std.proofs.Common.{Ok, Err, sym, ap, ◌∙◌, subst}
 use Rattle.std.proofs.lemmas.Result.{err_from_is_err_and}
-use Rattle.xdg_lexicon.specs.Answers.{Tells, Gives}
+use Rattle.xdg_base.specs.Told.{Gives}
+use Rattle.xdg_lexicon.specs.Answers.{Tells}
 use Rattle.xdg_lexicon.specs.Sources.{source_of}
 use Rattle.xdg_lexicon.proofs.expanding.expand.Goals as goal
 

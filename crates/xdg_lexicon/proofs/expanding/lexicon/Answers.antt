@@ -2,7 +2,8 @@ use Rattle.std.proofs.Common.{◌≤◌, length, Ok, Err, refl, sym, ap, ◌∙�
 use Rattle.std.proofs.lemmas.Result.{err_from_is_err_and}
 use Rattle.xdg_packed.specs.Entries.{IsRightLexicon}
 use Rattle.xdg_packed.specs.Lexicon.{Lexicon}
-use Rattle.xdg_lexicon.specs.Answers.{Tells, Gives, IsPlaced, entries_of}
+use Rattle.xdg_base.specs.Told.{Gives}
+use Rattle.xdg_lexicon.specs.Answers.{Tells, IsPlaced, entries_of}
 use Rattle.xdg_lexicon.specs.Expanding.{so_far}
 use Rattle.xdg_lexicon.specs.Growing.{entries_in}
 use Rattle.xdg_lexicon.specs.Lexicon.{IsLexicon}

@@ -22,8 +22,8 @@ returns-in-None-clause-adds c =
     let none = sym c.in_ok-whole_entry.ensures.whole ∙ c.in-None.is in
     subst (λ stop. AddsMember c.args.types.now c.args.member.now c.args.at (entries_in c.args.growing) (Err stop)) (sym c.passed.ensures) (none, refl)
 
-pub returns-in_ok-packing-in-Some-clause-right : goal.returns-in_ok-packing-in-Some-clause-right
-returns-in_ok-packing-in-Some-clause-right c =
+pub returns-in_ok-added-in-Some-clause-right : goal.returns-in_ok-added-in-Some-clause-right
+returns-in_ok-added-in-Some-clause-right c =
     let one = subst (λ o. IfSome o (IsEntry c.args.types.now)) c.in-Some.is c.in_ok-whole_entry.ensures.right in
-    let added = c.in_ok-packing-in-Some in
-    still_right c.args.types.now c.args.growing _ c.in-Some.entry added.count c.requires.right one added.ensures.place added.ensures.puts added.ensures.count c.max.ensures
+    let added = c.in_ok-added-in-Some in
+    still_right c.args.types.now c.args.growing _ c.in-Some.entry added.added.of_word c.requires.right one added.ensures.place added.ensures.puts added.ensures.count c.max.ensures

@@ -1,12 +1,13 @@
 use Rattle.std.proofs.Common.{Err, refl, sym, ap, ◌∙◌, subst, arith}
 use Rattle.std.proofs.lemmas.Result.{err_from_is_err_and}
 use Rattle.xdg_lexicon.specs.Partial.{IsPartial}
-use Rattle.xdg_lexicon.specs.Answers.{answer_of}
+use Rattle.xdg_base.specs.Told.{answer_of}
 use Rattle.xdg_lexicon.specs.Growing.{entries_in}
 use Rattle.xdg_lexicon.specs.Lexicon.{whole}
 use Rattle.xdg_lexicon.specs.Steps.{AddsMember, AddsMembers}
+use Rattle.xdg_lexicon.proofs.Joining.{one_of}
 use Rattle.xdg_lexicon.proofs.Adding.{adds_begun, adds_further, adds_done}
-use Rattle.xdg_lexicon.proofs.Putting.{partial_at, member_refused}
+use Rattle.xdg_lexicon.proofs.Putting.{member_refused}
 use Rattle.xdg_lexicon.proofs.growing.add_members.Goals as goal
 use Rattle.xdg_facts.proofs.In.{in_at}
 
@@ -19,7 +20,7 @@ loop-member-init c = record {
 pub add_member-requires-clause-partial : goal.add_member-requires-clause-partial
 add_member-requires-clause-partial c =
     subst (IsPartial c.args.types.now.dims) (sym c.as_slice.ensures)
-    (partial_at c.args.types.now.dims c.args.members.now c.loop-member.member-index c.member-item.result c.requires.partial c.loop-member-test.true c.member-item.is)
+    (one_of c.args.types.now.dims c.args.members.now c.loop-member.member-index c.member-item.result c.loop-member-test.true c.member-item.is c.requires.partial)
 
 pub returns-in_err-growing-clause-adds : goal.returns-in_err-growing-clause-adds
 returns-in_err-growing-clause-adds c =

@@ -1,6 +1,7 @@
-use Rattle.std.proofs.Common.{◌≡◌, sym, subst, arith, slice_get}
+use Rattle.std.proofs.Common.{◌≡◌, refl, sym, subst, arith, slice_get}
 use Rattle.std.specs.Prelude.{Some}
-use Rattle.xdg_lexicon.proofs.Followed.{place_within, stands_at}
+use Rattle.std.proofs.lemmas.Option.{slice_get_read}
+use Rattle.xdg_lexicon.proofs.Followed.{place_within}
 use Rattle.xdg_lexicon.proofs.using.class_of.Goals as goal
 
 pub bounds-classes-place : goal.bounds-classes-place
@@ -15,4 +16,4 @@ offset_bounds-classes-place c =
 pub returns-clause-found : goal.returns-clause-found
 returns-clause-found c =
     let w = place_within c.args.checked.now.classes c.classes.result.now c.args.name.now c.in-Some.place c.classes.ensures.same c.in-Some.ensures in
-    (c.in-Some.place, (sym c.in-Some.ensures, subst (λ cs. slice_get cs c.in-Some.place ≡ Some c.index-classes-place.result) c.classes.ensures.same (stands_at c.classes.result.now c.in-Some.place c.index-classes-place.result w c.index-classes-place.is)))
+    (c.in-Some.place, (sym c.in-Some.ensures, subst (λ cs. slice_get cs c.in-Some.place ≡ Some c.index-classes-place.result) c.classes.ensures.same (slice_get_read c.classes.result.now _ c.in-Some.place c.index-classes-place.result refl w c.index-classes-place.is)))

@@ -6,11 +6,10 @@ use Rattle.xdg_packed.proofs.spelling.push_number.Goals as goal
 
 pub loop-rest-preserved : goal.loop-rest-preserved
 loop-rest-preserved c =
-    digit_written c.loop-rest.out c.push_str.new.self (c.args.out.now ++ spec.number c.args.number) c.lowest_digit.result.now c.loop-rest.rest
-    c.loop-rest-test.true c.lowest_digit.ensures c.in_ok-push_str.ensures.ok c.loop-rest.invariant
+    digit_written c.loop-rest.out c.push_digit.new.out (c.args.out.now ++ spec.number c.args.number) c.loop-rest.rest c.loop-rest-test.true c.in_ok-push_digit.ensures c.loop-rest.invariant
 
 pub returns : goal.returns
 returns c =
-    on_ok_weaker c.push_str-2.result
-    (λ e. stop_written c.loop-rest.out c.push_str-2.new.self (c.args.out.now ++ spec.number c.args.number) c.loop-rest.rest c.loop-rest-test.false e c.loop-rest.invariant)
-    c.push_str-2.ensures.ok
+    on_ok_weaker c.push_str.result
+    (λ e. stop_written c.loop-rest.out c.push_str.new.self (c.args.out.now ++ spec.number c.args.number) c.loop-rest.rest c.loop-rest-test.false e c.loop-rest.invariant)
+    c.push_str.ensures.ok

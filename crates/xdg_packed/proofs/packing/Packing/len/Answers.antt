@@ -1,5 +1,7 @@
-use Rattle.xdg_packed.proofs.Unpacked.{count_is}
+use Rattle.std.proofs.Common.{sym, ap, length, ◌∙◌}
+use Rattle.xdg_packed.specs.Lexicon.{Lexicon}
+use Rattle.xdg_packed.proofs.Kept.{many}
 use Rattle.xdg_packed.proofs.packing.Packing.len.Goals as goal
 
 pub returns : goal.returns
-returns c = count_is c.args.self.now c.self.inside.tables.tables.items c.self.inside.count c.self.inside.dim c.self.inside.field c.self.view_is
+returns c = sym (many c.self.inside.entries) ∙ ap (λ (l : Lexicon). length l.entries) c.self.view_is
