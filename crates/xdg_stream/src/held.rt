@@ -157,13 +157,6 @@ impl<'a> Held<'a> {
         refill_edges(&mut self.edges, edge_places, behind(numbers, self.first));
     }
 
-    /// The vector.
-    pub(crate) fn numbers(&self) -> &[u16]
-        ensures { result.now ≡ self.now.numbers }
-    {
-        self.numbers.as_slice()
-    }
-
     /// The entries of its analysis.
     pub(crate) fn entries(&self) -> &[EntryNo]
         ensures { result.now ≡ (analysis_of self.now.parts self.now.numbers).entries }

@@ -108,14 +108,7 @@ impl<'a, P: Propagator> Stream<'a, P> {
         }
     }
 
-    /// The vector of the analysis that was found last, and before that the start's.
-    pub fn vector(&self) -> &[u16]
-        ensures { result.now ≡ self.now.last }
-    {
-        self.last.numbers()
-    }
-
-    /// The entries of the analysis that was found last, node by node.
+    /// The entries of the analysis that was found last, and before that the start's, node by node.
     pub fn entries(&self) -> &[EntryNo]
         ensures { result.now ≡ (analysis_of self.now.parts self.now.last).entries }
     {

@@ -1,4 +1,4 @@
-use Rattle.std.proofs.Common.{◌<◌, ◌+◌, ◌-◌, ◌∙◌, ◌++◌, ◌∷◌, [], arith, ap, length, refl, subst, sym}
+use Rattle.std.proofs.Common.{◌<◌, ◌+◌, ◌-◌, ◌∙◌, ◌++◌, ◌∷◌, [], arith, ap, length, refl, rules, subst, sym}
 use Rattle.std.specs.Vec.{vec_capacity}
 use Rattle.xdg_problem.specs.declared.parts.Parts.{Parts}
 use Rattle.xdg_problem.specs.Vectors.{shape}
@@ -6,10 +6,15 @@ use Rattle.xdg_problem.specs.Places.{places}
 use Rattle.xdg_rules.specs.Boxed.{Boxed}
 use Rattle.xdg_stream.specs.Fronted.{Fronted}
 use Rattle.xdg_propcore.specs.Uses.{AllStandIn}
-use Rattle.xdg_stream.proofs.Pushing.{top_of, top_there, depth_is, mid_level, kept_front, pushed_front, none_boxed, next_fits, same_problem, refused_here, taken_here}
+use Rattle.xdg_stream.proofs.Pushing.{Top, top_of, top_there, depth_is, mid_level, kept_front, pushed_front, none_boxed, next_fits, same_problem, refused_here, taken_here}
 use Rattle.xdg_stream.specs.Levels.{AllStill}
 use Rattle.xdg_stream.proofs.Calming.{calm_grown, calm_top, calm_with}
 use Rattle.xdg_stream.proofs.front.BoxFrontFront.push.Goals as goal
+use Rattle.xdg_stream.proofs.front.BoxFrontFront.push.Goals.{After-undo}
+
+-- the store is back at the box of the last front
+top : (g : _) (c : After-undo g) → Top c.self.inside.store c.undo.new.self c.self.inside.edge_places c.self.inside.marks.items c.self.inside.numbers.items (vec_capacity c.self.inside.marks) (vec_capacity c.self.inside.numbers) (c.len-depth.result - 1) c.index-as_slice-depth.result
+top g c = top_of c.self.inside.store c.undo.new.self c.self.invariant.3 c.if-depth-eq0.false c.as_slice.ensures.value c.index-as_slice-depth.is (let len = c.len-depth.ensures in omega (arith, len)) c.undo.ensures.parts c.undo.ensures.now c.undo.ensures.history
 
 pub returns-then-depth-eq0-clause-same : goal.returns-then-depth-eq0-clause-same
 returns-then-depth-eq0-clause-same g c =
@@ -30,9 +35,7 @@ lengthen-requires-clause-stand g c =
     subst (AllStandIn g.P.Propagator.stands c.self.inside.props.now) (sym c.undo.ensures.parts) c.self.invariant.1
 
 pub lengthen-requires-clause-still : goal.lengthen-requires-clause-still
-lengthen-requires-clause-still g c =
-    let top = top_of c.self.inside.store c.undo.new.self c.self.invariant.3 c.if-depth-eq0.false c.as_slice.ensures.value c.index-as_slice-depth.is (let len = c.len-depth.ensures in omega (arith, len)) c.undo.ensures.parts c.undo.ensures.now c.undo.ensures.history in
-    calm_top (AllStill g.P.Propagator.still c.self.inside.props.now) top c.self.invariant.4
+lengthen-requires-clause-still g c = calm_top (AllStill g.P.Propagator.still c.self.inside.props.now) (top g (goal.at.lengthen-requires-clause-still g c).After-undo) c.self.invariant.4
 
 pub lengthen-requires-clause-decisions : goal.lengthen-requires-clause-decisions
 lengthen-requires-clause-decisions g c = c.self.invariant.5 ∙ ap (λ (p : Parts). length (shape p)) (sym c.undo.ensures.parts)
@@ -42,18 +45,14 @@ lengthen-requires-clause-listed g c =
     c.as_slice-2.ensures ∙ c.self.invariant.3.listed ∙ ap places (sym c.undo.ensures.parts)
 
 pub lengthen-requires-clause-within : goal.lengthen-requires-clause-within
-lengthen-requires-clause-within g c =
-    let top = top_of c.self.inside.store c.undo.new.self c.self.invariant.3 c.if-depth-eq0.false c.as_slice.ensures.value c.index-as_slice-depth.is (let len = c.len-depth.ensures in omega (arith, len)) c.undo.ensures.parts c.undo.ensures.now c.undo.ensures.history in
-    (next_fits top c.args.self.now c.args.value c.self.view_is c.requires.fits).0
+lengthen-requires-clause-within g c = (next_fits (top g (goal.at.lengthen-requires-clause-within g c).After-undo) c.args.self.now c.args.value c.self.view_is c.requires.fits).0
 
 pub lengthen-requires-clause-value : goal.lengthen-requires-clause-value
-lengthen-requires-clause-value g c =
-    let top = top_of c.self.inside.store c.undo.new.self c.self.invariant.3 c.if-depth-eq0.false c.as_slice.ensures.value c.index-as_slice-depth.is (let len = c.len-depth.ensures in omega (arith, len)) c.undo.ensures.parts c.undo.ensures.now c.undo.ensures.history in
-    (next_fits top c.args.self.now c.args.value c.self.view_is c.requires.fits).1
+lengthen-requires-clause-value g c = (next_fits (top g (goal.at.lengthen-requires-clause-value g c).After-undo) c.args.self.now c.args.value c.self.view_is c.requires.fits).1
 
 pub invariant_of-self : goal.invariant_of-self
 invariant_of-self g c =
-    let top = top_of c.self.inside.store c.undo.new.self c.self.invariant.3 c.if-depth-eq0.false c.as_slice.ensures.value c.index-as_slice-depth.is (let len = c.len-depth.ensures in omega (arith, len)) c.undo.ensures.parts c.undo.ensures.now c.undo.ensures.history in
+    let top = top g (goal.at.invariant_of-self g c).After-undo in
     let still = AllStill g.P.Propagator.still c.self.inside.props.now in
     let new = c.lengthen.new.store in
     let extends = c.lengthen.ensures.extends in
@@ -66,23 +65,21 @@ invariant_of-self g c =
       c.self.invariant.5 ∙ ap (λ (p : Parts). length (shape p)) (sym same),
     )
 
-pub returns-then-not-lengthen-clause-kept : goal.returns-then-not-lengthen-clause-kept
-returns-then-not-lengthen-clause-kept g c =
-    c.lengthen.ensures.extends.same ∙ c.undo.ensures.parts ∙ ap (λ (f : Fronted). f.parts) c.self.view_is
-
-pub returns-then-not-lengthen-clause-same : goal.returns-then-not-lengthen-clause-same
-returns-then-not-lengthen-clause-same g c =
-    same_problem c.args.self.now.parts c.lengthen.new.store.parts (c.lengthen.ensures.extends.same ∙ c.undo.ensures.parts ∙ ap (λ (f : Fronted). f.parts) c.self.view_is)
-
-pub returns-then-not-lengthen-clause-refused : goal.returns-then-not-lengthen-clause-refused
-returns-then-not-lengthen-clause-refused g c r =
-    let top = top_of c.self.inside.store c.undo.new.self c.self.invariant.3 c.if-depth-eq0.false c.as_slice.ensures.value c.index-as_slice-depth.is (let len = c.len-depth.ensures in omega (arith, len)) c.undo.ensures.parts c.undo.ensures.now c.undo.ensures.history in
+pub returns-then-not-lengthen : goal.returns-then-not-lengthen
+returns-then-not-lengthen g c =
     let numbers = c.self.inside.numbers.items in
-    refused_here c.args.self.now c.self.inside.store.parts c.undo.new.self.parts numbers c.args.value c.self.view_is top.same (c.if-not-lengthen.ensures.narrows numbers (depth_is top) (mid_level top))
+    let top = top g (goal.at.returns-then-not-lengthen g c).After-undo in
+    let kept = c.lengthen.ensures.extends.same ∙ c.undo.ensures.parts ∙ ap (λ (f : Fronted). f.parts) c.self.view_is in
+    record {
+      kept = kept;
+      same = same_problem c.args.self.now.parts c.lengthen.new.store.parts kept;
+      taken = search rules;
+      refused = λ r. refused_here c.args.self.now c.self.inside.store.parts c.undo.new.self.parts numbers c.args.value c.self.view_is top.same (c.if-not-lengthen.ensures.narrows numbers (depth_is top) (mid_level top));
+    }
 
 pub push_reserved-requires : goal.push_reserved-requires
 push_reserved-requires g c =
-    let top = top_of c.self.inside.store c.undo.new.self c.self.invariant.3 c.if-depth-eq0.false c.as_slice.ensures.value c.index-as_slice-depth.is (let len = c.len-depth.ensures in omega (arith, len)) c.undo.ensures.parts c.undo.ensures.now c.undo.ensures.history in
+    let top = top g (goal.at.push_reserved-requires g c).After-undo in
     let is = top.is in
     let room = top.has.for_marks in
     let within : c.len-depth.result - 1 < length (shape c.self.inside.store.parts) = subst (λ (q : Parts). c.len-depth.result - 1 < length (shape q)) top.same (next_fits top c.args.self.now c.args.value c.self.view_is c.requires.fits).0 in
@@ -90,7 +87,7 @@ push_reserved-requires g c =
 
 pub push_reserved-requires-2 : goal.push_reserved-requires-2
 push_reserved-requires-2 g c =
-    let top = top_of c.self.inside.store c.undo.new.self c.self.invariant.3 c.if-depth-eq0.false c.as_slice.ensures.value c.index-as_slice-depth.is (let len = c.len-depth.ensures in omega (arith, len)) c.undo.ensures.parts c.undo.ensures.now c.undo.ensures.history in
+    let top = top g (goal.at.push_reserved-requires-2 g c).After-undo in
     let depth = depth_is top in
     let room = top.has.for_numbers in
     let within : c.len-depth.result - 1 < length (shape c.self.inside.store.parts) = subst (λ (q : Parts). c.len-depth.result - 1 < length (shape q)) top.same (next_fits top c.args.self.now c.args.value c.self.view_is c.requires.fits).0 in
@@ -98,7 +95,7 @@ push_reserved-requires-2 g c =
 
 pub invariant_of-self-2 : goal.invariant_of-self-2
 invariant_of-self-2 g c =
-    let top = top_of c.self.inside.store c.undo.new.self c.self.invariant.3 c.if-depth-eq0.false c.as_slice.ensures.value c.index-as_slice-depth.is (let len = c.len-depth.ensures in omega (arith, len)) c.undo.ensures.parts c.undo.ensures.now c.undo.ensures.history in
+    let top = top g (goal.at.invariant_of-self-2 g c).After-undo in
     let still = AllStill g.P.Propagator.still c.self.inside.props.now in
     let new = c.lengthen.new.store in
     let extends = c.lengthen.ensures.extends in
@@ -117,16 +114,14 @@ invariant_of-self-2 g c =
       c.self.invariant.5 ∙ ap (λ (p : Parts). length (shape p)) (sym same),
     )
 
-pub returns-clause-kept : goal.returns-clause-kept
-returns-clause-kept g c =
-    c.lengthen.ensures.extends.same ∙ c.undo.ensures.parts ∙ ap (λ (f : Fronted). f.parts) c.self.view_is
-
-pub returns-clause-same : goal.returns-clause-same
-returns-clause-same g c =
-    same_problem c.args.self.now.parts c.lengthen.new.store.parts (c.lengthen.ensures.extends.same ∙ c.undo.ensures.parts ∙ ap (λ (f : Fronted). f.parts) c.self.view_is)
-
-pub returns-clause-taken : goal.returns-clause-taken
-returns-clause-taken g c r =
-    let top = top_of c.self.inside.store c.undo.new.self c.self.invariant.3 c.if-depth-eq0.false c.as_slice.ensures.value c.index-as_slice-depth.is (let len = c.len-depth.ensures in omega (arith, len)) c.undo.ensures.parts c.undo.ensures.now c.undo.ensures.history in
+pub returns : goal.returns
+returns g c =
     let numbers = c.self.inside.numbers.items in
-    taken_here c.args.self.now c.self.inside.store.parts c.undo.new.self.parts numbers c.push_reserved-2.new.self.items c.args.value c.lengthen.new.store.now c.self.view_is top.same c.push_reserved-2.ensures.items (c.if-not-lengthen.ensures.narrows numbers (depth_is top) (mid_level top))
+    let top = top g (goal.at.returns g c).After-undo in
+    let kept = c.lengthen.ensures.extends.same ∙ c.undo.ensures.parts ∙ ap (λ (f : Fronted). f.parts) c.self.view_is in
+    record {
+      kept = kept;
+      same = same_problem c.args.self.now.parts c.lengthen.new.store.parts kept;
+      taken = λ r. taken_here c.args.self.now c.self.inside.store.parts c.undo.new.self.parts numbers c.push_reserved-2.new.self.items c.args.value c.lengthen.new.store.now c.self.view_is top.same c.push_reserved-2.ensures.items (c.if-not-lengthen.ensures.narrows numbers (depth_is top) (mid_level top));
+      refused = search rules;
+    }
