@@ -1,5 +1,5 @@
 -- Paths that are as they were.
-use Rattle.std.proofs.Common.{◌≡◌, ℕ, ◌+◌, ◌<◌, ◌≤◌, ◌||◌, inl, inr, Bool, true, List, [], ◌∷◌, Contains, length, get_or, refl, sym, ap, ◌∙◌, arith, subst}
+use Rattle.std.proofs.Common.{◌≡◌, ℕ, ◌+◌, ◌<◌, ◌≤◌, ◌||◌, inl, inr, Bool, true, List, [], Contains, length, get_or, sym, ap, ◌∙◌, arith, subst}
 use Rattle.std.specs.Prelude.{not, ◌&&◌, ◌==◌}
 use Rattle.std.proofs.lemmas.Bool.{and_parts, cases_eq, cases_Bool, eq-eqb, false≢true, or_cases, both_ways, not-true}
 use Rattle.std.proofs.lemmas.List.{get_or_default}
@@ -25,7 +25,6 @@ use Rattle.xdg_store.specs.declared.decision.Decision.TheVariants as decisions
 use Rattle.xdg_formula_value.specs.Lost.{AllLast, IsEdgeOf, KeepsPath, Lasts, PathsStay}
 use Rattle.xdg_formula_value.proofs.Losing.{lost_edge}
 use Rattle.xdg_formula_value.proofs.Passing.{through}
-use Rattle.xdg_facts.proofs.Truths.{or_here}
 
 -- ---- a node less
 
@@ -53,10 +52,6 @@ fewer_remove set rest node members x there = (and_parts (not (x == node)) (nodes
 
 pub fewer_minus : (set other rest : List ℕ) → ((n : ℕ) → nodesets.has rest n ≡ (nodesets.has set n && not (nodesets.has other n))) → (x : ℕ) → nodesets.has rest x ≡ true → nodesets.has set x ≡ true
 fewer_minus set other rest members x there = (and_parts (nodesets.has set x) (not (nodesets.has other x)) (sym (members x) ∙ there)).0
-
--- the first of a set is in it
-pub has_first : (set rest : List ℕ) (node : ℕ) → set ≡ node ∷ rest → nodesets.has set node ≡ true
-has_first set rest node is = subst (λ s. nodesets.has s node ≡ true) (sym is) (or_here (node == node) (nodesets.has rest node) (eq-eqb node node refl))
 
 module _ (which : Which) (parts : Parts) (old new : List (List Bool)) (dim : ℕ) where
   pub lasts_on : (u v w : ℕ) → Lasts which parts old new dim u v → Lasts which parts old new dim v w → Lasts which parts old new dim u w

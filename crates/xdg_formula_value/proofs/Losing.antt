@@ -15,7 +15,7 @@ use Rattle.xdg_store.specs.Naming.{Names}
 use Rattle.xdg_store.specs.declared.decision.Decision.{Decision}
 use Rattle.xdg_store.specs.declared.decision.Decision.TheVariants as decisions
 use Rattle.xdg_store.proofs.Located.{place_found}
-use Rattle.xdg_propcore.specs.Kinds.{kind_of}
+use Rattle.xdg_propcore.specs.Kinds.{attr_kind, edge_kind, entry_kind, kind_of}
 use Rattle.xdg_propcore.proofs.DecisionKinds.{kind_of_attr, kind_of_edge, kind_of_entry}
 use Rattle.xdg_formula_value.specs.Lost.{IsAttrOf, IsEntryOf, LosesOne}
 use Rattle.xdg_store.proofs.Renewed.{same_row}
@@ -30,45 +30,31 @@ module _ (parts : Parts) (problem : IsProblem parts) where
   few : (node : ℕ) → node < nodes parts → node < length parts.candidates
   few node l = (let each = problem.candidates_each in omega (arith, each, l))
 
+  -- what stands there
+  abbrev kind : Decision → ℕ
+  kind (decisions.Entry it) = entry_kind
+  kind (decisions.Attr on it which) = attr_kind on.0
+  kind (decisions.Place f) = edge_kind f.dim.0
+
+  kind_is : (d : Decision) → IsDecision parts d → kind_of parts (number_of parts d) ≡ kind d
+  kind_is (decisions.Entry it) is = kind_of_entry parts it.0 (few it.0 is)
+  kind_is (decisions.Attr on it which) is = kind_of_attr parts on.0 it.0 which.0 is.0 is.1 is.2
+  kind_is (decisions.Place f) is = kind_of_edge parts f (place_is parts f is)
+
   pub entry_of : (d : Decision) (node : ℕ) → node < nodes parts → IsDecision parts d → number_of parts d ≡ entry_decision node → IsEntryOf d node
   entry_of (decisions.Entry it) node l is e = e
-  entry_of (decisions.Attr on it which) node l is e = absurd (
-      let x = kind_of_attr parts on.0 it.0 which.0 is.0 is.1 is.2 in
-      let y = kind_of_entry parts node (few node l) in
-      let kinds = ap (kind_of parts) e in
-      omega (arith, x, y, kinds)
-      )
-  entry_of (decisions.Place f) node l is e = absurd (
-      let x = kind_of_edge parts f (place_is parts f is) in
-      let y = kind_of_entry parts node (few node l) in
-      let kinds = ap (kind_of parts) e in
-      omega (arith, x, y, kinds)
-      )
+  entry_of d node l is e = absurd (omega (arith, kind_is d is, kind_of_entry parts node (few node l), ap (kind_of parts) e))
 
   pub attr_of : (d : Decision) (dim node attr : ℕ) → dim < length parts.dims → node < nodes parts → attr < attr_count parts dim → IsDecision parts d
       → number_of parts d ≡ attr_decision parts dim node attr → IsAttrOf d dim node attr
-  attr_of (decisions.Entry it) dim node attr l m a is e = absurd (
-      let x = kind_of_entry parts it.0 (few it.0 is) in
-      let y = kind_of_attr parts dim node attr l m a in
-      let kinds = ap (kind_of parts) e in
-      omega (arith, x, y, kinds)
-      )
   attr_of (decisions.Attr on it which) dim node attr l m a is e =
-      let x = kind_of_attr parts on.0 it.0 which.0 is.0 is.1 is.2 in
-      let y = kind_of_attr parts dim node attr l m a in
-      let kinds = ap (kind_of parts) e in
-      let here : on.0 ≡ dim = omega (arith, x, y, kinds) in
+      let here : on.0 ≡ dim = omega (arith, kind_is (decisions.Attr on it which) is, kind_of_attr parts dim node attr l m a, ap (kind_of parts) e) in
       let alike : attr_place parts dim it.0 which.0 ≡ attr_place parts dim node attr = (let q = ap (λ z. attr_place parts z it.0 which.0) here in omega (arith, e, q)) in
       let within : which.0 < attr_count parts dim = subst (λ z. which.0 < attr_count parts z) here is.2 in
       let cells : it.0 * attr_count parts dim + which.0 ≡ node * attr_count parts dim + attr = omega (arith, alike) in
       let row = same_row it.0 which.0 node attr (attr_count parts dim) within a cells in
       (here, row, same_column it.0 which.0 node attr (attr_count parts dim) row cells)
-  attr_of (decisions.Place f) dim node attr l m a is e = absurd (
-      let x = kind_of_edge parts f (place_is parts f is) in
-      let y = kind_of_attr parts dim node attr l m a in
-      let kinds = ap (kind_of parts) e in
-      omega (arith, x, y, kinds)
-      )
+  attr_of d dim node attr l m a is e = absurd (omega (arith, kind_is d is, kind_of_attr parts dim node attr l m a, ap (kind_of parts) e))
 
   same_place : (e f : Edge) → IsPlace parts e → IsPlace parts f → edge_decision parts f ≡ edge_decision parts e → f ≡ e
   same_place e f is other alike =
@@ -78,19 +64,8 @@ module _ (parts : Parts) (problem : IsProblem parts) where
       sym y.1 ∙ get_or_default (places parts) (place_in (places parts) f) f e y.0 ∙ ap (λ i. get_or (places parts) i e) q ∙ x.1
 
   place_of : (d : Decision) (e : Edge) → IsPlace parts e → IsDecision parts d → number_of parts d ≡ edge_decision parts e → d ≡ decisions.Place e
-  place_of (decisions.Entry it) e place is alike = absurd (
-      let x = kind_of_entry parts it.0 (few it.0 is) in
-      let y = kind_of_edge parts e (place_is parts e place) in
-      let kinds = ap (kind_of parts) alike in
-      omega (arith, x, y, kinds)
-      )
-  place_of (decisions.Attr on it which) e place is alike = absurd (
-      let x = kind_of_attr parts on.0 it.0 which.0 is.0 is.1 is.2 in
-      let y = kind_of_edge parts e (place_is parts e place) in
-      let kinds = ap (kind_of parts) alike in
-      omega (arith, x, y, kinds)
-      )
   place_of (decisions.Place f) e place is alike = ap (λ z. decisions.Place z) (same_place e f place is alike)
+  place_of d e place is alike = absurd (omega (arith, kind_is d is, kind_of_edge parts e (place_is parts e place), ap (kind_of parts) alike))
 
   -- ---- what was lost
 

@@ -1,5 +1,5 @@
 -- Nodes that are related to others, as rows.
-use Rattle.std.proofs.Common.{◌≡◌, ◌↔◌, ◌⊎◌, ℕ, ◌<◌, ◌≤◌, IsTrue, inl, inr, Bool, true, false, List, length, sym, ◌∙◌, subst, arith}
+use Rattle.std.proofs.Common.{◌≡◌, ◌↔◌, ℕ, ◌<◌, ◌≤◌, IsTrue, inl, inr, Bool, true, false, List, length, sym, ◌∙◌, subst, arith}
 use Rattle.std.specs.Prelude.{not}
 use Rattle.std.proofs.lemmas.Bool.{cases_Bool, cases_lt, false≢true, not_from_false, both_ways, not-true}
 use Rattle.xdg_base.specs.declared.ids.DimId.{DimId}
@@ -42,12 +42,10 @@ pub behind_row : (which : Which) (parts : Parts) (box : List (List Bool)) (node 
 behind_row which parts box node front set few is opposite v l = (
   λ h. elim (cases_Bool (has front v)) [
     | inl there ↦ absurd (both_ways (has front v) (not-true (has front v) (sym (opposite v (omega (arith, l, few))) ∙ h)) there)
-    | inr gone ↦ elim (cases_at v node) [ inl most ↦ absurd (both_ways (has front v) gone ((is v).1 most)) | inr less ↦ less ]
+    | inr gone ↦ elim (cases_lt node v) [ inl less ↦ less | inr most ↦ absurd (both_ways (has front v) gone ((is v).1 most)) ]
   ],
   λ less. opposite v (omega (arith, l, few)) ∙ not_from_false (has front v) (elim (cases_Bool (has front v)) [ inl there ↦ (let most = (is v).0 there in absurd (omega (arith, most, less))) | inr gone ↦ gone ]),
-) where
-  cases_at : (a b : ℕ) → (a ≤ b) ⊎ (b < a)
-  cases_at a b = elim (cases_lt b a) [ inl l ↦ inr l | inr l ↦ inl l ]
+)
 
 -- ---- two names
 
@@ -93,13 +91,6 @@ module _ (which : Which) (way : Way) (parts : Parts) (box : List (List Bool)) (n
 
   pub after_row : (front : List ℕ) → way ≡ ways.Down → nodes parts ≤ 128 → ((v : ℕ) → (has front v ≡ true) ↔ (v ≤ node)) → ((v : ℕ) → v < 128 → has set v ≡ not (has front v)) → IsRow (nodes parts) (Along way (Relates pairs.Left which parts box) node) set
   after_row front is few exact other = subst (λ w. IsRow (nodes parts) (Along w (Relates pairs.Left which parts box) node) set) (sym is) (behind_row which parts box node front set few exact other)
-
-  -- a node itself
-  pub same_row : ((v : ℕ) → (has set v ≡ true) ↔ (v ≡ node)) → IsRow (nodes parts) (Along way (Relates pairs.Same which parts box) node) set
-  same_row exact = by way where
-    by : (w : Way) → IsRow (nodes parts) (Along w (Relates pairs.Same which parts box) node) set
-    by ways.Down v l = (λ h. sym ((exact v).0 h), λ e. (exact v).1 (sym e))
-    by ways.Up v l = exact v
 
   -- the daughters and the mothers by a label, by the way
   pub joined_down : (dim : DimId) (label : LabelId) → way ≡ ways.Down → IsBox (shape parts) box → ((x : ℕ) → IsTrue (has set x) ↔ IsDaughterBy (edges_of which parts box dim.0) node label.0 x) → IsRow (nodes parts) (Along way (Relates (pairs.Edge dim label) which parts box) node) set

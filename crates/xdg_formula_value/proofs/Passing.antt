@@ -31,19 +31,15 @@ module _ (edges first second : List Edge) (e : Edge) (each : (f : Edge) → Cont
   to_mother : (u : ℕ) (f : Edge) → f ≡ e → (f.mother.0 ≡ u) ⊎ Leads u f.mother.0 → Reaches second u e.mother.0
   to_mother u f same from = elim from [
     | inl start ↦ inl (sym start ∙ ap (λ k. k.mother.0) same)
-    | inr so_far ↦ elim so_far [
-      | inl paths ↦ inr (subst (λ m. Above second u m) (ap (λ k. k.mother.0) same) paths.1)
-      | inr passes ↦ passes.0
-    ]
+    | inr (inl paths) ↦ inr (subst (λ m. Above second u m) (ap (λ k. k.mother.0) same) paths.1)
+    | inr (inr passes) ↦ passes.0
   ]
 
   leads_on : (u : ℕ) (f : Edge) → Contains first f × Contains second f → (f.mother.0 ≡ u) ⊎ Leads u f.mother.0 → Leads u f.daughter.0
   leads_on u f both from = elim from [
     | inl start ↦ inl (subst (λ m. Above first m f.daughter.0) start (above_edge first f both.0), subst (λ m. Above second m f.daughter.0) start (above_edge second f both.1))
-    | inr so_far ↦ elim so_far [
-      | inl paths ↦ inl (above_trans first u f.mother.0 f.daughter.0 paths.0 (above_edge first f both.0), above_trans second u f.mother.0 f.daughter.0 paths.1 (above_edge second f both.1))
-      | inr passes ↦ inr (passes.0, reach_on second e.daughter.0 f both.1 passes.1)
-    ]
+    | inr (inl paths) ↦ inl (above_trans first u f.mother.0 f.daughter.0 paths.0 (above_edge first f both.0), above_trans second u f.mother.0 f.daughter.0 paths.1 (above_edge second f both.1))
+    | inr (inr passes) ↦ inr (passes.0, reach_on second e.daughter.0 f both.1 passes.1)
   ]
 
   one_step : (u : ℕ) (f : Edge) → Contains edges f → (f.mother.0 ≡ u) ⊎ Leads u f.mother.0 → Leads u f.daughter.0
