@@ -1,10 +1,8 @@
 -- What the atoms of a rule say, and the atoms of a formula that are made of them.
 use Rattle.xdg_build.proofs.Planned.{kept_at, attribute_right}
-use Rattle.std.proofs.Common.{◌≡◌, ◌↔◌, ℕ, ◌<◌, true, List, [], length, get_or, sym, ap, ◌∙◌, subst, arith}
-use Rattle.std.specs.Prelude.{◌==◌, Any, Contains, Some, option_map, slice_get, slice_index}
+use Rattle.std.proofs.Common.{◌≡◌, ◌↔◌, ℕ, ◌<◌, List, [], length, get_or, sym, ap, ◌∙◌, subst, arith}
+use Rattle.std.specs.Prelude.{Any, Contains, Some, option_map, slice_get, slice_index}
 use Rattle.std.proofs.lemmas.Option.{slice_get-map}
-use Rattle.std.proofs.lemmas.Bool.{eqb-true}
-use Rattle.std.proofs.lemmas.List.Elements.{All-contains, All-filter, filter_passes}
 use Rattle.xdg_ast.specs.declared.names.Name.{Name}
 use Rattle.xdg_ast.specs.Grammar.{Term}
 use Rattle.xdg_domain.specs.Shapes.{count, shape}
@@ -12,14 +10,12 @@ use Rattle.xdg_domain.specs.declared.types.Ty.{Ty}
 use Rattle.xdg_packed.specs.Lexicon.{Lexicon}
 use Rattle.xdg_problem.specs.declared.analysis.Analysis.{Analysis}
 use Rattle.xdg_problem.specs.declared.analysis.Edge.{Edge}
-use Rattle.xdg_problem.specs.declared.parts.DimPlan.{DimPlan}
 use Rattle.xdg_problem.specs.declared.parts.Parts.{Parts}
-use Rattle.xdg_problem.specs.Analyses.{IsAnalysis, IsPlace}
-use Rattle.xdg_problem.specs.Arguments.{attr_place, no_plan, value_count}
+use Rattle.xdg_problem.specs.Analyses.{IsAnalysis}
+use Rattle.xdg_problem.specs.Arguments.{attr_place}
 use Rattle.xdg_problem.specs.Claims.{joined, above, left, same, valued}
 use Rattle.xdg_problem.specs.Paths.{edges_on, Above}
 use Rattle.xdg_problem.specs.Places.{nodes}
-use Rattle.xdg_problem.proofs.PlacePlans.{plan_read}
 use Rattle.xdg_terms.specs.Means.{IsAt}
 use Rattle.xdg_types.specs.Table.{Table, IsTable, KeepsDim, typed, firsts}
 use Rattle.xdg_build.specs.Grammars.{Grammar}
@@ -32,8 +28,8 @@ use Rattle.xdg_build.specs.Places.{IsDimAt, IsTypeAt}
 use Rattle.xdg_build.specs.Problems.{IsFor}
 use Rattle.xdg_build.specs.Says.{Says, Agree}
 use Rattle.xdg_build.specs.Truths.{Binding, constants_of}
-use Rattle.xdg_build.proofs.Used.{among_all, is_called, one_called, below_of, plan_of, dims_long, labels_are, edges_same}
-use Rattle.xdg_build.proofs.Valued.{value_below, number_same, attr_inside, type_is, value_count_is}
+use Rattle.xdg_build.proofs.Used.{among_all, is_called, one_called, below_of, dims_long, labels_are, edges_same, edges_within}
+use Rattle.xdg_build.proofs.Valued.{number_same, number_below, attr_inside, type_is, value_count_is}
 use Rattle.xdg_facts.proofs.In.{differ_once}
 use Rattle.xdg_terms.proofs.Meant.{one_place}
 
@@ -105,18 +101,11 @@ module _ (table : Table) (lexicon : Lexicon) (parts : Parts) (is : IsTable table
 
     -- ---- edges
 
-    label_within : (a : Analysis) → IsAnalysis parts a → (e : Edge) → Contains (edges_on d a.edges) e → e.label.0 < length (dimension g k).labels
-    label_within a fits e there =
-        let place : IsPlace parts e = All-contains (IsPlace parts) (edges_on d a.edges) e (All-filter (λ f. f.dim.0 == d) (IsPlace parts) a.edges fits.places) there in
-        let dim_is : e.dim.0 ≡ d = eqb-true e.dim.0 d (All-contains (λ f. (f.dim.0 == d) ≡ true) (edges_on d a.edges) e (filter_passes (λ f. f.dim.0 == d) a.edges) there) in
-        let plan_is : get_or parts.dims d no_plan ≡ place.plan = ap (λ i. get_or parts.dims i no_plan) (sym dim_is) ∙ plan_read parts e place no_plan in
-        subst (λ (labels : List (List ℕ)). e.label.0 < length labels) (ap (λ (plan : DimPlan). plan.labels) (sym plan_is) ∙ (plan_of table lexicon parts is for_it d at.within).labels) place.label
-
     -- an edge has the label's name exactly where it has its number
     label_says : (a : Analysis) → IsAnalysis parts a → (label : List ℕ) (l : ℕ) → IsAt (dimension g k).labels l label → (e : Edge) → Contains (edges_on d a.edges) e → (e.label.0 ≡ l) ↔ (label_text g k e.label.0 ≡ label)
     label_says a fits label l stands e there = (
       λ same_number. ap (λ i. get_or (dimension g k).labels i []) same_number ∙ stands.1,
-      λ same_text. one_place (dimension g k).labels e.label.0 l (kept a).labels (label_within a fits e there) stands.0 (same_text ∙ sym stands.1),
+      λ same_text. one_place (dimension g k).labels e.label.0 l (kept a).labels ((edges_within table lexicon parts is for_it a fits d at.within).label e there) stands.0 (same_text ∙ sym stands.1),
     )
 
     pub says_edge : (mother label daughter : Name) (m l n : ℕ) → IsAt scope m mother.text → IsAt (dimension g k).labels l label.text → IsAt scope n daughter.text
@@ -143,17 +132,16 @@ module _ (table : Table) (lexicon : Lexicon) (parts : Parts) (is : IsTable table
     pub says_attr : (node attribute : Name) (value : Term) (m i n : ℕ) (type : Ty) → IsAt scope m node.text → IsTypeAt (dimension g k).attrs attribute.text i type
         → n < count (shape type) → value_texts (shape type) n ≡ constants_of value → Says table lexicon parts scope (w.attr node dim attribute value) (valued m d i n)
     says_attr node attribute value m i n type first stands within texts =
-        let inside = attr_inside table lexicon parts is for_it d at.within i attribute.text type stands.stands in
-        let sizes = value_count_is table lexicon parts is for_it d at.within i attribute.text type stands.stands in
-        let types = type_is table lexicon parts is for_it d at.within i attribute.text type stands.stands in record {
+        let typed_so = typed_at (dimension g k).attrs i attribute.text type stands.stands in
+        let inside = attr_inside table lexicon parts is for_it d at.within i attribute.text (shape type) typed_so in
+        let sizes = value_count_is table lexicon parts is for_it d at.within i attribute.text (shape type) typed_so in
+        let types = type_is table lexicon parts is for_it d at.within i attribute.text (shape type) typed_so in record {
           is_of = (known, inside, (let l = within in omega (arith, l, sizes)));
           bound = λ numbers each. each m first.0;
           same = λ a fits b numbered agree.
               let e = stands_for (nodes parts) scope b numbered m node.text agree first in
               let number = number_same table lexicon parts is for_it d at.within a (b node.text) i in
-              let small : value_number g (nodes parts) a k (b node.text) i < count (shape type) =
-              subst (λ many. value_number g (nodes parts) a k (b node.text) i < many) sizes (subst (λ (x : ℕ). x < value_count parts d i) (sym number)
-              (value_below parts a fits d (b node.text) i known (subst (λ v. v < nodes parts) e (node_below (nodes parts) scope b numbered m node.text agree first)) inside)) in
+              let small = number_below table lexicon parts is for_it d at.within i attribute.text (shape type) typed_so a fits (b node.text) (subst (λ v. v < nodes parts) e (node_below (nodes parts) scope b numbered m node.text agree first)) in
               let read : slice_index a.attrs (attr_place parts d (numbered m) i) ≡ value_number g (nodes parts) a k (b node.text) i =
               ap (λ v. get_or a.attrs (attr_place parts d v i) 0) e ∙ sym number in (
                 λ h. (k, i, is_called table lexicon is (nodes parts) a dim.text d at, first_at (dimension g k).attrs i attribute.text type stands.stands, (ap (λ s. value_texts s (value_number g (nodes parts) a k (b node.text) i)) types ∙ ap (value_texts (shape type)) (sym read ∙ h) ∙ texts)),
@@ -162,7 +150,7 @@ module _ (table : Table) (lexicon : Lexicon) (parts : Parts) (is : IsTable table
                     let place : h.1 ≡ i = differ_once (firsts (dimension g k).attrs) h.1 i attribute.text (kept a).attrs (subst (λ j. slice_get (firsts (dimension g j).attrs) h.1 ≡ Some attribute.text) one h.3) (first_at (dimension g k).attrs i attribute.text type stands.stands) in
                     let value_is : value_of g (nodes parts) a k (b node.text) (Some i) ≡ constants_of value =
                     subst (λ p. value_of g (nodes parts) a k (b node.text) (Some p) ≡ constants_of value) place (subst (λ j. value_of g (nodes parts) a j (b node.text) (Some h.1) ≡ constants_of value) one h.4) in
-                    read ∙ same_number (shape type) (value_number g (nodes parts) a k (b node.text) i) n (attribute_right (typed (dimension g k).attrs) i attribute.text (shape type) (kept a).attributes (typed_at (dimension g k).attrs i attribute.text type stands.stands)).0 small within
+                    read ∙ same_number (shape type) (value_number g (nodes parts) a k (b node.text) i) n (attribute_right (typed (dimension g k).attrs) i attribute.text (shape type) (kept a).attributes typed_so).0 small within
                     (ap (λ s. value_texts s (value_number g (nodes parts) a k (b node.text) i)) (sym types) ∙ value_is ∙ sym texts),
               );
         }

@@ -1,4 +1,5 @@
 -- What formulas say, form by form.
+use Rattle.xdg_facts.proofs.Lists.{contains_more}
 use Rattle.xdg_facts.proofs.Truths.{none_or}
 use Rattle.std.proofs.Common.{◌≡◌, ◌↔◌, ◌⊎◌, inl, inr, ℕ, zero, suc, ◌<◌, ◌+◌, ◌%◌, true, false, cond, List, [], ◌∷◌, ◌++◌, length, get_or, refl, sym, ap, ◌∙◌, subst, arith}
 use Rattle.std.specs.Prelude.{◌==◌, Contains, bytes_eq}
@@ -144,13 +145,10 @@ module _ (table : Table) (lexicon : Lexicon) (parts : Parts) where
     head_in : (numbers : List ℕ) → Contains (n ∷ numbers) n
     head_in numbers = (0, omega arith, refl)
 
-    later_in : (numbers : List ℕ) (i : ℕ) → Contains numbers i → Contains (n ∷ numbers) i
-    later_in numbers i is = (let within : is.0 < length numbers = is.1 in (suc is.0, omega (arith, within), is.2))
-
     bound_inside : (numbers : List ℕ) → ((i : ℕ) → i < length scope → Contains numbers i) → IsBound (n ∷ numbers) c
     bound_inside numbers each = says.bound (n ∷ numbers) (λ i l. elim (cases_eq i (length scope)) [
       | inl last ↦ subst (Contains (n ∷ numbers)) (number ∙ sym last) (head_in numbers)
-      | inr earlier ↦ later_in numbers i (each i (omega (arith, l, one_more, earlier)))
+      | inr earlier ↦ contains_more n numbers i (each i (omega (arith, l, one_more, earlier)))
     ])
 
     pub says_every : Says table lexicon parts scope (w.every name at tree) (every n c)

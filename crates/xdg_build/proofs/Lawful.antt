@@ -1,13 +1,14 @@
 -- What is compiled is a problem.
-use Rattle.std.proofs.Common.{◌≡◌, ℕ, ◌<◌, ◌≤◌, None, Some, List, length, get_or, refl, sym, ap, ◌∙◌, subst, All}
+use Rattle.std.proofs.Common.{◌≡◌, ℕ, ◌<◌, ◌≤◌, None, Some, List, [], ◌∷◌, length, get_or, map, refl, sym, ap, ◌∙◌, subst, All}
 use Rattle.std.specs.Prelude.{slice_get, slice_index_or}
+use Rattle.std.specs.List.{AllZip}
 use Rattle.std.proofs.lemmas.List.{get_or-map, length-map}
 use Rattle.std.proofs.lemmas.List.Elements.{All-map, All-weaker}
 use Rattle.std.proofs.lemmas.List.FromFn.{length-map-range_with_len}
 use Rattle.std.proofs.lemmas.Option.{get_or_from_slice_get, slice_get_within}
 use Rattle.xdg_base.specs.declared.ids.EntryNo.{EntryNo}
 use Rattle.xdg_domain.specs.Shapes.{Shape, count}
-use Rattle.xdg_packed.specs.Entries.{IsUsed, IsRightLexicon, IsWordPlace}
+use Rattle.xdg_packed.specs.Entries.{AreEntries, IsUsed, IsRightLexicon, IsWordPlace}
 use Rattle.xdg_packed.specs.Lexicon.{word_of, words_of, numbers_of}
 use Rattle.xdg_problem.specs.declared.parts.AttrPlan.{AttrPlan}
 use Rattle.xdg_problem.specs.declared.parts.DimPlan.{DimPlan}
@@ -19,10 +20,11 @@ use Rattle.xdg_problem.specs.Problems.{AreCandidates, IsGroup, IsProblem}
 use Rattle.xdg_types.specs.declared.table.DimType.{DimType}
 use Rattle.xdg_types.specs.Table.{typed, IsTable}
 use Rattle.xdg_build.specs.Grammars.{Grammar}
-use Rattle.xdg_formula.specs.Tables.{no_dim}
+use Rattle.xdg_formula.specs.Tables.{dims_at, no_dim}
 use Rattle.xdg_build.specs.Suits.{Suits}
 use Rattle.xdg_build.specs.Plans.{shown_as, attr_plan, dim_plan, plan_at, plans}
-use Rattle.xdg_build.specs.Compiled.{candidates_of}
+use Rattle.xdg_build.specs.Compiled.{candidates_of, compiled}
+use Rattle.xdg_build.specs.Problems.{IsPlanOf, IsFor}
 use Rattle.xdg_build.specs.Refusals.{refusal}
 use Rattle.xdg_build.proofs.Admitted.{IsKnown, IsAdmitted, is_admitted}
 use Rattle.xdg_build.proofs.Numbered.{each_below, are_candidates}
@@ -89,6 +91,14 @@ known_entries g words candidates same =
     let P : List EntryNo → Type 0 = All (λ (entry : EntryNo). entry.0 < length g.lexicon.entries) in
     subst (All P) (sym same) (All-map P (λ (word : SentenceWord). numbers_of (words_of g.lexicon) word.text) words (λ k d within.
     subst (λ n. All (λ (entry : EntryNo). entry.0 < n) (numbers_of (words_of g.lexicon) (get_or words k d).text)) (length-map g.lexicon.entries (word_of g.lexicon.dim g.lexicon.field)) (each_below (words_of g.lexicon) (get_or words k d).text)))
+
+-- the compiled sentence is a problem of its grammar
+plans_are : (g : Grammar) (used : List ℕ) → AllZip IsPlanOf (dims_at g.table.dims used) (map (plan_at g g.table.dims) used)
+plans_are g [] = tt
+plans_are g (k ∷ used) = (record { name = refl; labels = refl; attrs = refl }, plans_are g used)
+
+pub compiled_for : (g : Grammar) (words : List SentenceWord) → AreEntries g.table g.lexicon.entries → IsFor g.table g.lexicon (compiled g words)
+compiled_for g words entries = record { dims = plans_are g g.table.used; entries = entries; candidates = known_entries g words (candidates_of g words) refl }
 
 pub made_is_problem : (g : Grammar) (words : List SentenceWord) (candidates : List (List EntryNo)) (dims : List DimPlan) (groups : List Group) → IsTable g.table → IsRightLexicon g.table g.lexicon.entries → IsWordPlace g.table g.lexicon.dim g.lexicon.field → refusal g words ≡ None
     → candidates ≡ candidates_of g words → dims ≡ plans g → ((parts : Parts) → Suits g candidates parts → All (IsGroup parts) groups) → IsProblem (record { words = words; candidates = candidates; dims = dims; groups = groups })

@@ -31,7 +31,8 @@ all_differ n ks h i j d before within e =
     let same : get_or ks i 0 ≡ get_or ks j 0 = ap (λ (l : LabelId). l.0) (sym (get_or-map label ks i 0 d earlier) ∙ e ∙ get_or-map label ks j 0 d inside) in
     omega (arith, before, places_once n ks i j h earlier inside same)
 
-pub order_right : (p : Principle) (table : Table) (u : PrincipleUse) (shared : Shape) (xs : AllNamed table u shared (wanted_by (form_of p))) → IsOrderFor p (length (labels_at table u w.First)) (flat_map labels_in (args_of table u shared (wanted_by (form_of p)) xs))
+pub order_right : (p : Principle) (table : Table) (u : PrincipleUse) (shared : Shape) (xs : AllNamed table u shared (wanted_by (form_of p)))
+    → IsOrderFor p (length (labels_at table u w.First)) (flat_map labels_in (args_of table u shared (wanted_by (form_of p)) xs))
 order_right principles.Order table u shared xs =
     let n : ℕ = length (labels_at table u w.First) in
     subst (IsOrderFor principles.Order n) (sym (append-nil (map label xs.0.0))) (within_all n xs.0.0 xs.0.1, all_differ n xs.0.0 xs.0.1)

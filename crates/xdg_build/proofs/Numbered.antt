@@ -1,23 +1,18 @@
 -- The numbers of a word's entries.
-use Rattle.std.proofs.Common.{◌≡◌, ℕ, ◌+◌, ◌<◌, ◌≤◌, zero, suc, Bool, true, List, [], ◌∷◌, length, get_or, map, cond, sym, ap, ◌∙◌, subst, arith, All}
-use Rattle.std.specs.Prelude.{Contains, filter, bytes_eq, slice_index_or}
+use Rattle.std.proofs.Common.{◌≡◌, ℕ, ◌<◌, ◌≤◌, Bool, true, List, [], length, get_or, map, sym, ap, ◌∙◌, subst, arith, All}
+use Rattle.std.specs.Prelude.{Contains, bytes_eq}
 use Rattle.std.specs.List.{AllPairs, range_with_len}
 use Rattle.std.proofs.lemmas.List.{get_or-map, length-map}
 use Rattle.std.proofs.lemmas.List.Elements.{All-contains, All-filter, All-from_get_or, All-map, filter_passes}
 use Rattle.std.proofs.lemmas.List.FromFn.{length-range_with_len, get_or-range_with_len}
-use Rattle.std.proofs.lemmas.List.Kept.{AllPairs-filter}
+use Rattle.std.proofs.lemmas.List.Kept.{AllPairs-from_increasing}
 use Rattle.std.proofs.lemmas.Slice.Eq.{bytes_eq-Decides}
 use Rattle.xdg_base.specs.declared.ids.EntryNo.{EntryNo}
 use Rattle.xdg_packed.specs.Lexicon.{number, places_of, numbers_of}
 use Rattle.xdg_problem.specs.Problems.{AreCandidates}
-use Rattle.xdg_facts.proofs.Lists.{kept}
-
-contains_filter : {X : Type 0} (p : X → Bool) (xs : List X) (k : ℕ) (x : X) → k < length xs → slice_index_or xs k x ≡ x → p x ≡ true → Contains (filter p xs) x
-contains_filter p [] k x within is passes = absurd (omega (arith, within))
-contains_filter p (y ∷ ys) zero x within is passes =
-    let here : p y ≡ true = ap p is ∙ passes in
-    subst (λ b. Contains (cond b (y ∷ filter p ys) (filter p ys)) x) (sym here) (0, omega arith, is)
-contains_filter p (y ∷ ys) (suc k) x within is passes = kept (p y) y (filter p ys) x (contains_filter p ys k x (omega (arith, within)) is passes)
+use Rattle.xdg_domain.proofs.Numbers.{numbers_increase}
+use Rattle.xdg_facts.specs.Rises.{numbers_below}
+use Rattle.xdg_facts.proofs.Rising.{contains_of_has, has_between}
 
 -- a number stands among numbers of entries
 contains_numbers : (xs : List ℕ) (entry : EntryNo) → Contains (map number xs) entry → Contains xs entry.0
@@ -27,13 +22,6 @@ contains_numbers xs entry h =
 
 numbers_contain : (xs : List ℕ) (entry : EntryNo) → Contains xs entry.0 → Contains (map number xs) entry
 numbers_contain xs entry h = (h.0, subst (λ n. h.0 < n) (sym (length-map xs number)) h.1, get_or-map number xs h.0 entry.0 entry h.1 ∙ ap number h.2)
-
-rising : (count : ℕ) → AllPairs (λ (a b : ℕ). a < b) (range_with_len 0 count)
-rising count i j d before within =
-    let inside : j < count = omega (arith, within, length-range_with_len 0 count) in
-    let here : get_or (range_with_len 0 count) i d ≡ 0 + i = get_or-range_with_len 0 count i d (omega (arith, before, inside)) in
-    let next : get_or (range_with_len 0 count) j d ≡ 0 + j = get_or-range_with_len 0 count j d inside in
-    omega (arith, before, here, next)
 
 below_count : (count : ℕ) → All (λ n. n < count) (range_with_len 0 count)
 below_count count = All-from_get_or (λ n. n < count) (range_with_len 0 count) 0 (λ i h.
@@ -68,15 +56,18 @@ module _ (words : List (List ℕ)) (word : List ℕ) where
 
   pub stands_numbered : (entry : EntryNo) → entry.0 < length words → get_or words entry.0 [] ≡ word → Contains (numbers_of words word) entry
   stands_numbered entry within is =
-      let here : get_or all entry.0 entry.0 ≡ 0 + entry.0 = get_or-range_with_len 0 (length words) entry.0 entry.0 within in
       numbers_contain (places_of words word) entry
-      (contains_filter stands all entry.0 entry.0 (subst (λ n. entry.0 < n) (sym (length-range_with_len 0 (length words))) within) (omega (arith, here)) ((bytes_eq-Decides (get_or words entry.0 []) word).1 is))
+      (contains_of_has (places_of words word) entry.0 (has_between stands 0 (length words) entry.0 (omega arith) (omega (arith, within)) ∙ (bytes_eq-Decides (get_or words entry.0 []) word).1 is))
+
+  places_rise : AllPairs (λ (a b : ℕ). a < b) (places_of words word)
+  unfolding numbers_below
+  places_rise = AllPairs-from_increasing (places_of words word) (numbers_increase (length words) stands)
 
   pub are_candidates : length words ≤ 65536 → length (places_of words word) ≤ 1024 → 0 < length (numbers_of words word) → AreCandidates (numbers_of words word)
   are_candidates few fewer some = record {
     some = some;
     most = subst (λ n. n ≤ 1024) (sym (length-map (places_of words word) number)) fewer;
-    rising = rising_numbers (places_of words word) (AllPairs-filter (λ (a b : ℕ). a < b) stands all (rising (length words)));
+    rising = rising_numbers (places_of words word) places_rise;
     small = All-map (λ (entry : EntryNo). entry.0 < 4294967295) number (places_of words word) (All-filter stands (λ n. n < 4294967295) all (All-from_get_or (λ n. n < 4294967295) all 0 (λ i h.
         let inside : i < length words = omega (arith, h, length-range_with_len 0 (length words)) in
         omega (arith, get_or-range_with_len 0 (length words) i 0 inside, inside, few))));

@@ -53,7 +53,6 @@ use Rattle.xdg_build.specs.Principles.{D1, D2, D3, Is, attribute, InSet, InMap, 
 use Rattle.xdg_build.proofs.TypedArguments.{Named, AllNamed, args_of, all_named, wanted_by}
 use Rattle.xdg_build.proofs.Conditions as kept
 use Rattle.xdg_build.proofs.Conditions.{Kept, AreWithin}
-use Rattle.xdg_build.proofs.Readings.{edges_same, edges_within, labels_same, value_same, value_below}
 use Rattle.xdg_build.proofs.Told as told
 use Rattle.xdg_build.proofs.Told.{Given, IsTold, on_feature}
 use Rattle.xdg_build.proofs.FeatureRows.{same_number, Names, names_number, names_some, same_texts, element, element_right, element_small, member_names, members_below, valency_allows, IsMapRow, map_row_is}
@@ -164,20 +163,17 @@ module _ (g : Grammar) (words : List SentenceWord) (a : Analysis) (u : Principle
   some_dim : 0 < length u.dims
   some_dim = omega (arith, h.right.count, first_within u.principle)
 
-  has_first : In g.table.used d1
-  has_first = told.has_dim g words a u h 0 some_dim
-
   first_is : edges_on (first_dim G) a.edges ≡ E1
-  first_is = ap (λ d. edges_on d a.edges) (told.dim_same g words a u h 0 some_dim) ∙ edges_same g words a h.table.used h.is d1 has_first
+  first_is = ap (λ d. edges_on d a.edges) (told.dim_same g words a u h 0 some_dim) ∙ told.edges_same g words a u h 0 some_dim
 
   second_is : 1 < length u.dims → edges_on (second_dim G) a.edges ≡ E2
-  second_is w = ap (λ d. edges_on d a.edges) (told.dim_same g words a u h 1 w) ∙ edges_same g words a h.table.used h.is d2 (told.has_dim g words a u h 1 w)
+  second_is w = ap (λ d. edges_on d a.edges) (told.dim_same g words a u h 1 w) ∙ told.edges_same g words a u h 1 w
 
   labels_count : label_count (compiled g words) (first_dim G) ≡ L1
-  labels_count = ap (label_count (compiled g words)) (told.dim_same g words a u h 0 some_dim) ∙ labels_same g words a h.table.used h.is d1 has_first
+  labels_count = ap (label_count (compiled g words)) (told.dim_same g words a u h 0 some_dim) ∙ told.labels_same g words a u h 0 some_dim
 
   within_first : AreWithin n L1 E1
-  within_first = edges_within g words a h.table.used h.is d1
+  within_first = told.edges_within g words a u h 0 some_dim
 
   -- ---- attributes
 
@@ -190,7 +186,7 @@ module _ (g : Grammar) (words : List SentenceWord) (a : Analysis) (u : Principle
     value_is j v same =
         ap (λ k. slice_index a.attrs (attr_place (compiled g words) (first_dim G) v k)) same
         ∙ ap (λ d. slice_index a.attrs (attr_place (compiled g words) d v i)) (told.dim_same g words a u h 0 some_dim)
-        ∙ value_same g words a h.table.used h.is d1 v i has_first
+        ∙ told.value_same g words a u h 0 some_dim v i
 
     stands : slice_get (typed (dimension g d1).attrs) i ≡ Some (member.name, member.type)
     stands = told.attribute_stands g words a u h nth.First typing i some_dim member
@@ -200,11 +196,11 @@ module _ (g : Grammar) (words : List SentenceWord) (a : Analysis) (u : Principle
         ap (λ (o : Option Arg). value_of g n a d1 v (attribute_place o)) under
         ∙ ap (λ (one : List ℕ × Shape). value_texts one.1 (number v)) (get_or_from_slice_get (typed (dimension g d1).attrs) i (member.name, member.type) ([], text) stands)
 
-    type_small : IsSmall member.type × (0 < count member.type)
-    type_small = told.attribute_small g words a u h nth.First typing i some_dim member
+    type_small : IsSmall member.type
+    type_small = (told.attribute_small g words a u h nth.First typing i some_dim member).0
 
     number_below : (v : ℕ) → v < n → number v < count member.type
-    number_below v node = value_below g words a h.table.used h.is d1 v i member.name member.type has_first node stands type_small.1
+    number_below v node = told.value_below g words a u h 0 some_dim v i member.name member.type node stands
 
   -- ---- arguments by their keys
 
@@ -221,7 +217,8 @@ module _ (g : Grammar) (words : List SentenceWord) (a : Analysis) (u : Principle
 
   -- ---- features
 
-  module _ (which : Which) (within : number_of which < length u.dims) (which_is : feature_dim u.principle ≡ number_of which) (xs : List Arg) (same : u.args ≡ xs) (j f : ℕ) (at : slice_get (flat_map features_in xs) j ≡ Some f) (key : List ℕ) (under : argument u key ≡ Some (arg.Feature f)) where
+  module _ (which : Which) (within : number_of which < length u.dims) (which_is : feature_dim u.principle ≡ number_of which)
+      (xs : List Arg) (same : u.args ≡ xs) (j f : ℕ) (at : slice_get (flat_map features_in xs) j ≡ Some f) (key : List ℕ) (under : argument u key ≡ Some (arg.Feature f)) where
     abbrev k : ℕ
     k = get_or u.dims (number_of which) 0
 
@@ -284,7 +281,8 @@ module _ (g : Grammar) (words : List SentenceWord) (a : Analysis) (u : Principle
           subst (λ (ns : List ℕ). Allows g words a u k key v (label_text g d1 l) number ↔ Contains ns number) (sym (row_is l v type node x)) (
           then_iff (Allows g words a u k key v (label_text g d1 l) number) (IsAllowedAt type (out-Value x.value) (label_text g d1 l) number) (Contains (get_or (rows_in (out-Value x.value)) l []) number)
           (on_feature g a k v f type (argument u key) (λ s y. IsAllowedAt s y (label_text g d1 l) number) x under)
-          (subst (λ (c : List ℕ). IsAllowedAt type (out-Value x.value) c number ↔ Contains (get_or (rows_in (out-Value x.value)) l []) number) key_is (valency_allows keys (out-Value x.value) l number told_so.0.1 key_within x.right x.filled)))
+          (subst (λ (c : List ℕ). IsAllowedAt type (out-Value x.value) c number ↔ Contains (get_or (rows_in (out-Value x.value)) l []) number) key_is
+          (valency_allows keys (out-Value x.value) l number told_so.0.1 key_within x.right x.filled)))
 
   -- ---- names of labels
 
@@ -436,7 +434,7 @@ module _ (g : Grammar) (words : List SentenceWord) (a : Analysis) (u : Principle
       let k_below : k < count x.1.type = subst (λ b. k < b) (shared_count shared y.1.type x.1.type y.1.wanted x.1.wanted) (number_below shares y.0 y.1 f.daughter.0 (within_first.daughter f is)) in
       let first_value = value_is shares x.0 x.1 0 f.mother.0 (attr_is 0 args xs.1) in
       let second_value = value_is shares y.0 y.1 1 f.daughter.0 (attr_is 1 args xs.1) in (
-        λ p c. first_value ∙ same_number x.1.type m k (type_small shares x.0 x.1).0 (number_below shares x.0 x.1 f.mother.0 node) k_below (sym one_text ∙ p (member.1 c) ∙ two_text) ∙ sym second_value,
+        λ p c. first_value ∙ same_number x.1.type m k (type_small shares x.0 x.1) (number_below shares x.0 x.1 f.mother.0 node) k_below (sym one_text ∙ p (member.1 c) ∙ two_text) ∙ sym second_value,
         λ p i. one_text ∙ ap (value_texts x.1.type) (sym first_value ∙ p (member.0 i) ∙ second_value) ∙ sym two_text,
       )))
 
@@ -450,7 +448,8 @@ module _ (g : Grammar) (words : List SentenceWord) (a : Analysis) (u : Principle
       let parts = map_parts (IsElementOf labels shared elements.Shared) (labels nth.First) y.1.type y.1.wanted in
       one (Governs g words a u) conditions.Govern
       (kept.govern_at (compiled g words) G cs a.attrs a.edges E1 on_second L1 first_is refl labels_count
-      (λ f. (some : List (List ℕ)) → InMap g words a u d1 (codes "Govern") f.mother.0 (label_text g d1 f.label.0) some → InMap g words a u d1 (codes "Govern") f.mother.0 (label_text g d1 f.label.0) (attribute g words a u d1 (codes "Agr") f.daughter.0)) within_first (λ f is.
+      (λ f. (some : List (List ℕ)) → InMap g words a u d1 (codes "Govern") f.mother.0 (label_text g d1 f.label.0) some
+      → InMap g words a u d1 (codes "Govern") f.mother.0 (label_text g d1 f.label.0) (attribute g words a u d1 (codes "Agr") f.daughter.0)) within_first (λ f is.
       let row : List ℕ = rows f.mother.0 0 f.label.0 in
       let M : List (List ℕ) → Type 0 = InMap g words a u d1 (codes "Govern") f.mother.0 (label_text g d1 f.label.0) in
       let has = map_has nth.First some_dim (ap feature_dim named) args xs.1 0 y.0 refl (codes "Govern") (argument_is form (ap form_of named) args (codes "Govern") xs.1) labels_first f.label.0 f.mother.0
@@ -486,7 +485,7 @@ module _ (g : Grammar) (words : List SentenceWord) (a : Analysis) (u : Principle
       let l_below : l < count y.1.type = subst (λ b. l < b) (sym (label_count_is labels shared nth.First y.1.type (dimension g d1).labels y.1.wanted labels_first)) label in
       let m_below = number_below of_label y.0 y.1 v node in (
         λ p. elim p [
-          | inl r ↦ inl (same_number y.1.type l m (type_small of_label y.0 y.1).0 l_below m_below (sym own ∙ sym r.0 ∙ text) ∙ sym value, r.1)
+          | inl r ↦ inl (same_number y.1.type l m (type_small of_label y.0 y.1) l_below m_below (sym own ∙ sym r.0 ∙ text) ∙ sym value, r.1)
           | inr r ↦ inr (elim r [
             | inl s ↦ inl ((by_name v l k label).0 s)
             | inr s ↦ inr (yields.0 s.0, (s.1.0, (by_name v l s.1.0 label).0 s.1.1, s.1.2))
@@ -512,7 +511,7 @@ module _ (g : Grammar) (words : List SentenceWord) (a : Analysis) (u : Principle
       (kept.blocked_at (compiled g words) G cs a.attrs a.edges E1 E2 L1 first_is (second_is two) labels_count (λ v f. InSet g words a u d2 (codes "Blocks") v (label_text g d2 f.label.0 ∷ [])) (λ v node f is.
       let has = set_has nth.Second two (ap feature_dim named) args xs.1 0 x.0 refl (codes "Blocks") (argument_is form (ap form_of named) args (codes "Blocks") xs.1) (elements.Labels nth.Second) x.1 v node in
       label_is labels shared nth.Second (InSet g words a u d2 (codes "Blocks") v) (element x.1.type) (rows v 0 0) (dimension g d2).labels f.label.0 has
-      (element_right (IsElementOf labels shared (elements.Labels nth.Second)) x.1.type x.1.wanted) (labels_second two) ((edges_within g words a h.table.used h.is d2).label f is)))
+      (element_right (IsElementOf labels shared (elements.Labels nth.Second)) x.1.type x.1.wanted) (labels_second two) ((told.edges_within g words a u h 1 two).label f is)))
 
   -- ---- linking
 
@@ -551,10 +550,11 @@ module _ (g : Grammar) (words : List SentenceWord) (a : Analysis) (u : Principle
       link_kept q named labels_to_labels form third (λ f. (some : List (List ℕ)) → InMap g words a u (D3 g words a u) (codes "Link") f.mother.0 (label_text g d1 f.label.0) some → P f) (λ f is.
       let row : List ℕ = rows f.mother.0 0 f.label.0 in
       let M : List (List ℕ) → Type 0 = InMap g words a u (D3 g words a u) (codes "Link") f.mother.0 (label_text g d1 f.label.0) in
-      let has = map_has nth.Third (three q named labels_to_labels form third) (ap feature_dim named ∙ third) (arg.Feature x.0 ∷ []) (args_are q named labels_to_labels form third) 0 x.0 refl (codes "Link") (under q named labels_to_labels form third)
+      let has = map_has nth.Third (three q named labels_to_labels form third) (ap feature_dim named ∙ third) (arg.Feature x.0 ∷ []) (args_are q named labels_to_labels form third)
+      0 x.0 refl (codes "Link") (under q named labels_to_labels form third)
       labels_first f.label.0 f.mother.0 (within_first.label f is) (within_first.mother f is) (elements.Labels nth.Second) x.1 parts.0 parts.1 parts.2 in
       let each : (k : Edge) → Contains E2 k → IsLink g words a u f k ↔ Contains row k.label.0 = λ k on. label_is labels shared nth.Second M (element parts.0) row (dimension g d2).labels k.label.0 has
-      (element_right (IsElementOf labels shared (elements.Labels nth.Second)) parts.0 parts.2) (labels_second (two q named labels_to_labels form third)) ((edges_within g words a h.table.used h.is d2).label k on) in
+      (element_right (IsElementOf labels shared (elements.Labels nth.Second)) parts.0 parts.2) (labels_second (two q named labels_to_labels form third)) ((told.edges_within g words a u h 1 (two q named labels_to_labels form third)).label k on) in
       let mapped = map_asks M (element parts.0) row (P f) (IsLinked way E2 f.mother.0 row f.daughter.0) has (linked f row each) in
       let asked = asks (slice_index cs f.mother.0) f.mother.0 f.label.0 f.daughter.0 in (
         λ p. asked.1 (mapped.0 p),
@@ -567,7 +567,8 @@ module _ (g : Grammar) (words : List SentenceWord) (a : Analysis) (u : Principle
       let typing : Typing = typings.Set (elements.Labels nth.First) in
       let x = place q named typing refl refl in
       link_kept q named typing refl refl (λ f. InSet g words a u (D3 g words a u) (codes "Link") f.mother.0 (label_text g d1 f.label.0 ∷ []) → IsDaughter E2 f.mother.0 f.daughter.0 → ⊥) (λ f is.
-      let has = set_has nth.Third (three q named typing refl refl) (ap feature_dim named) (arg.Feature x.0 ∷ []) (args_are q named typing refl refl) 0 x.0 refl (codes "Link") (under q named typing refl refl) (elements.Labels nth.First) x.1 f.mother.0 (within_first.mother f is) in
+      let has = set_has nth.Third (three q named typing refl refl) (ap feature_dim named) (arg.Feature x.0 ∷ []) (args_are q named typing refl refl)
+      0 x.0 refl (codes "Link") (under q named typing refl refl) (elements.Labels nth.First) x.1 f.mother.0 (within_first.mother f is) in
       let member = label_is labels shared nth.First (InSet g words a u (D3 g words a u) (codes "Link") f.mother.0) (element x.1.type) (rows f.mother.0 0 0) (dimension g d1).labels f.label.0 has
       (element_right (IsElementOf labels shared (elements.Labels nth.First)) x.1.type x.1.wanted) labels_first (within_first.label f is) in (
         λ p c. p (member.1 c),

@@ -1,8 +1,8 @@
 -- A typed use in a used dimension: its dimensions, and what the entries of nodes say for its features.
 use Rattle.xdg_build.proofs.Planned.{kept_at, feature_right, attribute_right}
-use Rattle.std.proofs.Common.{◌≡◌, ℕ, ◌<◌, ◌↔◌, true, List, [], length, get_or, map, sym, ap, ap₂, ◌∙◌, subst}
+use Rattle.std.proofs.Common.{◌≡◌, ℕ, ◌<◌, ◌↔◌, true, List, [], length, get_or, map, sym, ap, ap₂, ◌∙◌, subst, arith}
 use Rattle.std.specs.Prelude.{Option, Some, MatchOption, slice_get, slice_index, flat_map}
-use Rattle.std.proofs.lemmas.List.{get_or-map}
+use Rattle.std.proofs.lemmas.List.{get_or-map, length-map}
 use Rattle.std.proofs.lemmas.Option.{slice_get_within, get_or_from_slice_get}
 use Rattle.xdg_base.specs.declared.ids.DimId.{DimId}
 use Rattle.xdg_base.specs.declared.ids.EntryNo.{EntryNo}
@@ -32,14 +32,21 @@ use Rattle.xdg_problem.specs.declared.forms.Which.{Which}
 use Rattle.xdg_principles.specs.Typed.{IsTypedUse, IsTypedMember, number_of, labels_at}
 use Rattle.xdg_build.specs.Features.{rows_in, rows_of, feature}
 use Rattle.xdg_build.specs.Grammars.{Grammar, is_used, used_place}
-use Rattle.xdg_formula.specs.Tables.{no_dim}
+use Rattle.xdg_formula.specs.Tables.{no_dim, used_dims}
 use Rattle.xdg_build.specs.Groups.{features_in, features_at, group_of, dims_of}
-use Rattle.xdg_build.proofs.Dimensions.{Home, home_of, has_place, is_used_home, labels-home, members-home}
+use Rattle.xdg_build.proofs.Dimensions.{used_below, Home, home_of, has_place, is_used_home, labels-home, members-home}
 use Rattle.xdg_build.proofs.Said as reading
 use Rattle.xdg_build.specs.Compiled.{candidates_of, compiled}
-use Rattle.xdg_build.specs.Readings.{dimension, type_at, record_for, entry_at, said_for, OnFeature, feature_place}
+use Rattle.xdg_build.specs.Readings.{edges_in, value_number, dimension, type_at, record_for, entry_at, said_for, OnFeature, feature_place}
 use Rattle.xdg_build.specs.Solutions.{IsAnalysisOf}
-use Rattle.xdg_build.proofs.Readings.{record_same, entry_within}
+use Rattle.xdg_build.proofs.Conditions.{AreWithin}
+use Rattle.xdg_build.proofs.Lawful.{compiled_for}
+use Rattle.xdg_build.proofs.Readings.{record_same, used_is, entry_within}
+use Rattle.xdg_build.proofs.Used as used
+use Rattle.xdg_build.proofs.Valued as valued
+use Rattle.xdg_build.specs.Problems.{IsFor}
+use Rattle.xdg_problem.specs.Arguments.{label_count, attr_place}
+use Rattle.xdg_problem.specs.Paths.{edges_on}
 use Rattle.xdg_build.proofs.EntryRows.{of_entries}
 use Rattle.xdg_facts.specs.Membership.{In}
 use Rattle.xdg_facts.proofs.In.{in_get}
@@ -80,9 +87,42 @@ module _ (g : Grammar) (words : List SentenceWord) (a : Analysis) (u : Principle
   pub has_dim : (m : ℕ) → m < length u.dims → In g.table.used (get_or u.dims m 0)
   has_dim m within = h.right.used (has_place g.table.used u.home h.used) (get_or u.dims m 0) (in_get u.dims m 0 within)
 
+  for_it : IsFor g.table g.lexicon (compiled g words)
+  for_it = compiled_for g words h.lexicon.entries
+
   -- the dimension with that number, compiled
-  pub dim_same : (m : ℕ) → m < length u.dims → (get_or (dims_of g u) m (record { 0 = 0 })).0 ≡ used_place g.table (get_or u.dims m 0)
-  dim_same m within = ap (λ (d : DimId). d.0) (get_or-map (λ (k : ℕ). dim_id (used_place g.table k)) u.dims m 0 (dim_id 0) within)
+  module _ (m : ℕ) (within : m < length u.dims) where
+    abbrev dim : ℕ
+    dim = get_or u.dims m 0
+
+    abbrev place : ℕ
+    place = used_place g.table dim
+
+    pub dim_same : (get_or (dims_of g u) m (record { 0 = 0 })).0 ≡ place
+    dim_same = ap (λ (d : DimId). d.0) (get_or-map (λ (k : ℕ). dim_id (used_place g.table k)) u.dims m 0 (dim_id 0) within)
+
+    inside : place < length (used_dims g.table)
+    inside = omega (arith, used_below g.table.used dim (has_dim m within), length-map g.table.used (dimension g))
+
+    among : get_or g.table.used place 0 ≡ dim
+    among = used_is g.table.used dim (has_dim m within)
+
+    pub edges_same : edges_on place a.edges ≡ edges_in g a dim
+    edges_same = used.edges_same g.table g.lexicon (compiled g words) h.table for_it a h.fit place inside ∙ ap (edges_in g a) among
+
+    pub edges_within : AreWithin (length words) (length (dimension g dim).labels) (edges_in g a dim)
+    edges_within = subst (AreWithin (length words) (length (dimension g dim).labels)) edges_same
+        (subst (λ k. AreWithin (length words) (length (dimension g k).labels) (edges_on place a.edges)) among (used.edges_within g.table g.lexicon (compiled g words) h.table for_it a h.fit place inside))
+
+    pub labels_same : label_count (compiled g words) place ≡ length (dimension g dim).labels
+    labels_same = used.labels_are g.table g.lexicon (compiled g words) h.table for_it place inside ∙ ap (λ k. length (dimension g k).labels) among
+
+    pub value_same : (v i : ℕ) → slice_index a.attrs (attr_place (compiled g words) place v i) ≡ value_number g (length words) a dim v i
+    value_same v i = sym (valued.number_same g.table g.lexicon (compiled g words) h.table for_it place inside a v i) ∙ ap (λ k. value_number g (length words) a k v i) among
+
+    pub value_below : (v i : ℕ) (name : List ℕ) (type : Shape) → v < length words → slice_get (typed (dimension g dim).attrs) i ≡ Some (name, type) → value_number g (length words) a dim v i < count type
+    value_below v i name type node stands = subst (λ k. value_number g (length words) a k v i < count type) among
+        (valued.number_below g.table g.lexicon (compiled g words) h.table for_it place inside i name type (subst (λ k. slice_get (typed (dimension g k).attrs) i ≡ Some (name, type)) (sym among) stands) a h.fit v node)
 
   home : (m : ℕ) → m < length u.dims → Home g.table (get_or u.dims m 0)
   home m within = home_of g.table u h.right h.used m within
@@ -96,7 +136,8 @@ module _ (g : Grammar) (words : List SentenceWord) (a : Analysis) (u : Principle
   pub kept_dim : (m : ℕ) → m < length u.dims → KeepsDim (dimension g (get_or u.dims m 0))
   kept_dim m within = kept_at g.table.dims (get_or u.dims m 0) h.table.dims (slice_get_within g.table.dims (get_or u.dims m 0) (home m within).dim (home m within).stands)
 
-  pub attribute_stands : (which : Which) (typing : Typing) (i : ℕ) → number_of which < length u.dims → (member : IsTypedMember g.table u h.right.shared sorts.Attribute which typing i) → slice_get (typed (dimension g (dim_number which)).attrs) i ≡ Some (member.name, member.type)
+  pub attribute_stands : (which : Which) (typing : Typing) (i : ℕ) → number_of which < length u.dims → (member : IsTypedMember g.table u h.right.shared sorts.Attribute which typing i)
+      → slice_get (typed (dimension g (dim_number which)).attrs) i ≡ Some (member.name, member.type)
   attribute_stands which typing i within member =
       ap (λ (dim : DimType). slice_get (typed dim.attrs) i) (dim_is (number_of which) within)
       ∙ sym (ap (λ (all : Typed). slice_get all i) (members-home g.table u sorts.Attribute which within (home (number_of which) within))) ∙ member.stands
@@ -106,7 +147,7 @@ module _ (g : Grammar) (words : List SentenceWord) (a : Analysis) (u : Principle
       attribute_right (typed (dimension g (dim_number which)).attrs) i member.name member.type (kept_dim (number_of which) within).attributes (attribute_stands which typing i within member)
 
   entry_is : (v : ℕ) → v < length words → IsEntry g.table (entry_at g a v)
-  entry_is v node = reading.entry_at g.table g.lexicon.entries (get_or a.entries v (record { 0 = 0 })).0 h.lexicon.entries (entry_within g words a h.table.used h.is v node).1
+  entry_is v node = reading.entry_at g.table g.lexicon.entries (get_or a.entries v (record { 0 = 0 })).0 h.lexicon.entries (entry_within g words a h.is v node).1
 
   record_is : (k v : ℕ) → v < length words → record_for g.table.used (entry_at g a v) k ≡ get_or (entry_at g a v) (used_place g.table k) []
   record_is k v node = record_same g.table.used (entry_at g a v) k (entry_is v node).count
@@ -129,7 +170,8 @@ module _ (g : Grammar) (words : List SentenceWord) (a : Analysis) (u : Principle
         let k : ℕ = dim_number which in
         let m : Record = get_or (entry_at g a v) (used_place g.table k) [] in
         let whole : IsWhole there.dim m = (entry_is v node).each (used_place g.table k) there.dim (is_used_home g.table k there) in
-        let x : (x : Value) × (said_at m f ≡ Some x) × IsFilledIn member.type (out-Value x) = reading.filled_at (typed there.dim.fields) 0 f f member.name member.type m (reading.zero_first f) feature_stands (reading.filled_of there.dim m whole) in
+        let x : (x : Value) × (said_at m f ≡ Some x) × IsFilledIn member.type (out-Value x) =
+        reading.filled_at (typed there.dim.fields) 0 f f member.name member.type m (reading.zero_first f) feature_stands (reading.filled_of there.dim m whole) in
         record {
           value = x.0;
           said = ap (λ (r : Record). said_at r f) (record_is k v node) ∙ x.1;
@@ -139,7 +181,8 @@ module _ (g : Grammar) (words : List SentenceWord) (a : Analysis) (u : Principle
         }
 
   -- the rows of a feature of a node's entry, compiled
-  pub row_is : (which : Which) (places : List ℕ) (f v j l : ℕ) (type : Shape) → feature_dim u.principle ≡ number_of which → flat_map features_in u.args ≡ places → slice_get places j ≡ Some f → v < length words → (x : IsTold g a (dim_number which) v f type)
+  pub row_is : (which : Which) (places : List ℕ) (f v j l : ℕ) (type : Shape) → feature_dim u.principle ≡ number_of which → flat_map features_in u.args ≡ places
+      → slice_get places j ≡ Some f → v < length words → (x : IsTold g a (dim_number which) v f type)
       → row (group_of g (candidates_of g words) u) v (slice_index (entry_places (candidates_of g words) a.entries) v) j l ≡ get_or (rows_in (out-Value x.value)) l []
   row_is which places f v j l type which_is places_are at node x =
       let k : ℕ = dim_number which in
@@ -150,5 +193,5 @@ module _ (g : Grammar) (words : List SentenceWord) (a : Analysis) (u : Principle
       ap (λ (fs : List Feat). get_or fs j (record { rows = [] })) feats ∙ get_or-map (one k) places j 0 (record { rows = [] }) (slice_get_within places j f at) ∙ ap (one k) (get_or_from_slice_get places j f 0 at) in
       let rows : (one k f).rows ≡ rows_in (out-Value x.value) = ap rows_of (ap (λ (r : Record). said_at r f) (sym (record_is k v node)) ∙ x.said) in
       ap (λ (fs : List Feat). get_or (get_or fs j (record { rows = [] })).rows l [])
-      (of_entries (features_at g u) (candidates_of g words) a.entries h.fit.entries v ∙ get_or-map (features_at g u) a.entries v (record { 0 = 0 }) [] (entry_within g words a h.table.used h.is v node).0)
+      (of_entries (features_at g u) (candidates_of g words) a.entries h.fit.entries v ∙ get_or-map (features_at g u) a.entries v (record { 0 = 0 }) [] (entry_within g words a h.is v node).0)
       ∙ ap (λ (one : Feat). get_or one.rows l []) here ∙ ap (λ (rs : List (List ℕ)). get_or rs l []) rows

@@ -150,7 +150,8 @@ pub value_rows : (labels : Which → List (List ℕ)) (shared : Shape) (typing :
 value_rows labels shared (t.One element) type v is h filled = tt
 value_rows labels shared (t.Set element) type v is h filled =
     let P : Shape → Type 0 = IsElementOf labels shared element in
-    subst (RowsFit labels shared (t.Set element)) (sym (set_rows_are P type v is h)) (refl, all_one (IsSet (size labels shared element)) (members_in v) (member_rows (size labels shared element) P (element_size labels shared element) type v is h))
+    subst (RowsFit labels shared (t.Set element)) (sym (set_rows_are P type v is h))
+    (refl, all_one (IsSet (size labels shared element)) (members_in v) (member_rows (size labels shared element) P (element_size labels shared element) type v is h))
 value_rows labels shared (t.Valency which) type v is h filled =
     valency_rows (labels which) v (subst (λ s. IsIn s v) is h) (subst (λ s. IsFilledIn s v) is filled)
 value_rows labels shared (t.Map which element) (mapping k u) v is h filled = mapped labels shared which element k u v is.0 is.1 h filled

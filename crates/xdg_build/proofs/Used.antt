@@ -1,9 +1,9 @@
 -- The used dimensions of a grammar, by their places and their names, and the dimensions of a problem.
-use Rattle.std.proofs.Common.{◌≡◌, ℕ, ◌<◌, Bool, true, false, inl, inr, List, [], ◌∷◌, length, get_or, map, Some, refl, sym, ap, ◌∙◌, subst, arith}
-use Rattle.std.specs.Prelude.{◌==◌, Contains, bytes_eq, if◌then◌else◌, slice_index_or}
-use Rattle.std.proofs.lemmas.Bool.{cases_eq, eq-eqb, ne_eqb}
+use Rattle.std.proofs.Common.{◌≡◌, ℕ, ◌<◌, Bool, true, false, inl, inr, List, [], ◌∷◌, length, get_or, map, Some, refl, sym, ap, ap₂, ◌∙◌, subst, arith}
+use Rattle.std.specs.Prelude.{◌==◌, Contains, bytes_eq, cond, filter, if◌then◌else◌, slice_index_or}
+use Rattle.std.proofs.lemmas.Bool.{cases_eq, eq-eqb, eqb-true, ne_eqb}
 use Rattle.std.proofs.lemmas.List.{get_or-map, length-map}
-use Rattle.std.proofs.lemmas.List.Elements.{All-contains}
+use Rattle.std.proofs.lemmas.List.Elements.{All-contains, All-filter, filter_passes}
 use Rattle.std.proofs.lemmas.Slice.Eq.{bytes_eq-Decides}
 use Rattle.xdg_domain.specs.Shapes.{Shape, shape}
 use Rattle.xdg_domain.specs.declared.types.Ty.{Ty}
@@ -13,13 +13,15 @@ use Rattle.xdg_problem.specs.declared.parts.Parts.{Parts}
 use Rattle.xdg_problem.specs.Analyses.{IsAnalysis, IsPlace}
 use Rattle.xdg_problem.specs.Arguments.{label_count, attr_count, no_plan}
 use Rattle.xdg_problem.specs.Paths.{edges_on}
-use Rattle.xdg_problem.proofs.PlacePlans.{dim_within}
+use Rattle.xdg_problem.specs.declared.parts.DimPlan.{DimPlan}
+use Rattle.xdg_problem.specs.Places.{nodes}
+use Rattle.xdg_problem.proofs.PlacePlans.{dim_within, plan_read}
 use Rattle.xdg_types.specs.declared.table.DimType.{DimType}
 use Rattle.xdg_types.specs.Table.{Table, IsTable, ArePlaces, typed, dim_named}
 use Rattle.xdg_build.specs.Grammars.{Grammar}
 use Rattle.xdg_build.specs.Plans.{attr_plan}
 use Rattle.xdg_build.specs.Readings.{dimension, edges_in}
-use Rattle.xdg_build.proofs.Readings.{filter_same}
+use Rattle.xdg_build.proofs.Conditions.{AreWithin}
 use Rattle.xdg_build.proofs.Planned.{places_once}
 use Rattle.xdg_facts.proofs.In.{in_get}
 use Rattle.xdg_formula.specs.Tables.{no_dim, used_dims}
@@ -28,9 +30,13 @@ use Rattle.xdg_build.specs.Places.{IsDimAt}
 use Rattle.xdg_build.specs.Problems.{IsPlanOf, IsFor}
 use Rattle.xdg_build.proofs.Lists.{zip_at}
 use Rattle.xdg_build.specs.Truths.{IsCalled}
-use Rattle.xdg_facts.proofs.Lists.{zip_length}
+use Rattle.xdg_facts.proofs.Lists.{contains_more, zip_length}
 use Rattle.xdg_facts.specs.Membership.{In}
 use Rattle.xdg_terms.proofs.Meant.{one_place}
+
+filter_same : (p q : Edge → Bool) (es : List Edge) → ((e : Edge) → Contains es e → p e ≡ q e) → filter p es ≡ filter q es
+filter_same p q [] h = refl
+filter_same p q (e ∷ es) h = ap₂ (λ (b : Bool) (more : List Edge). cond b (e ∷ more) more) (h e (0, omega arith, refl)) (filter_same p q es (λ f is. h f (contains_more e es f is)))
 
 -- ---- places of used dimensions
 
@@ -114,3 +120,16 @@ module _ (table : Table) (lexicon : Lexicon) (parts : Parts) (is : IsTable table
       | inr other ↦ ne_eqb e.dim.0 d other ∙ sym (ne_eqb (get_or table.used e.dim.0 0) (among_all table lexicon is d)
           (λ same. other (places_once (length table.dims) table.used e.dim.0 d is.used (edge_dim e stands) (used_within table lexicon is d l) same)))
     ])
+
+    -- the nodes and the labels of its edges are in range
+    pub edges_within : (d : ℕ) → d < length (used_dims table) → AreWithin (nodes parts) (length (dimension h (among_all table lexicon is d)).labels) (edges_on d a.edges)
+    edges_within d l = record { mother = λ e there. (place_of e there).mother; label = label_within; daughter = λ e there. (place_of e there).daughter }
+      where
+        place_of : (e : Edge) → Contains (edges_on d a.edges) e → IsPlace parts e
+        place_of e there = All-contains (IsPlace parts) (edges_on d a.edges) e (All-filter (λ f. f.dim.0 == d) (IsPlace parts) a.edges fits.places) there
+
+        label_within : (e : Edge) → Contains (edges_on d a.edges) e → e.label.0 < length (dimension h (among_all table lexicon is d)).labels
+        label_within e there =
+            let dim_is : e.dim.0 ≡ d = eqb-true e.dim.0 d (All-contains (λ f. (f.dim.0 == d) ≡ true) (edges_on d a.edges) e (filter_passes (λ f. f.dim.0 == d) a.edges) there) in
+            let plan_is : get_or parts.dims d no_plan ≡ (place_of e there).plan = ap (λ i. get_or parts.dims i no_plan) (sym dim_is) ∙ plan_read parts e (place_of e there) no_plan in
+            subst (λ (labels : List (List ℕ)). e.label.0 < length labels) (ap (λ (plan : DimPlan). plan.labels) (sym plan_is) ∙ (plan_of d l).labels) (place_of e there).label

@@ -16,7 +16,7 @@ use Rattle.xdg_problem.specs.declared.parts.DimPlan.{DimPlan}
 use Rattle.xdg_problem.specs.declared.parts.Parts.{Parts}
 use Rattle.xdg_problem.specs.Analyses.{IsAnalysis}
 use Rattle.xdg_problem.specs.Arguments.{attr_count, attr_place, value_count, no_plan, no_attr}
-use Rattle.xdg_problem.specs.Places.{below, nodes}
+use Rattle.xdg_problem.specs.Places.{below, nodes, numbers_from}
 use Rattle.xdg_problem.specs.Vectors.{attr_sizes}
 use Rattle.xdg_problem.proofs.AttrPlaces.{attr_within}
 use Rattle.xdg_problem.proofs.Counted.{length_attrs_of}
@@ -25,13 +25,32 @@ use Rattle.xdg_types.specs.Table.{Table, IsTable, ArePlaces, typed}
 use Rattle.xdg_build.specs.Grammars.{Grammar}
 use Rattle.xdg_build.specs.Plans.{attr_plan, shown_as}
 use Rattle.xdg_build.specs.Readings.{dimension, values_before, value_number, type_at}
-use Rattle.xdg_build.proofs.Readings.{repeated_length, repeated_at}
 use Rattle.xdg_facts.proofs.In.{in_get}
 use Rattle.xdg_formula.specs.Tables.{used_dims}
 use Rattle.xdg_build.specs.Problems.{IsPlanOf, IsFor}
-use Rattle.xdg_build.proofs.Used.{among_all, used_within, plan_of, attrs_are}
+use Rattle.xdg_build.proofs.Used.{among_all, used_within, dims_long, plan_of, attrs_are}
 use Rattle.xdg_facts.specs.Membership.{In}
 use Rattle.xdg_facts.proofs.Compared.{fits_at}
+
+-- ---- numbers that stand again and again
+
+repeated_length : (counts : List ℕ) (first many : ℕ) → length (flat_map (λ (node : ℕ). counts) (numbers_from first many)) ≡ many * length counts
+repeated_length counts first zero = (let none : 0 ≡ 0 * length counts = grind arith in none)
+repeated_length counts first (suc many) =
+    let more : length counts + many * length counts ≡ suc many * length counts = grind arith in
+    length-append counts (flat_map (λ (node : ℕ). counts) (numbers_from (suc first) many)) ∙ ap (λ k. length counts + k) (repeated_length counts (suc first) many) ∙ more
+
+repeated_at : (counts : List ℕ) (first many v i : ℕ) → v < many → i < length counts → get_or (flat_map (λ (node : ℕ). counts) (numbers_from first many)) (v * length counts + i) 0 ≡ get_or counts i 0
+repeated_at counts first zero v i node within = absurd (omega (arith, node))
+repeated_at counts first (suc many) zero i node within =
+    let place : 0 * length counts + i ≡ i = grind arith in
+    ap (λ p. get_or (counts ++ flat_map (λ (node : ℕ). counts) (numbers_from (suc first) many)) p 0) place
+    ∙ get_or_append_left counts (flat_map (λ (node : ℕ). counts) (numbers_from (suc first) many)) 0 i within
+repeated_at counts first (suc many) (suc v) i node within =
+    let place : suc v * length counts + i ≡ length counts + (v * length counts + i) = grind arith in
+    ap (λ p. get_or (counts ++ flat_map (λ (node : ℕ). counts) (numbers_from (suc first) many)) p 0) place
+    ∙ get_or-append-add counts (flat_map (λ (node : ℕ). counts) (numbers_from (suc first) many)) (v * length counts + i) 0
+    ∙ repeated_at counts (suc first) many v i (omega (arith, node)) within
 
 -- ---- how many values an attribute has
 
@@ -66,7 +85,7 @@ size_at n (plan ∷ plans) (suc d) v i l node within =
     ∙ size_at n plans d v i (omega (arith, l)) node within
 
 module _ (parts : Parts) (a : Analysis) (fits : IsAnalysis parts a) where
-  pub value_below : (d v i : ℕ) → d < length parts.dims → v < nodes parts → i < attr_count parts d → get_or a.attrs (attr_place parts d v i) 0 < value_count parts d i
+  value_below : (d v i : ℕ) → d < length parts.dims → v < nodes parts → i < attr_count parts d → get_or a.attrs (attr_place parts d v i) 0 < value_count parts d i
   value_below d v i l node within =
       let place : attr_place parts d v i < length (attr_sizes (nodes parts) parts.dims) = attr_within parts d v i l node within in
       subst (λ m. get_or a.attrs (attr_place parts d v i) 0 < m) (size_at (nodes parts) parts.dims d v i l node within)
@@ -105,25 +124,30 @@ module _ (table : Table) (lexicon : Lexicon) (parts : Parts) (is : IsTable table
 
   -- ---- its type
 
-  module _ (i : ℕ) (name : List ℕ) (type : Ty) (stands : slice_get (dimension g k).attrs i ≡ Some (name, type)) where
+  module _ (i : ℕ) (name : List ℕ) (type : Shape) (stands : slice_get (typed (dimension g k).attrs) i ≡ Some (name, type)) where
+    within : i < length (typed (dimension g k).attrs)
+    within = slice_get_within (typed (dimension g k).attrs) i (name, type) stands
+
     pub attr_inside : i < attr_count parts d
-    attr_inside = (let within : i < length (dimension g k).attrs = slice_get_within (dimension g k).attrs i (name, type) stands in omega (arith, within, attrs_are table lexicon parts is for_it d l))
+    attr_inside =
+        let long : length (typed (dimension g k).attrs) ≡ length (dimension g k).attrs = length-map (dimension g k).attrs (λ (one : List ℕ × Ty). (one.0, shape one.1)) in
+        omega (arith, within, long, attrs_are table lexicon parts is for_it d l)
 
-    typed_is : get_or (typed (dimension g k).attrs) i ([], text) ≡ (name, shape type)
-    typed_is =
-        get_or-map (λ (one : List ℕ × Ty). (one.0, shape one.1)) (dimension g k).attrs i (name, type) ([], text) (slice_get_within (dimension g k).attrs i (name, type) stands)
-        ∙ ap (λ (one : List ℕ × Ty). (one.0, shape one.1)) (get_or_from_slice_get (dimension g k).attrs i (name, type) (name, type) stands)
+    typed_is : get_or (typed (dimension g k).attrs) i ([], text) ≡ (name, type)
+    typed_is = get_or_from_slice_get (typed (dimension g k).attrs) i (name, type) ([], text) stands
 
-    pub type_is : type_at (typed (dimension g k).attrs) i ≡ shape type
+    pub type_is : type_at (typed (dimension g k).attrs) i ≡ type
     type_is = ap (λ (one : List ℕ × Shape). one.1) typed_is
 
-    pub value_count_is : value_count parts d i ≡ count (shape type)
+    pub value_count_is : value_count parts d i ≡ count type
     value_count_is =
-        let dim : DimType = dimension g k in
-        let long : length (typed dim.attrs) ≡ length dim.attrs = length-map dim.attrs (λ (one : List ℕ × Ty). (one.0, shape one.1)) in
-        let within : i < length dim.attrs = slice_get_within dim.attrs i (name, type) stands in
         ap (λ (attrs : List AttrPlan). length (get_or attrs i no_attr).values) (plan_of table lexicon parts is for_it d l).attrs
-        ∙ ap (λ (attr : AttrPlan). length attr.values) (get_or-map (λ (attr : List ℕ × Shape). attr_plan attr.0 attr.1) (typed dim.attrs) i ([], text) no_attr (omega (arith, within, long)))
+        ∙ ap (λ (attr : AttrPlan). length attr.values) (get_or-map (λ (attr : List ℕ × Shape). attr_plan attr.0 attr.1) (typed (dimension g k).attrs) i ([], text) no_attr within)
         ∙ ap (λ (one : List ℕ × Shape). length (map (shown_as one.1) (range_with_len 0 (count one.1)))) typed_is
-        ∙ length-map (range_with_len 0 (count (shape type))) (shown_as (shape type))
-        ∙ length-range_with_len 0 (count (shape type))
+        ∙ length-map (range_with_len 0 (count type)) (shown_as type)
+        ∙ length-range_with_len 0 (count type)
+
+    pub number_below : (a : Analysis) → IsAnalysis parts a → (v : ℕ) → v < nodes parts → value_number g (nodes parts) a k v i < count type
+    number_below a fits v node =
+        subst (λ many. value_number g (nodes parts) a k v i < many) value_count_is
+        (subst (λ x. x < value_count parts d i) (sym (number_same a v i)) (value_below parts a fits d v i (omega (arith, l, dims_long table lexicon parts is for_it)) node attr_inside))

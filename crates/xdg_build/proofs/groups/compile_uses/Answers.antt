@@ -8,7 +8,8 @@ use Rattle.xdg_build.proofs.groups.compile_uses.Goals as goal
 
 pub compile_all-requires-clause-typed : goal.compile_all-requires-clause-typed
 compile_all-requires-clause-typed c =
-    subst (All (IsTypedUse c.args.checked.now.types)) (sym c.principles-uses.ensures.same) (λ k d within. c.principles-uses.ensures.keeps.principles (get_or c.args.checked.now.principles k d) (in_get c.args.checked.now.principles k d within))
+    subst (All (IsTypedUse c.args.checked.now.types)) (sym c.principles-uses.ensures.same)
+    (λ k d within. c.principles-uses.ensures.keeps.principles (get_or c.args.checked.now.principles k d) (in_get c.args.checked.now.principles k d within))
 
 pub returns-clause-groups : goal.returns-clause-groups
 returns-clause-groups c =
