@@ -11,7 +11,7 @@ use Rattle.xdg_problem.specs.declared.analysis.Edge.{Edge}
 use Rattle.xdg_problem.specs.declared.parts.Parts.{Parts}
 use Rattle.xdg_problem.specs.Analyses.{Before}
 use Rattle.xdg_problem.specs.Arguments.{label_count}
-use Rattle.xdg_problem.specs.Paths.{IsDaughterBy}
+use Rattle.xdg_problem.specs.Paths.{IsDaughterBy, edges_out_of}
 use Rattle.xdg_problem.specs.Places.{edge, places}
 use Rattle.xdg_problem.proofs.Edges.{edge_equal}
 use Rattle.xdg_problem.proofs.FilterFacts.{filter_contained}
@@ -132,6 +132,10 @@ between_told which parts box dim u l v b exact = (
   λ t. (let (k, e, within, at, (m, k_is, d)) = exact.0 t in subst (Contains (edges_of which parts box dim)) (edge_equal e (edge dim u l v) (which_place which parts box dim e (k, within, at)).1 m k_is d) (k, within, at)),
   λ c. exact.1 (any_of (λ e. (e.mother.0 ≡ u) × (e.label.0 ≡ l) × (e.daughter.0 ≡ v)) (edges_of which parts box dim) (edge dim u l v) c (refl, refl, refl)),
 )
+
+-- how many edges with a label leave a node, by the nodes to which they lead
+pub out_counted : (which : Which) (parts : Parts) (box : List (List Bool)) (dim node label : ℕ) (ends : List ℕ) → IsNodes ends → ((other : ℕ) → IsTrue (has ends other) ↔ IsDaughterBy (edges_of which parts box dim) node label other) → length ends ≡ edges_out_of (edges_of which parts box dim) node label
+out_counted which parts box dim node label ends is exact = which_counted which ways.Out parts box dim node label ends is (λ other. between_told which parts box dim node label other (has ends other) (exact other))
 
 -- a label of a plane is one of the edges of its dimension
 pub label_known : (parts : Parts) (plane : Plane) (node label : ℕ) → IsPlane parts plane → node < plane.nodes → label < plane.labels → label < edge_labels parts plane.dim.0

@@ -166,9 +166,6 @@ module _ {P : Type 0} (stands : P → Parts → ℕ → Type 0) (still : P → P
         greatest = r.keeps;
       }
 
-  pub all_still : (s : State) (awake : List Bool) → Running s awake → ((at : ℕ) → IsOn awake at → ⊥) → All (λ q. still q s.parts s.now) props
-  all_still s awake r none at d l = subst (λ q. still (get_or props at d) q s.now) (sym r.extends.same) (r.asleep at d l (none at))
-
   -- the propagator found no closed box: there is none
   pub running_dead : (s new : State) (awake : List Bool) (at : ℕ) (p : P) → Running s awake → at < length props → p ≡ get_or props at p → StandsIn (stands p) s.parts → Keeps (stands p) moves.Dead s new → (box : List (List Bool)) → IsClosedByAll stands props old.parts box → LiesIn box old.now → ⊥
   running_dead s new awake at p r l is stand step box k inside = (keeps_on s new awake at p moves.Dead r l is stand step box k inside).0 refl

@@ -24,6 +24,12 @@ quiet_later group P Done p old q mid held a quiet =
 abbrev pub AreBelow : (ℕ → List (List Bool) → Type 0) → ℕ → List (List Bool) → Type 0
 AreBelow P k box = (i : ℕ) → i < k → P i box
 
+below_more : (P : ℕ → List (List Bool) → Type 0) (k : ℕ) (box : List (List Bool)) → AreBelow P k box → P k box → AreBelow P (k + 1) box
+below_more P k box before here i l = elim (cases_lt i k) [
+  | inl less ↦ before i less
+  | inr past ↦ (let e : i ≡ k = omega (arith, l, past) in subst (λ j. P j box) (sym e) here)
+]
+
 -- P is what is done at a number, of the parts of the problem
 module _ (group : Group) (P : Parts → ℕ → List (List Bool) → Type 0) where
   pub below_first : (p : Progress) (s : State) → Known s → Sweeps group (AreBelow (P s.parts) 0) p s p s
@@ -32,10 +38,12 @@ module _ (group : Group) (P : Parts → ℕ → List (List Bool) → Type 0) whe
   pub below_next : (k : ℕ) (p : Progress) (old : State) (q : Progress) (mid : State) (r : Progress) (new : State)
       → Sweeps group (AreBelow (P old.parts) k) p old q mid → Sweeps group (P mid.parts k) q mid r new
       → Sweeps group (AreBelow (P old.parts) (k + 1)) p old r new
-  below_next k p old q mid r new a b = sweeps_next group (AreBelow (P old.parts) k) (AreBelow (P old.parts) (k + 1)) (λ parts. P parts k) p old q mid r new a b (λ box before here i l. elim (cases_lt i k) [
-    | inl less ↦ before i less
-    | inr past ↦ (let e : i ≡ k = omega (arith, l, past) in subst (λ j. P old.parts j box) (sym e) here)
-  ])
+  below_next k p old q mid r new a b = sweeps_next group (AreBelow (P old.parts) k) (AreBelow (P old.parts) (k + 1)) (λ parts. P parts k) p old q mid r new a b (below_more (P old.parts) k)
+
+  -- where nothing is left to do
+  pub below_skip : (k : ℕ) (p : Progress) (old : State) (q : Progress) (mid : State) → Sweeps group (AreBelow (P old.parts) k) p old q mid → P old.parts k mid.now
+      → Sweeps group (AreBelow (P old.parts) (k + 1)) p old q mid
+  below_skip k p old q mid a here = sweeps_skip group (AreBelow (P old.parts) k) (AreBelow (P old.parts) (k + 1)) p old q mid a (λ before. below_more (P old.parts) k mid.now before here)
 
   pub below_end : (k n : ℕ) (p : Progress) (old : State) (q : Progress) (new : State) → n ≤ k → Sweeps group (AreBelow (P old.parts) k) p old q new → Sweeps group (AreBelow (P old.parts) n) p old q new
   below_end k n p old q new all a = sweeps_skip group (AreBelow (P old.parts) k) (AreBelow (P old.parts) n) p old q new a (λ done i l. done i (omega (arith, l, all)))

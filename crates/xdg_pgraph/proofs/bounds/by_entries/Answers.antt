@@ -29,9 +29,6 @@ loop-place-preserved-then-not-entry_in c = tells_skip c.args.store.now.now c.arg
     ])
     c.loop-place.invariant
 
-pub with-looked-requires : goal.with-looked-requires
-with-looked-requires c = c.numbers_at-numbers.ensures.rising
-
 pub loop-place-preserved : goal.loop-place-preserved
 loop-place-preserved c =
     let same = c.numbers_at-numbers.ensures.same c.args.group.now c.features_of-candidates.ensures in

@@ -7,6 +7,3 @@ returns-clause-full c = told_greatest c.args.store.now.now c.args.bundle.node (n
 
 pub returns-clause-needed : goal.returns-clause-needed
 returns-clause-needed c = told_least c.args.store.now.now c.args.bundle.node (numbers_of c.args.bundle.way c.args.group.now c.args.bundle.node c.args.bundle.label) 128 c.args.least c.args.most c.looked_at-looked.result c.looked_at-looked.ensures c.args.most c.requires.few.1
-
-pub returns-clause-barred : goal.returns-clause-barred
-returns-clause-barred c not k has = c.looked_at-looked.ensures.within not k has has

@@ -1,15 +1,8 @@
 use Rattle.xdg_problem.specs.Boxes.{May, Must}
 use Rattle.xdg_rules.specs.Rules.{may_edges, must_edges}
 use Rattle.xdg_rules.proofs.Shrinking.{may_exact, must_exact}
-use Rattle.std.proofs.Common.{arith}
 use Rattle.xdg_pgraph.proofs.LabelCounts.{into_counted}
 use Rattle.xdg_pgraph.proofs.incoming.counts_at.Goals as goal
-
-pub labels_into-into-requires-clause-dim : goal.labels_into-into-requires-clause-dim
-labels_into-into-requires-clause-dim c = c.requires.plane.dim_in
-
-pub labels_into-into-requires-clause-daughter : goal.labels_into-into-requires-clause-daughter
-labels_into-into-requires-clause-daughter c = (let l = c.requires.daughter in let n = c.requires.plane.nodes_is in omega (arith, l, n))
 
 pub returns : goal.returns
 returns c = record {

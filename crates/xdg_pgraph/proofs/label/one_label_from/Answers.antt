@@ -3,7 +3,6 @@ use Rattle.std.proofs.lemmas.Bool.{and_parts}
 use Rattle.xdg_rules.specs.Rules.{must_edges}
 use Rattle.xdg_propcore.specs.Passes.{Clears}
 use Rattle.xdg_graph.specs.declared.which.Which.TheVariants as whichs
-use Rattle.xdg_pgraph.specs.Planes.{IsPlane}
 use Rattle.xdg_pgraph.specs.Seeking.{Doubled}
 use Rattle.xdg_pgraph.proofs.Labels.{LabelInto, label_start, label_like, label_turn}
 use Rattle.xdg_pgraph.proofs.Skipped.{label_skip}
@@ -13,9 +12,6 @@ use Rattle.xdg_facts.specs.Rises.{has}
 
 pub loop-daughter-init : goal.loop-daughter-init
 loop-daughter-init c = (label_start c.args.plane.now c.args.pass.now c.args.pass.now c.args.pass.now c.args.store.now c.args.store.now c.args.store.now (LabelInto c.args.mother 0) (λ e x. (let l = x.1 in omega (arith, l))), refl, c.requires.known)
-
-pub one_label_between-requires-clause-plane : goal.one_label_between-requires-clause-plane
-one_label_between-requires-clause-plane c = subst (λ z. IsPlane z c.args.plane.now) (sym c.loop-daughter.invariant.1) c.requires.plane
 
 pub one_label_between-requires-clause-differ : goal.one_label_between-requires-clause-differ
 one_label_between-requires-clause-differ c = leaves_other whichs.Must c.args.store.now.parts c.args.store.now.now c.args.plane.now c.requires.plane c.args.mother c.loop-daughter.daughter c.entered_from-must.result c.entered_from-must.ensures

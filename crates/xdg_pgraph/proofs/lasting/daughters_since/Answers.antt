@@ -9,9 +9,6 @@ use Rattle.xdg_pgraph.proofs.lasting.daughters_since.Goals as goal
 pub removed_since-requires : goal.removed_since-requires
 removed_since-requires c = (c.requires.held c.in-Some.mark c.in-Some.is).within
 
-pub lost_daughters-requires-clause-decisions : goal.lost_daughters-requires-clause-decisions
-lost_daughters-requires-clause-decisions c = c.removed_since.ensures.names.each
-
 pub returns-in-Some : goal.returns-in-Some
 returns-in-Some c =
     let s = c.args.store.now in

@@ -35,6 +35,3 @@ loop-mother-preserved c = (
 pub returns-clause-clears : goal.returns-clause-clears
 returns-clause-clears c = mothers_with c.args.plane.now.dim.0 c.args.others c.args.daughter c.args.label c.ends-mothers.result c.args.pass.now c.loop-mother.pass c.args.store.now c.loop-mother.store c.ends-mothers.ensures
     (passed_all (OneOf c.args.plane.now.dim.0 c.args.others (λ x. edge c.args.plane.now.dim.0 x c.args.label c.args.daughter)) c.ends-mothers.result c.iter-mother-items.result c.into_iter-mother-iterator.result c.loop-mother.mother-iterator c.args.pass.now c.loop-mother.pass c.args.store.now c.loop-mother.store c.iter-mother-items.ensures.value c.into_iter-mother-iterator.ensures.into_iter_gives c.in-None.ensures.steps.0 c.loop-mother.invariant.2)
-
-pub returns-clause-known : goal.returns-clause-known
-returns-clause-known c = c.loop-mother.invariant.3

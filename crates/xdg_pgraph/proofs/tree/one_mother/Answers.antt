@@ -1,8 +1,7 @@
-use Rattle.std.proofs.Common.{◌≡◌, ◌∙◌, ℕ, ◌∷◌, List, ap, refl, sym, subst}
+use Rattle.std.proofs.Common.{◌≡◌, ◌∙◌, ℕ, ◌∷◌, List, ap, refl, subst}
 use Rattle.xdg_facts.specs.Rises.{has}
 use Rattle.xdg_rules.specs.Rules.{OneMother, must_edges}
 use Rattle.xdg_propcore.specs.Passes.{Clears}
-use Rattle.xdg_pgraph.specs.Planes.{IsPlane}
 use Rattle.xdg_pgraph.specs.Seeking.{Aims, Finds, Into, ToNode}
 use Rattle.xdg_pgraph.proofs.Ruled.{its_daughter, one_mother_turn, outside_end}
 use Rattle.xdg_facts.proofs.Rising.{tail_in}
@@ -22,21 +21,9 @@ loop-daughter-init c =
       (λ z. (z, refl)),
     )
 
-pub entering-musts-requires-clause-plane : goal.entering-musts-requires-clause-plane
-entering-musts-requires-clause-plane c = subst (λ z. IsPlane z c.args.plane.now) (sym c.loop-daughter.invariant.4) c.requires.plane
-
-pub entering-musts-requires-clause-known : goal.entering-musts-requires-clause-known
-entering-musts-requires-clause-known c = c.loop-daughter.invariant.5
-
 pub entering-musts-requires-clause-daughter : goal.entering-musts-requires-clause-daughter
 entering-musts-requires-clause-daughter c = crowded_within c.args.store.now.parts c.args.store.now.now c.args.plane.now c.args.incoming.now.must c.args.incoming.now.may c.into_iter-daughter-iterator.result c.loop-daughter.daughter-iterator c.next.new.self c.in-Some.daughter.0 c.requires.plane c.requires.incoming.must
     (λ n. ap (λ (s : List ℕ). has s n) (c.into_iter-daughter-iterator.ensures.into_iter_gives ∙ c.iter-daughter-items.ensures.value) ∙ c.meet-crowded.ensures.members n) c.loop-daughter.invariant.2 c.in-Some.ensures.steps
-
-pub forbid_entering-requires-clause-plane : goal.forbid_entering-requires-clause-plane
-forbid_entering-requires-clause-plane c = subst (λ z. IsPlane z c.args.plane.now) (sym c.loop-daughter.invariant.4) c.requires.plane
-
-pub forbid_entering-requires-clause-known : goal.forbid_entering-requires-clause-known
-forbid_entering-requires-clause-known c = c.loop-daughter.invariant.5
 
 pub forbid_entering-requires-clause-daughter : goal.forbid_entering-requires-clause-daughter
 forbid_entering-requires-clause-daughter c = crowded_within c.args.store.now.parts c.args.store.now.now c.args.plane.now c.args.incoming.now.must c.args.incoming.now.may c.into_iter-daughter-iterator.result c.loop-daughter.daughter-iterator c.next.new.self c.in-Some.daughter.0 c.requires.plane c.requires.incoming.must

@@ -2,7 +2,6 @@ use Rattle.std.proofs.Common.{◌≡◌, ◌∙◌, ℕ, ◌∷◌, List, ap, re
 use Rattle.xdg_facts.specs.Rises.{has}
 use Rattle.xdg_rules.specs.Rules.{OnlyMother, may_edges}
 use Rattle.xdg_propcore.specs.Passes.{Clears}
-use Rattle.xdg_pgraph.specs.Planes.{IsPlane}
 use Rattle.xdg_pgraph.specs.Seeking.{Only}
 use Rattle.xdg_facts.proofs.Rising.{head_in, tail_in}
 use Rattle.xdg_pgraph.proofs.Ruled.{outside_end}
@@ -20,12 +19,6 @@ loop-daughter-init c =
       refl,
       c.requires.known,
     )
-
-pub force_entering-requires-clause-plane : goal.force_entering-requires-clause-plane
-force_entering-requires-clause-plane c = subst (λ z. IsPlane z c.args.plane.now) (sym c.loop-daughter.invariant.4) c.requires.plane
-
-pub force_entering-requires-clause-known : goal.force_entering-requires-clause-known
-force_entering-requires-clause-known c = c.loop-daughter.invariant.5
 
 pub force_entering-requires-clause-daughter : goal.force_entering-requires-clause-daughter
 force_entering-requires-clause-daughter c =

@@ -6,16 +6,12 @@ use Rattle.xdg_problem.specs.declared.parts.Parts.{Parts}
 use Rattle.xdg_rules.specs.Rules.{IsGreatest, IsLeast}
 use Rattle.xdg_pgraph.specs.Allowances.{HasClasses}
 use Rattle.xdg_pgraph.specs.Bundles.{edge_to, numbers_of}
-use Rattle.xdg_pgraph.specs.Planes.{IsPlane}
 use Rattle.xdg_graph.specs.declared.which.Which.TheVariants as whichs
 use Rattle.xdg_pgraph.proofs.Bundled.{bundle_swept}
 use Rattle.xdg_pgraph.proofs.Clearing.{none_barred, wanted_nowhere}
 use Rattle.xdg_pgraph.proofs.Ends.{which_counted}
 use Rattle.xdg_pgraph.proofs.OpenEdges.{open_place, edges_clear}
 use Rattle.xdg_pgraph.proofs.valency.take_bundle.Goals as goal
-
-pub said_of-said-requires-clause-node : goal.said_of-said-requires-clause-node
-said_of-said-requires-clause-node c = (let l = c.requires.node in let n = c.requires.plane.nodes_is in omega (arith, l, n))
 
 pub said_of-said-requires-clause-classes : goal.said_of-said-requires-clause-classes
 said_of-said-requires-clause-classes c = c.classes-classes.ensures c.args.store.now.parts c.args.group.now c.requires.fits
@@ -28,9 +24,6 @@ said_of-said-requires-clause-few c = (
 
 pub take_open_if-requires-clause-places : goal.take_open_if-requires-clause-places
 take_open_if-requires-clause-places c = open_place c.args.bundle c.args.store.now c.args.group.now c.args.plane.now.dim.0 c.requires.dim c.of-far.result.must c.of-far.result.may c.minus-open.result c.of-far.ensures.must c.of-far.ensures.may c.minus-open.ensures.members
-
-pub take_open_if-requires-2-clause-plane : goal.take_open_if-requires-2-clause-plane
-take_open_if-requires-2-clause-plane c = subst (λ (parts : Parts). IsPlane parts c.args.plane.now) (sym c.take_open_if.ensures.clears.same) c.requires.plane
 
 pub take_open_if-requires-2-clause-places : goal.take_open_if-requires-2-clause-places
 take_open_if-requires-2-clause-places c other is = subst (λ (parts : Parts). IsPlace parts (edge_to c.args.bundle.way c.args.plane.now.dim.0 c.args.bundle.node c.args.bundle.label other)) (sym c.take_open_if.ensures.clears.same) (open_place c.args.bundle c.args.store.now c.args.group.now c.args.plane.now.dim.0 c.requires.dim c.of-far.result.must c.of-far.result.may c.minus-open.result c.of-far.ensures.must c.of-far.ensures.may c.minus-open.ensures.members other is)

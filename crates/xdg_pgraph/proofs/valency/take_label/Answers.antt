@@ -1,9 +1,6 @@
-use Rattle.std.proofs.Common.{sym, subst}
-use Rattle.xdg_problem.specs.declared.parts.Parts.{Parts}
 use Rattle.xdg_propcore.proofs.Sweeping.{sweeps_next}
 use Rattle.xdg_propcore.proofs.Turns.{quiet_later}
 use Rattle.xdg_pgraph.specs.declared.bundle.Way.TheVariants as ways
-use Rattle.xdg_pgraph.specs.Allowances.{AreAllowances}
 use Rattle.xdg_pgraph.specs.Bundles.{IsLabelDone, IsWayDone}
 use Rattle.xdg_pgraph.specs.Untouched.{AreOthersDone}
 use Rattle.xdg_pgraph.proofs.valency.take_label.Goals as goal
@@ -13,6 +10,3 @@ returns c = sweeps_next c.args.group.now (IsWayDone ways.Out c.args.store.now.pa
 
 pub take_way-requires-2-clause-others : goal.take_way-requires-2-clause-others
 take_way-requires-2-clause-others c = quiet_later c.args.group.now (λ parts box. AreOthersDone c.args.touched.now parts c.args.group.now box) (IsWayDone ways.Out c.args.store.now.parts c.args.group.now c.args.label) c.args.pass.now c.args.store.now c.take_way.new.pass c.take_way.new.store c.requires.others c.take_way.ensures
-
-pub take_way-requires-2-clause-fits : goal.take_way-requires-2-clause-fits
-take_way-requires-2-clause-fits c = subst (λ (parts : Parts). AreAllowances parts c.args.group.now c.args.allowances.now) (sym c.take_way.ensures.goes.extends.same) c.requires.fits

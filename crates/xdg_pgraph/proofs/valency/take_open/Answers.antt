@@ -30,6 +30,3 @@ loop-other-preserved c = (
 pub returns-clause-clears : goal.returns-clause-clears
 returns-clause-clears c = opened_all c.args.store.now.parts c.args.plane.now.dim.0 c.args.bundle c.args.others (cond c.args.present 0 1) c.args.pass.now c.loop-other.pass c.args.store.now c.loop-other.store
     (passed_all (OpenAt c.args.plane.now.dim.0 c.args.bundle (cond c.args.present 0 1)) c.args.others c.iter-other-items.result c.into_iter-other-iterator.result c.loop-other.other-iterator c.args.pass.now c.loop-other.pass c.args.store.now c.loop-other.store c.iter-other-items.ensures.value c.into_iter-other-iterator.ensures.into_iter_gives c.in-None.ensures.steps.0 c.loop-other.invariant.2)
-
-pub returns-clause-known : goal.returns-clause-known
-returns-clause-known c = c.loop-other.invariant.3

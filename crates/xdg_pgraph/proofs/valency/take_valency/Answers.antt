@@ -1,7 +1,4 @@
-use Rattle.std.proofs.Common.{sym, subst}
-use Rattle.xdg_problem.specs.declared.parts.Parts.{Parts}
 use Rattle.xdg_propcore.proofs.Turns.{below_next, quiet_later}
-use Rattle.xdg_pgraph.specs.Allowances.{AreAllowances}
 use Rattle.xdg_pgraph.specs.Bundles.{IsLabelDone, AreLabelsDone}
 use Rattle.xdg_pgraph.specs.Untouched.{AreOthersDone}
 use Rattle.xdg_pgraph.proofs.valency.take_valency.Goals as goal
@@ -11,6 +8,3 @@ loop-label-preserved c = below_next c.args.group.now (λ parts label. IsLabelDon
 
 pub take_label-requires-clause-others : goal.take_label-requires-clause-others
 take_label-requires-clause-others c = quiet_later c.args.group.now (λ parts box. AreOthersDone c.args.touched.now parts c.args.group.now box) (AreLabelsDone c.loop-label.label c.args.store.now.parts c.args.group.now) c.args.pass.now c.args.store.now c.loop-label.pass c.loop-label.store c.requires.others c.loop-label.invariant
-
-pub take_label-requires-clause-fits : goal.take_label-requires-clause-fits
-take_label-requires-clause-fits c = subst (λ (parts : Parts). AreAllowances parts c.args.group.now c.args.allowances.now) (sym c.loop-label.invariant.goes.extends.same) c.requires.fits

@@ -1,11 +1,8 @@
 use Rattle.std.proofs.Common.{◌≡◌, ◌<◌, ◌∙◌, true, arith, subst, sym}
 use Rattle.xdg_problem.specs.Arguments.{label_count}
-use Rattle.xdg_problem.specs.declared.parts.Parts.{Parts}
 use Rattle.xdg_facts.proofs.Rising.{head_in, tail_in}
 use Rattle.xdg_propcore.proofs.Sweeping.{group_stays}
 use Rattle.xdg_propcore.proofs.Turns.{turns_next, turns_start}
-use Rattle.xdg_pgraph.specs.Allowances.{AreAllowances}
-use Rattle.xdg_pgraph.specs.Planes.{IsPlane}
 use Rattle.xdg_pgraph.specs.Bundles.{IsBundleDone}
 use Rattle.xdg_pgraph.proofs.Others.{few_labels, nodes_swept}
 use Rattle.xdg_pgraph.proofs.valency.take_way.Goals as goal
@@ -17,17 +14,8 @@ touched_nodes-nodes-requires c = few_labels c.args.store.now.parts c.args.plane.
 pub loop-node-init : goal.loop-node-init
 loop-node-init c = (tt, tt, (λ v h. h), turns_start c.args.group.now (λ parts v. IsBundleDone c.args.way parts c.args.group.now v c.args.label) c.into_iter-node-iterator.result c.args.pass.now c.args.store.now c.requires.known)
 
-pub take_bundle-requires-clause-plane : goal.take_bundle-requires-clause-plane
-take_bundle-requires-clause-plane c = subst (λ (parts : Parts). IsPlane parts c.args.plane.now) (sym c.loop-node.invariant.3.goes.extends.same) c.requires.plane
-
-pub take_bundle-requires-clause-known : goal.take_bundle-requires-clause-known
-take_bundle-requires-clause-known c = c.loop-node.invariant.3.known
-
 pub take_bundle-requires-clause-group : goal.take_bundle-requires-clause-group
 take_bundle-requires-clause-group c = group_stays c.args.group.now c.args.pass.now c.args.store.now c.loop-node.pass c.loop-node.store c.loop-node.invariant.3.goes c.loop-node.invariant.3.known c.requires.group
-
-pub take_bundle-requires-clause-fits : goal.take_bundle-requires-clause-fits
-take_bundle-requires-clause-fits c = subst (λ (parts : Parts). AreAllowances parts c.args.group.now c.args.allowances.now) (sym c.loop-node.invariant.3.goes.extends.same) c.requires.fits
 
 pub take_bundle-requires-clause-node : goal.take_bundle-requires-clause-node
 take_bundle-requires-clause-node c =
@@ -35,9 +23,6 @@ take_bundle-requires-clause-node c =
     let within = ((c.touched_nodes-nodes.ensures c.in-Some.node.0).0 (subst (λ s. has s c.in-Some.node.0 ≡ true) (c.into_iter-node-iterator.ensures.into_iter_gives ∙ c.iter-node-items.ensures.value) member)).0 in
     let n = c.requires.plane.nodes_is in
     omega (arith, within, n)
-
-pub take_bundle-requires-clause-label : goal.take_bundle-requires-clause-label
-take_bundle-requires-clause-label c = subst (λ (parts : Parts). c.args.label < label_count parts c.args.plane.now.dim.0) (sym c.loop-node.invariant.3.goes.extends.same) c.requires.label
 
 pub loop-node-preserved : goal.loop-node-preserved
 loop-node-preserved c = (
