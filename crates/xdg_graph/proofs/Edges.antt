@@ -10,6 +10,7 @@ use Rattle.xdg_problem.specs.Boxes.{IsBox}
 use Rattle.xdg_problem.specs.Paths.{IsDaughter, IsDaughterBy}
 use Rattle.xdg_problem.specs.Places.{edge, nodes}
 use Rattle.xdg_problem.specs.Vectors.{shape}
+use Rattle.xdg_problem.proofs.Edges.{edge_equal}
 use Rattle.xdg_problem.proofs.Looking.{any_of}
 use Rattle.xdg_problem.proofs.PlaceOrder.{is_place, place_is}
 use Rattle.xdg_rules.specs.Rules.{IsPlaceOn}
@@ -19,13 +20,6 @@ use Rattle.xdg_graph.specs.declared.which.Which.TheVariants as whichs
 use Rattle.xdg_graph.specs.Edges.{Stands, edges_of, edge_labels}
 use Rattle.xdg_graph.proofs.Labelled.{label_below, place_between}
 use Rattle.xdg_facts.specs.Rises.{has}
-
-pub edge_at : (e : Edge) (dim u l x : ℕ) → e.dim.0 ≡ dim → e.mother.0 ≡ u → e.label.0 ≡ l → e.daughter.0 ≡ x → e ≡ edge dim u l x
-edge_at e dim u l x a b c d =
-    ap (λ k. edge k e.mother.0 e.label.0 e.daughter.0) a
-    ∙ ap (λ k. edge dim k e.label.0 e.daughter.0) b
-    ∙ ap (λ k. edge dim u k e.daughter.0) c
-    ∙ ap (λ k. edge dim u l k) d
 
 -- they are the places of the dimension that may be, or must be
 pub which_exact : (which : Which) (parts : Parts) (box : List (List Bool)) (dim : ℕ) (e : Edge) → IsBox (shape parts) box → Contains (edges_of which parts box dim) e ↔ (IsPlaceOn parts dim e × Stands which parts box e)
@@ -37,7 +31,7 @@ pub stands_by : (which : Which) (parts : Parts) (box : List (List Bool)) (dim u 
 stands_by which parts box dim u l x box_is = (
   λ (k, e, within, at, (m, b, d)).
       let stands = (which_exact which parts box dim e box_is).0 (k, within, at) in
-      let same = edge_at e dim u l x stands.0.1 m b d in
+      let same = edge_equal e (edge dim u l x) stands.0.1 m b d in
       (subst (IsPlace parts) same (is_place parts e stands.0.0), subst (Stands which parts box) same stands.1),
   λ (is, stands). any_of (λ e. (e.mother.0 ≡ u) × (e.label.0 ≡ l) × (e.daughter.0 ≡ x)) (edges_of which parts box dim) (edge dim u l x)
       ((which_exact which parts box dim (edge dim u l x) box_is).1 ((place_is parts (edge dim u l x) is, refl), stands)) (refl, refl, refl),

@@ -21,7 +21,7 @@ use Rattle.xdg_plink.specs.Untouched.{AreNear, AreOthersDone, AreOthersDoneAt, A
 use Rattle.xdg_plink.specs.declared.near.Near.{Near}
 use Rattle.xdg_plink.proofs.Present.{takes_present}
 use Rattle.xdg_facts.specs.Rises.{has}
-use Rattle.xdg_graph.proofs.Edges.{edge_at}
+use Rattle.xdg_problem.proofs.Edges.{edge_equal}
 
 -- ---- a set without nodes
 
@@ -46,7 +46,7 @@ module _ (near : Near) (parts : Parts) (group : Group) (box : List (List Bool)) 
   done_at_others is others e on mother label_is out d x remains takes =
       let place = is_place parts e on.0 in
       let may = takes_present parts group box e group.principle linking d x remains takes in
-      let same = edge_at e dim u label e.daughter.0 (on.1 ∙ sym dim_is) mother label_is refl in
+      let same = edge_equal e (edge dim u label e.daughter.0) (on.1 ∙ sym dim_is) mother label_is refl in
       others e on (subst (λ i. IsFree near i e.daughter.0) (sym mother) (is.others e.daughter.0 place.daughter (λ q. place.differ (mother ∙ q)) (subst (May parts box) same may) out)) d x remains takes
 
 -- where there is none nothing is left at the label

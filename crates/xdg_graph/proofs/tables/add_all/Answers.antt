@@ -11,13 +11,13 @@ loop-mother-init c = (
 )
 
 pub add-requires-clause-from : goal.add-requires-clause-from
-add-requires-clause-from c = ahead_small c.into_iter-mother-iterator.result c.loop-mother.mother-iterator c.next.new.self c.in-Some.mother.0 c.in-Some.ensures.steps c.loop-mother.invariant.2
+add-requires-clause-from c = ahead_small c.loop-mother.mother-iterator c.next.new.self c.in-Some.mother.0 c.in-Some.ensures.steps c.loop-mother.invariant.2
 
 pub loop-mother-preserved : goal.loop-mother-preserved
 loop-mother-preserved c = (
   tt,
   tt,
-  ahead_next c.into_iter-mother-iterator.result c.loop-mother.mother-iterator c.next.new.self c.in-Some.mother.0 c.in-Some.ensures.steps c.loop-mother.invariant.2,
+  ahead_next c.loop-mother.mother-iterator c.next.new.self c.in-Some.mother.0 c.in-Some.ensures.steps c.loop-mother.invariant.2,
   adds_next c.args.mothers c.loop-mother.mother-iterator c.next.new.self c.in-Some.mother.0 c.args.daughter.0 c.args.table.now c.loop-mother.table c.add.new.table c.in-Some.ensures.steps c.add.ensures c.loop-mother.invariant.3,
 )
 
