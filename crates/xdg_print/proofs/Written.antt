@@ -1,5 +1,5 @@
 -- The words of trees, written one after the other.
-use Rattle.std.proofs.Common.{◌≡◌, List, [], ◌∷◌, flat_map, ap, sym, ◌∙◌}
+use Rattle.std.proofs.Common.{◌≡◌, List, [], ◌∷◌, ◌++◌, flat_map, ap, sym, refl, ◌∙◌}
 use Rattle.xdg_ast.specs.declared.token.Kind.{Kind}
 use Rattle.xdg_ast.specs.declared.token.Kind.TheVariants as k
 use Rattle.xdg_ast.specs.declared.names.Name.{Name}
@@ -30,30 +30,23 @@ put_square_brackets words p = put_append words (mark k.RightBracket ∷ []) (put
 pub keyed : (key : Name) (words : List Word) (p named coloned q : Printer) → named ≡ put (name_word key ∷ []) p → coloned ≡ put_mark k.Colon named → q ≡ put words coloned → q ≡ put (name_word key ∷ mark k.Colon ∷ words) p
 keyed key words p named coloned q one two three = three ∙ ap (put words) (two ∙ ap (put_mark k.Colon) one)
 
--- a bracket, the words of items and a bracket were added
-pub enclosed : {X : Type 0} (opening closing : Kind) (f : X → List Word) (items given : List X) (p opened q : Printer) → items ≡ given → opened ≡ put_mark opening p → q ≡ put (flat_map f items) opened
-    → put_mark closing q ≡ put_mark closing (put (flat_map f given) (put_mark opening p))
-enclosed opening closing f items given p opened q same one two = ap (put_mark closing) (two ∙ ap (put (flat_map f items)) one ∙ ap (λ z. put (flat_map f z) (put_mark opening p)) same)
+-- an opening bracket, the words of what was given and a closing bracket were added, which are the words of the whole
+pub enclosed : {A B : Type 0} (opening closing : Kind) (whole : A → List Word) (inner : B → List Word) (given form : A) (parts items : B) (p opened q : Printer) → whole form ≡ mark opening ∷ (inner parts ++ mark closing ∷ [])
+    → given ≡ form → items ≡ parts → opened ≡ put_mark opening p → q ≡ put (inner items) opened → put_mark closing q ≡ put (whole given) p
+enclosed opening closing whole inner given form parts items p opened q said is same one two =
+    ap (put_mark closing) (two ∙ ap (put (inner items)) one ∙ ap (λ z. put (inner z) (put_mark opening p)) same)
+    ∙ sym (ap (λ z. put (whole z) p) is ∙ ap (λ z. put z p) said ∙ put_append (inner parts) (mark closing ∷ []) (put_mark opening p))
 
 -- ---- types
 
 abbrev pub field_words : Pair (Spanned TypeKind) → List Word
 field_words = pair_words (λ type. type_words type.kind)
 
-pub put_rec : (pairs : List (Pair (Spanned TypeKind))) (p : Printer) → put (type_words (y.Rec pairs)) p ≡ put_mark k.RightBrace (put (flat_map field_words pairs) (put_mark k.LeftBrace p))
-put_rec pairs p = ap (λ z. put z p) (type_words-Rec pairs) ∙ put_braces (flat_map field_words pairs) p
-
-pub put_tuple : (types : List (Spanned TypeKind)) (p : Printer) → put (type_words (y.Tuple types)) p ≡ put_mark k.RightParenthesis (put (flat_map (λ type. type_words type.kind) types) (put_mark k.LeftParenthesis (put_mark k.Tuple p)))
-put_tuple types p = ap (λ z. put z p) (type_words-Tuple types) ∙ put_parentheses (flat_map (λ type. type_words type.kind) types) (put_mark k.Tuple p)
-
-pub rec_done : (given : TypeKind) (pairs items : List (Pair (Spanned TypeKind))) (p opened q : Printer) → given ≡ y.Rec pairs → items ≡ pairs → opened ≡ put_mark k.LeftBrace p → q ≡ put (flat_map field_words items) opened → put_mark k.RightBrace q ≡ put (type_words given) p
-rec_done given pairs items p opened q is same one two =
-    enclosed k.LeftBrace k.RightBrace field_words items pairs p opened q same one two ∙ sym (ap (λ z. put (type_words z) p) is ∙ put_rec pairs p)
-
 pub tuple_done : (given : TypeKind) (types items : List (Spanned TypeKind)) (p opened q : Printer) → given ≡ y.Tuple types → items ≡ types → opened ≡ put_mark k.LeftParenthesis (put_mark k.Tuple p) → q ≡ put (flat_map (λ type. type_words type.kind) items) opened
     → put_mark k.RightParenthesis q ≡ put (type_words given) p
 tuple_done given types items p opened q is same one two =
-    enclosed k.LeftParenthesis k.RightParenthesis (λ type. type_words type.kind) items types (put_mark k.Tuple p) opened q same one two ∙ sym (ap (λ z. put (type_words z) p) is ∙ put_tuple types p)
+    enclosed k.LeftParenthesis k.RightParenthesis in_parentheses (flat_map (λ (type : Spanned TypeKind). type_words type.kind)) _ _ types items (put_mark k.Tuple p) opened q refl refl same one two
+    ∙ sym (ap (λ z. put (type_words z) p) is ∙ ap (λ z. put z p) (type_words-Tuple types))
 
 -- the words of each form of a type
 pub ruleset type_steps = (type_words-Empty, type_words-Domain, type_words-Set, type_words-ISet, type_words-Valency, type_words-Map, type_words-Card, type_words-Bool, type_words-Int, type_words-Str, type_words-Named, put_append)

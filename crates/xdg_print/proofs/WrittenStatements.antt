@@ -33,12 +33,6 @@ put_principle_some dims args p =
     put_append (in_braces (name_pairs_words dims)) (mark k.Args ∷ terms_words [] args) (put_mark k.Dims p)
     ∙ ap (λ z. put (terms_words [] args) (put_mark k.Args z)) (put_braces (name_pairs_words dims) (put_mark k.Dims p))
 
--- ---- classes
-
-pub body_done : (params : Params) (body : Spanned ExprKind) (p opened q : Printer) → opened ≡ put_mark k.LeftBrace p → q ≡ put (expr_phrase params body.kind).words opened → put_mark k.RightBrace q ≡ put (body_words params body) p
-body_done params body p opened q one two =
-    ap (put_mark k.RightBrace) (two ∙ ap (put (expr_phrase params body.kind).words) one) ∙ sym (put_braces (expr_phrase params body.kind).words p)
-
 -- ---- statements
 
 pub put_use_dim : (name : Name) (p : Printer) → put_lines (statement_lines (s.UseDim name)) p ≡ ended (put (mark k.UseDim ∷ name_word name ∷ []) (begun [] p))

@@ -148,6 +148,7 @@ impl Printer {
     }
 
     /// Adds the body of a class with these parameters.
+    #[tactic(auto, using(crate::proofs::Put::put_append))]
     fn body(&mut self, params: &Params, body: &Expr) -> Result<(), OutOfMemory>
         ensures { OnOk result (self.new ≡ put (body_words params.now body.now) self.old) }
     {

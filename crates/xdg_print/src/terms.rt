@@ -1,11 +1,11 @@
 //! Terms and their parts.
 
 ghost use Rattle.std.specs.Prelude.{◌≡◌, OnOk};
-ghost use Rattle.xdg_ast.specs.Trees.{card_words, gen_phrase, term_words, elem_words, terms_words};
+ghost use Rattle.xdg_ast.specs.Trees.{in_square_brackets, names_words, card_words, gen_phrase, term_words, elem_words, terms_words};
 ghost use Rattle.xdg_print.specs.Printed.{put, is_joined, is_disjoined};
 
 use crate::printer::Printer;
-use xdg_ast::{CardKind, ElemKind, GenKind, Kind, Pair, Params, Term, TermKind};
+use xdg_ast::{CardKind, ElemKind, GenKind, Kind, Name, Pair, Params, Term, TermKind};
 use xdg_base::OutOfMemory;
 
 /// Whether a generator stands in brackets in a conjunction.
@@ -89,6 +89,16 @@ impl Printer {
         }
     }
 
+    /// Adds names in square brackets.
+    #[tactic(auto, using(crate::proofs::Put::put_append))]
+    fn names_in_brackets(&mut self, names: &[Name]) -> Result<(), OutOfMemory>
+        ensures { OnOk result (self.new ≡ put (in_square_brackets (names_words names.now)) self.old) }
+    {
+        self.mark(Kind::LeftBracket)?;
+        self.names(names)?;
+        self.mark(Kind::RightBracket)
+    }
+
     /// Adds a term in the body of a class with these parameters.
     #[cycle(term)]
     #[tactic(auto, using(crate::proofs::WrittenTerms::term_steps))]
@@ -107,11 +117,7 @@ impl Printer {
                 }
                 self.mark(Kind::RightBrace)
             }
-            TermKind::Tuple(names) => {
-                self.mark(Kind::LeftBracket)?;
-                self.names(names.as_slice())?;
-                self.mark(Kind::RightBracket)
-            }
+            TermKind::Tuple(names) => self.names_in_brackets(names.as_slice()),
             TermKind::Gen(generator) => {
                 self.mark(Kind::Dollar)?;
                 self.generator(&generator.kind)
@@ -136,11 +142,7 @@ impl Printer {
                 self.term(params, &term.get().kind)
             }
             ElemKind::Const(name) => self.name(name),
-            ElemKind::Tuple(names) => {
-                self.mark(Kind::LeftBracket)?;
-                self.names(names.as_slice())?;
-                self.mark(Kind::RightBracket)
-            }
+            ElemKind::Tuple(names) => self.names_in_brackets(names.as_slice()),
         }
     }
 

@@ -1,8 +1,10 @@
-use Rattle.std.proofs.Common.{arith}
+use Rattle.std.proofs.Common.{ap, arith}
 use Rattle.xdg_ast.specs.declared.token.Kind.TheVariants as k
-use Rattle.xdg_ast.specs.Trees.{gen_phrase}
+use Rattle.xdg_ast.specs.Trees.{Phrase, in_conjunction, in_disjunction, gen_phrase}
+use Rattle.xdg_ast.specs.Grammar.{Gen}
+use Rattle.xdg_print.proofs.AgainTrees.{gen_phrase-And, gen_phrase-Or}
 use Rattle.xdg_print.proofs.Put.{next_member, all_members, by_joined, by_disjoined}
-use Rattle.xdg_print.proofs.WrittenTerms.{joined_gen, disjoined_gen, gen_and_done, gen_or_done}
+use Rattle.xdg_print.proofs.WrittenTerms.{joined_gen, disjoined_gen, members_done}
 use Rattle.xdg_print.proofs.printer.Printer.+generator.Goals as goal
 
 pub loop-member-preserved : goal.loop-member-preserved
@@ -18,9 +20,11 @@ loop-member-2-preserved t c =
 pub returns-after-loop-member : goal.returns-after-loop-member
 returns-after-loop-member t c =
     let all = all_members c.loop-member.self k.Ampersand c.loop-member.first joined_gen c.as_slice-member-items.result.now c.loop-member.member-index (omega (arith, c.loop-member-test.false)) c.loop-member.invariant in
-    gen_and_done c.args.generator.now c.in-And.members c.as_slice-member-items.result.now c.args.self.now c.loop-member.self c.in-And.is c.as_slice-member-items.ensures all
+    members_done k.Ampersand in_conjunction gen_phrase (λ (member : Gen). gen_phrase member.kind) c.args.generator.now _ c.in-And.members c.as_slice-member-items.result.now c.args.self.now c.loop-member.self
+    (ap (λ (ph : Phrase). ph.words) (gen_phrase-And c.in-And.members)) c.in-And.is c.as_slice-member-items.ensures all
 
 pub returns-after-loop-member-2 : goal.returns-after-loop-member-2
 returns-after-loop-member-2 t c =
     let all = all_members c.loop-member-2.self k.Bar c.loop-member-2.first disjoined_gen c.as_slice-member-items-in-Or.result.now c.loop-member-2.member-index (omega (arith, c.loop-member-2-test.false)) c.loop-member-2.invariant in
-    gen_or_done c.args.generator.now c.in-Or.members c.as_slice-member-items-in-Or.result.now c.args.self.now c.loop-member-2.self c.in-Or.is c.as_slice-member-items-in-Or.ensures all
+    members_done k.Bar in_disjunction gen_phrase (λ (member : Gen). gen_phrase member.kind) c.args.generator.now _ c.in-Or.members c.as_slice-member-items-in-Or.result.now c.args.self.now c.loop-member-2.self
+    (ap (λ (ph : Phrase). ph.words) (gen_phrase-Or c.in-Or.members)) c.in-Or.is c.as_slice-member-items-in-Or.ensures all

@@ -1,17 +1,11 @@
-use Rattle.std.proofs.Common.{arith}
+use Rattle.std.proofs.Common.{arith, flat_map}
+use Rattle.xdg_ast.specs.declared.token.Kind.TheVariants as k
+use Rattle.xdg_ast.specs.Trees.{term_words}
 use Rattle.xdg_print.proofs.Put.{next_of, all_of, finish}
-use Rattle.xdg_print.proofs.WrittenTerms.{part_of, term_braces_done, term_tuple_done, elem_tuple_done}
+use Rattle.xdg_print.proofs.AgainTrees.{term_words-Braces}
+use Rattle.xdg_print.proofs.Written.{enclosed}
+use Rattle.xdg_print.proofs.WrittenTerms.{part_of}
 use Rattle.xdg_print.proofs.printer.Printer.+term.Goals as goal
-
-pub term-returns-in_ok-names-in-Tuple : goal.term-returns-in_ok-names-in-Tuple
-term-returns-in_ok-names-in-Tuple t c =
-    let same = term_tuple_done c.args.params.now c.args.term.now c.in-Tuple.names c.as_slice.result.now c.args.self.now c.mark-in-Tuple.new.self c.names.new.self c.in-Tuple.is c.as_slice.ensures c.in_ok-mark-in-Tuple.ensures c.in_ok-names-in-Tuple.ensures in
-    finish c.mark-in-Tuple-2.result c.mark-in-Tuple-2.new.self same c.mark-in-Tuple-2.ensures
-
-pub elem-returns-in_ok-names-in-Tuple : goal.elem-returns-in_ok-names-in-Tuple
-elem-returns-in_ok-names-in-Tuple t c =
-    let same = elem_tuple_done c.args.params.now c.args.elem.now c.in-Tuple.names c.as_slice.result.now c.args.self.now c.mark-in-Tuple.new.self c.names.new.self c.in-Tuple.is c.as_slice.ensures c.in_ok-mark-in-Tuple.ensures c.in_ok-names-in-Tuple.ensures in
-    finish c.mark-in-Tuple-2.result c.mark-in-Tuple-2.new.self same c.mark-in-Tuple-2.ensures
 
 pub term-loop-elem-preserved : goal.term-loop-elem-preserved
 term-loop-elem-preserved t c =
@@ -20,5 +14,6 @@ term-loop-elem-preserved t c =
 pub term-returns-after-loop-elem : goal.term-returns-after-loop-elem
 term-returns-after-loop-elem t c =
     let all = all_of c.loop-elem.self (part_of c.args.params.now) c.as_slice-elem-items.result.now c.loop-elem.elem-index (omega (arith, c.loop-elem-test.false)) c.loop-elem.invariant in
-    let same = term_braces_done c.args.params.now c.args.term.now c.in-Braces.elems c.as_slice-elem-items.result.now c.args.self.now c.mark.new.self c.loop-elem.self c.in-Braces.is c.as_slice-elem-items.ensures c.in_ok-mark-in-Braces.ensures all in
+    let same = enclosed k.LeftBrace k.RightBrace (term_words c.args.params.now) (flat_map (part_of c.args.params.now)) c.args.term.now _ c.in-Braces.elems c.as_slice-elem-items.result.now c.args.self.now c.mark.new.self c.loop-elem.self
+    (term_words-Braces c.args.params.now c.in-Braces.elems) c.in-Braces.is c.as_slice-elem-items.ensures c.in_ok-mark-in-Braces.ensures all in
     finish c.mark-in-Braces.result c.mark-in-Braces.new.self same c.mark-in-Braces.ensures

@@ -1,9 +1,11 @@
-use Rattle.std.proofs.Common.{arith}
+use Rattle.std.proofs.Common.{arith, flat_map}
+use Rattle.xdg_ast.specs.declared.token.Kind.TheVariants as k
 use Rattle.xdg_ast.specs.declared.names.Spanned.{Spanned}
 use Rattle.xdg_ast.specs.declared.types.TypeKind.{TypeKind}
 use Rattle.xdg_ast.specs.Trees.{type_words}
 use Rattle.xdg_print.proofs.Put.{next_of, all_of, finish}
-use Rattle.xdg_print.proofs.Written.{field_words, keyed, rec_done, tuple_done}
+use Rattle.xdg_print.proofs.Written.{field_words, keyed, enclosed, tuple_done}
+use Rattle.xdg_print.proofs.AgainTrees.{type_words-Rec}
 use Rattle.xdg_print.proofs.printer.Printer.+types.Goals as goal
 
 pub type_term-loop-pair-preserved : goal.type_term-loop-pair-preserved
@@ -18,7 +20,8 @@ type_term-loop-field-preserved t c =
 pub type_term-returns-after-loop-pair : goal.type_term-returns-after-loop-pair
 type_term-returns-after-loop-pair t c =
     let all = all_of c.loop-pair.self field_words c.as_slice-pair-items.result.now c.loop-pair.pair-index (omega (arith, c.loop-pair-test.false)) c.loop-pair.invariant in
-    finish c.mark-in-Rec.result c.mark-in-Rec.new.self (rec_done c.args.given.now c.in-Rec.pairs c.as_slice-pair-items.result.now c.args.self.now c.mark.new.self c.loop-pair.self c.in-Rec.is c.as_slice-pair-items.ensures c.in_ok-mark-in-Rec.ensures all) c.mark-in-Rec.ensures
+    finish c.mark-in-Rec.result c.mark-in-Rec.new.self (enclosed k.LeftBrace k.RightBrace type_words (flat_map field_words) c.args.given.now _ c.in-Rec.pairs c.as_slice-pair-items.result.now c.args.self.now c.mark.new.self c.loop-pair.self
+    (type_words-Rec c.in-Rec.pairs) c.in-Rec.is c.as_slice-pair-items.ensures c.in_ok-mark-in-Rec.ensures all) c.mark-in-Rec.ensures
 
 pub type_term-returns-after-loop-field : goal.type_term-returns-after-loop-field
 type_term-returns-after-loop-field t c =
