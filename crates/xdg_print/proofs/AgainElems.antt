@@ -15,7 +15,7 @@ use Rattle.xdg_base.specs.Spelling.{is_name}
 use Rattle.xdg_ast.specs.Words.{Word, word_of, mark, quoted, constant, IsShortText, IsSpellable}
 use Rattle.xdg_ast.specs.Trees.{name_word, card_words, constant_in, term_words, elem_words}
 use Rattle.xdg_ast.specs.Same.{nowhere, bare_part, bare_name, bare_card, bare_elem, bare_term, bare_terms}
-use Rattle.xdg_print.proofs.AgainTrees.{term_words-Const, term_words-Param, term_words-Number, term_words-Card, term_words-Braces, term_words-Tuple, term_words-Gen, elem_words-Count, elem_words-Keyed, elem_words-Const, elem_words-Tuple, bare_term-Const, bare_term-Param, bare_term-Card, bare_term-Tuple, bare_term-Gen, bare_elem-Count, bare_elem-Keyed, bare_elem-Const, bare_elem-Tuple}
+use Rattle.xdg_print.proofs.AgainTrees.{term_words-Const, term_words-Param, term_words-Number, term_words-Card, term_words-Braces, term_words-Tuple, term_words-Gen, elem_words-Count, elem_words-Keyed, elem_words-Const, elem_words-Tuple, bare_elem_of, bare_term_of}
 use Rattle.xdg_print.proofs.AgainWritten.{Written, written_in, token_written, nothing_written, both_written, made_written, Gives, token_gives, nothing_gives, made_gives, both_gives, either_gives}
 use Rattle.xdg_print.proofs.AgainNames.{Like, Kept, Keeps, constant_kind, constant_says, short_text, name_text, constant_spellable, name_gives, name_written, same_text, small_value, number_written, many_keeps, keyed_keeps}
 use Rattle.xdg_print.proofs.AgainKept.{kept_by, behind_keeps, either_keeps, made_keeps, spanned_keeps}
@@ -47,13 +47,13 @@ quoted_says text u h =
 module _ (params : Params) where
   const_like : (a b : Name) → a.text ≡ b.text → Like bare_term (term_words params) (t.Const a) (t.Const b)
   const_like a b h = record {
-    bare = bare_term-Const a ∙ (ap (λ text. t.Const (record { text = text; span = nowhere })) h ∙ sym (bare_term-Const b));
+    bare = bare_term_of _ (t.rolls-Const a) ∙ (ap (λ text. t.Const (record { text = text; span = nowhere })) h ∙ sym (bare_term_of _ (t.rolls-Const b)));
     words = term_words-Const params a ∙ (ap (λ text. constant_in params text ∷ []) h ∙ sym (term_words-Const params b));
   }
 
   param_like : (a b : Name) → a.text ≡ b.text → Like bare_term (term_words params) (t.Param a) (t.Param b)
   param_like a b h = record {
-    bare = bare_term-Param a ∙ (ap (λ text. t.Param (record { text = text; span = nowhere })) h ∙ sym (bare_term-Param b));
+    bare = bare_term_of _ (t.rolls-Param a) ∙ (ap (λ text. t.Param (record { text = text; span = nowhere })) h ∙ sym (bare_term_of _ (t.rolls-Param b)));
     words = term_words-Param params a ∙ (ap (λ text. constant text ∷ []) h ∙ sym (term_words-Param params b));
   }
 
@@ -112,10 +112,10 @@ module _ {params : Params} {m n : ℕ} (depth : Depth params m n) where
   unfolding term_kind inside
   term_kind_keeps = either_keeps (number_keeps (term_kind params (under params n)) (λ ts y h. inl h))
       (either_keeps (made_keeps t.Braces (braces_keep (λ j. j.elems) depth (λ m' n' l levels. levels.elems_is n' l)) bare_term_braces (term_words-Braces params) (λ ts y h. inr (inl h)))
-      (either_keeps (made_keeps t.Tuple (bracketed_keeps depth) bare_term-Tuple (term_words-Tuple params) (λ ts y h. inr (inr (inl h))))
-      (either_keeps (made_keeps t.Gen (behind_keeps k.Dollar (refl, refl) refl (gen_keeps depth)) bare_term-Gen (term_words-Gen params) (λ ts y h. inr (inr (inr (inl h)))))
+      (either_keeps (made_keeps t.Tuple (bracketed_keeps depth) (λ part. bare_term_of _ (t.rolls-Tuple part)) (term_words-Tuple params) (λ ts y h. inr (inr (inl h))))
+      (either_keeps (made_keeps t.Gen (behind_keeps k.Dollar (refl, refl) refl (gen_keeps depth)) (λ part. bare_term_of _ (t.rolls-Gen part)) (term_words-Gen params) (λ ts y h. inr (inr (inr (inl h)))))
       (either_keeps (named_keeps params (term_kind params (under params n)) (λ ts y h. inr (inr (inr (inr (inl h))))))
-      (made_keeps t.Card (card_keeps depth) bare_term-Card (term_words-Card params) (λ ts y h. inr (inr (inr (inr (inr h))))))))))
+      (made_keeps t.Card (card_keeps depth) (λ part. bare_term_of _ (t.rolls-Card part)) (term_words-Card params) (λ ts y h. inr (inr (inr (inr (inr h))))))))))
 
   pub term_keeps : Keeps (term params (under params m)) (term params (under params n)) (bare_part bare_term) (λ x. term_words params x.kind)
   unfolding term
@@ -135,19 +135,19 @@ module _ {params : Params} {m n : ℕ} (depth : Depth params m n) where
 
   keyed_like : (a b : Name) (x y : Spanned TermKind) → a.text ≡ b.text → Like (bare_part bare_term) (λ z. term_words params z.kind) x y → Like bare_elem (elem_words params) (e.Keyed a x) (e.Keyed b y)
   keyed_like a b x y h i = record {
-    bare = bare_elem-Keyed a x ∙ (ap (λ z. e.Keyed z (bare_part bare_term x)) (same_text a b h).bare ∙ (ap (λ z. e.Keyed (bare_name b) z) i.bare ∙ sym (bare_elem-Keyed b y)));
+    bare = bare_elem_of _ (e.rolls-Keyed a x) ∙ (ap (λ z. e.Keyed z (bare_part bare_term x)) (same_text a b h).bare ∙ (ap (λ z. e.Keyed (bare_name b) z) i.bare ∙ sym (bare_elem_of _ (e.rolls-Keyed b y))));
     words = elem_words-Keyed params a x ∙ (ap (λ text. constant text ∷ mark k.Colon ∷ term_words params x.kind) h ∙ (ap (λ ws. name_word b ∷ mark k.Colon ∷ ws) i.words ∙ sym (elem_words-Keyed params b y)));
   }
 
   count_like : (a b : Name) (x y : CardTerm) → a.text ≡ b.text → Like (bare_part bare_card) (λ z. card_words z.kind) x y → Like bare_elem (elem_words params) (e.Count a x) (e.Count b y)
   count_like a b x y h i = record {
-    bare = bare_elem-Count a x ∙ (ap (λ z. e.Count z (bare_part bare_card x)) (same_text a b h).bare ∙ (ap (λ z. e.Count (bare_name b) z) i.bare ∙ sym (bare_elem-Count b y)));
+    bare = bare_elem_of _ (e.rolls-Count a x) ∙ (ap (λ z. e.Count z (bare_part bare_card x)) (same_text a b h).bare ∙ (ap (λ z. e.Count (bare_name b) z) i.bare ∙ sym (bare_elem_of _ (e.rolls-Count b y))));
     words = elem_words-Count params a x ∙ (ap (λ text. constant text ∷ card_words x.kind) h ∙ (ap (λ ws. name_word b ∷ ws) i.words ∙ sym (elem_words-Count params b y)));
   }
 
   plain_like : (a b : Name) → a.text ≡ b.text → Like bare_elem (elem_words params) (e.Const a) (e.Const b)
   plain_like a b h = record {
-    bare = bare_elem-Const a ∙ (ap e.Const (same_text a b h).bare ∙ sym (bare_elem-Const b));
+    bare = bare_elem_of _ (e.rolls-Const a) ∙ (ap e.Const (same_text a b h).bare ∙ sym (bare_elem_of _ (e.rolls-Const b)));
     words = elem_words-Const params a ∙ (ap (λ text. constant text ∷ []) h ∙ sym (elem_words-Const params b));
   }
 
@@ -177,7 +177,7 @@ module _ {params : Params} {m n : ℕ} (depth : Depth params m n) where
 
   elem_kind_keeps : Keeps (elem_kind params (under params m)) (elem_kind params (under params n)) bare_elem (elem_words params)
   unfolding elem_kind
-  elem_kind_keeps = either_keeps (made_keeps e.Tuple (bracketed_keeps depth) bare_elem-Tuple (elem_words-Tuple params) (λ ts y h. inl h)) (record {
+  elem_kind_keeps = either_keeps (made_keeps e.Tuple (bracketed_keeps depth) (λ part. bare_elem_of _ (e.rolls-Tuple part)) (elem_words-Tuple params) (λ ts y h. inl h)) (record {
     all = both_gives name_gives tail_gives (λ a make s good. kept_by (both_written (name_written a s) good.read_again (λ b other h i. i b a h)) (good.words_are a) (λ ts y h. inr h));
   })
 

@@ -9,7 +9,7 @@ use Rattle.xdg_ast.specs.Grammar.{Params, Term, Expr, in_parentheses, inside, un
 use Rattle.xdg_ast.specs.Words.{Word, mark}
 use Rattle.xdg_ast.specs.Trees.{name_word, terms_words, args_words, expr_phrase, plainly, Phrase}
 use Rattle.xdg_ast.specs.Same.{nowhere, bare_part, bare_name, bare_option, bare_terms, bare_expr}
-use Rattle.xdg_print.proofs.AgainTrees.{expr_phrase-Dim, expr_phrase-Use, bare_expr-Dim, bare_expr-Use}
+use Rattle.xdg_print.proofs.AgainTrees.{expr_phrase-Dim, expr_phrase-Use, bare_expr_of}
 use Rattle.xdg_print.proofs.AgainWritten.{Written, weaker, written_in, token_written, left_written, made_written, both_written, Gives, stronger, both_given, behind_gives, either_gives}
 use Rattle.xdg_print.proofs.AgainNames.{Keeps, name_words, name_keeps}
 use Rattle.xdg_print.proofs.AgainKept.{behind_keeps, pair_keeps, option_words, optional_keeps}
@@ -48,7 +48,7 @@ module _ {params : Params} {m n : ℕ} (depth : Depth params m n) where
   unfolding dim prim
   dim_gives = plain_gives (exprs params) (prim (under params n)) (next_prim (under params n)) (next_written params n) (λ (said : Dims). x.Dim said.0 said.1)
       (λ said. (bare_name said.0, bare_terms said.1)) (λ said. mark k.Dim ∷ (name_words said.0 ++ terms_words params said.1)) (λ s said. expr_phrase-Dim params said.0 said.1)
-      (λ s s' a b h. ap (λ kind. at_span nowhere kind) (bare_expr-Dim b.0 b.1 ∙ (ap (λ (said : Dims). x.Dim said.0 said.1) h ∙ sym (bare_expr-Dim a.0 a.1))))
+      (λ s s' a b h. ap (λ kind. at_span nowhere kind) (bare_expr_of _ (x.rolls-Dim b.0 b.1) ∙ (ap (λ (said : Dims). x.Dim said.0 said.1) h ∙ sym (bare_expr_of _ (x.rolls-Dim a.0 a.1)))))
       (behind_keeps k.Dim (refl, refl) refl (pair_keeps name_keeps braced_terms_keep)) (λ ts y i. inl i)
 
   use_gives : Gives (use_of_class (under params m)) Prim
@@ -56,7 +56,7 @@ module _ {params : Params} {m n : ℕ} (depth : Depth params m n) where
   use_gives = plain_gives (exprs params) (prim (under params n)) (next_prim (under params n)) (next_written params n) (λ (said : Uses). x.Use said.0 said.1)
       (λ said. (bare_name said.0, bare_option bare_terms said.1)) (λ said. name_words said.0 ++ option_words (terms_words params) said.1)
       (λ s said. expr_phrase-Use params said.0 said.1 ∙ ap (λ ws. plainly (name_word said.0 ∷ ws)) (args_are params said.1))
-      (λ s s' a b h. ap (λ kind. at_span nowhere kind) (bare_expr-Use b.0 b.1 ∙ (ap (λ (said : Uses). x.Use said.0 said.1) h ∙ sym (bare_expr-Use a.0 a.1))))
+      (λ s s' a b h. ap (λ kind. at_span nowhere kind) (bare_expr_of _ (x.rolls-Use b.0 b.1) ∙ (ap (λ (said : Uses). x.Use said.0 said.1) h ∙ sym (bare_expr_of _ (x.rolls-Use a.0 a.1)))))
       (pair_keeps name_keeps (optional_keeps braced_terms_keep)) (λ ts y i. inr (inr i))
 
   bracketed_expr : Gives (in_parentheses (under params m) (λ j. j.expr)) Prim

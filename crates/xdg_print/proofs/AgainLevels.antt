@@ -27,12 +27,16 @@ gens = record {
   phrase = λ gen. gen_phrase gen.kind;
   all = conjunction;
   any = disjunction;
-  all_one = λ s x. refl;
-  any_one = λ s x. refl;
-  all_phrase = λ s x y xs. gen_phrase-And (x ∷ (y ∷ xs));
-  any_phrase = λ s x y xs. gen_phrase-Or (x ∷ (y ∷ xs));
-  all_bare = λ s s' x y x' y' xs xs' h. ap (λ kind. record { kind = kind; span = nowhere }) (bare_gen_and (x' ∷ (y' ∷ xs')) ∙ (ap g.And h ∙ sym (bare_gen_and (x ∷ (y ∷ xs)))));
-  any_bare = λ s s' x y x' y' xs xs' h. ap (λ kind. record { kind = kind; span = nowhere }) (bare_gen_or (x' ∷ (y' ∷ xs')) ∙ (ap g.Or h ∙ sym (bare_gen_or (x ∷ (y ∷ xs)))));
+  by_all = record {
+    one = λ s x. refl;
+    phrase_is = λ s x y xs. gen_phrase-And (x ∷ (y ∷ xs));
+    bare_is = λ s s' x y x' y' xs xs' h. ap (λ kind. record { kind = kind; span = nowhere }) (bare_gen_and (x' ∷ (y' ∷ xs')) ∙ (ap g.And h ∙ sym (bare_gen_and (x ∷ (y ∷ xs)))));
+  };
+  by_any = record {
+    one = λ s x. refl;
+    phrase_is = λ s x y xs. gen_phrase-Or (x ∷ (y ∷ xs));
+    bare_is = λ s s' x y x' y' xs xs' h. ap (λ kind. record { kind = kind; span = nowhere }) (bare_gen_or (x' ∷ (y' ∷ xs')) ∙ (ap g.Or h ∙ sym (bare_gen_or (x ∷ (y ∷ xs)))));
+  };
 }
 
 abbrev pub exprs : Params → Joining Expr Expr
@@ -41,12 +45,16 @@ exprs params = record {
   phrase = λ expr. expr_phrase params expr.kind;
   all = all_of;
   any = any_of;
-  all_one = λ s x. refl;
-  any_one = λ s x. refl;
-  all_phrase = λ s x y xs. expr_phrase-And params (x ∷ (y ∷ xs));
-  any_phrase = λ s x y xs. expr_phrase-Or params (x ∷ (y ∷ xs));
-  all_bare = λ s s' x y x' y' xs xs' h. ap (λ kind. record { kind = kind; span = nowhere }) (bare_expr_and (x' ∷ (y' ∷ xs')) ∙ (ap ex.And h ∙ sym (bare_expr_and (x ∷ (y ∷ xs)))));
-  any_bare = λ s s' x y x' y' xs xs' h. ap (λ kind. record { kind = kind; span = nowhere }) (bare_expr_or (x' ∷ (y' ∷ xs')) ∙ (ap ex.Or h ∙ sym (bare_expr_or (x ∷ (y ∷ xs)))));
+  by_all = record {
+    one = λ s x. refl;
+    phrase_is = λ s x y xs. expr_phrase-And params (x ∷ (y ∷ xs));
+    bare_is = λ s s' x y x' y' xs xs' h. ap (λ kind. record { kind = kind; span = nowhere }) (bare_expr_and (x' ∷ (y' ∷ xs')) ∙ (ap ex.And h ∙ sym (bare_expr_and (x ∷ (y ∷ xs)))));
+  };
+  by_any = record {
+    one = λ s x. refl;
+    phrase_is = λ s x y xs. expr_phrase-Or params (x ∷ (y ∷ xs));
+    bare_is = λ s s' x y x' y' xs xs' h. ap (λ kind. record { kind = kind; span = nowhere }) (bare_expr_or (x' ∷ (y' ∷ xs')) ∙ (ap ex.Or h ∙ sym (bare_expr_or (x ∷ (y ∷ xs)))));
+  };
 }
 
 -- ---- words and parts without places, of what stands in brackets

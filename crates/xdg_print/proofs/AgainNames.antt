@@ -1,6 +1,7 @@
 -- Kinds, constants and numbers are read again, and lists and pairs of what is.
-use Rattle.std.proofs.Common.{◌≡◌, ◌≤◌, ℕ, Bool, true, false, if◌then◌else◌, List, [], ◌∷◌, map, flat_map, refl, sym, ap, ◌∙◌}
+use Rattle.std.proofs.Common.{◌≡◌, ◌≤◌, ℕ, Bool, true, false, if◌then◌else◌, List, [], ◌∷◌, map, flat_map, refl, sym, ap, ap₂, ◌∙◌}
 use Rattle.std.proofs.lemmas.List.Concat.{flat_map_single}
+use Rattle.std.proofs.lemmas.List.Folds.{flat_map-map}
 use Rattle.xdg_ast.specs.declared.token.Kind.{Kind}
 use Rattle.xdg_ast.specs.declared.token.Kind.TheVariants as k
 use Rattle.xdg_ast.specs.Lexemes.{Lexeme}
@@ -23,23 +24,19 @@ pub record Like {A B W : Type 0} (b : A → B) (w : A → W) (y x : A) : Type 0 
   pub bare : b y ≡ b x
   pub words : w y ≡ w x
 
+likes_by : {A B : Type 0} (R : A → A → Type 0) (f : A → B) → ((y x : A) → R y x → f y ≡ f x) → (ys xs : List A) → InTurn R ys xs → map f ys ≡ map f xs
+likes_by R f same [] [] h = refl
+likes_by R f same (y ∷ ys) (x ∷ xs) h = ap₂ (λ z zs. z ∷ zs) (same y x h.0) (likes_by R f same ys xs h.1)
+likes_by R f same _ _ h = absurd h
+
 pub likes_bare : {A B W : Type 0} (b : A → B) (w : A → W) (ys xs : List A) → InTurn (Like b w) ys xs → map b ys ≡ map b xs
-likes_bare b w [] [] h = refl
-likes_bare b w [] (x ∷ xs) h = absurd h
-likes_bare b w (y ∷ ys) [] h = absurd h
-likes_bare b w (y ∷ ys) (x ∷ xs) h = let e = h.0.bare in let i = likes_bare b w ys xs h.1 in cc
+likes_bare b w ys xs = likes_by (Like b w) b (λ y x h. h.bare) ys xs
 
 pub likes_map : {A B W : Type 0} (b : A → B) (w : A → W) (ys xs : List A) → InTurn (Like b w) ys xs → map w ys ≡ map w xs
-likes_map b w [] [] h = refl
-likes_map b w [] (x ∷ xs) h = absurd h
-likes_map b w (y ∷ ys) [] h = absurd h
-likes_map b w (y ∷ ys) (x ∷ xs) h = let e = h.0.words in let i = likes_map b w ys xs h.1 in cc
+likes_map b w ys xs = likes_by (Like b w) w (λ y x h. h.words) ys xs
 
-pub likes_words : {A B : Type 0} (b : A → B) (w : A → List Word) (ys xs : List A) → InTurn (Like b w) ys xs → flat_map w ys ≡ flat_map w xs
-likes_words b w [] [] h = refl
-likes_words b w [] (x ∷ xs) h = absurd h
-likes_words b w (y ∷ ys) [] h = absurd h
-likes_words b w (y ∷ ys) (x ∷ xs) h = let e = h.0.words in let i = likes_words b w ys xs h.1 in cc
+likes_words : {A B : Type 0} (b : A → B) (w : A → List Word) (ys xs : List A) → InTurn (Like b w) ys xs → flat_map w ys ≡ flat_map w xs
+likes_words b w ys xs h = sym (flat_map-map (λ ws. ws) w ys) ∙ ap (flat_map (λ ws. ws)) (likes_map b w ys xs h) ∙ flat_map-map (λ ws. ws) w xs
 
 -- the words of a value are read as one that differs at most in places
 abbrev pub Kept : {A B : Type 0} → Language A → (A → B) → (A → List Word) → A → Type 0

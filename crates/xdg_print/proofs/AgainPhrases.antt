@@ -11,20 +11,22 @@ use Rattle.xdg_ast.specs.Grammar.{at_span}
 use Rattle.xdg_ast.specs.Words.{Word, mark}
 use Rattle.xdg_ast.specs.Trees.{in_parentheses, Form, single, conjunction, disjunction, Phrase, in_conjunction, in_disjunction, each_behind, separated, conjoined, disjoined, plainly}
 use Rattle.xdg_print.proofs.AgainWritten.{Written, at_words, both_written, behind_written, spanned_written, made_written, written_in, Each, InTurn, many_written, no_tokens, Gives, both_gives, behind_gives, many_gives, spanned_gives, made_gives}
+use Rattle.xdg_facts.proofs.Lists.{fused}
 use Rattle.xdg_print.proofs.AgainNames.{Like, Kept, Keeps, likes_bare, likes_map}
 
--- how members are joined
+-- how members are joined: by one way alone a member stays as it is, and more are a phrase of theirs
+pub record Joins {A B : Type 0} (bare : A → B) (phrase : A → Phrase) (join : Span → List A → A) (glue : List Phrase → Phrase) : Type 0 where
+  pub one : (s : Span) (x : A) → join s (x ∷ []) ≡ x
+  pub phrase_is : (s : Span) (x y : A) (xs : List A) → phrase (join s (x ∷ (y ∷ xs))) ≡ glue (map phrase (x ∷ (y ∷ xs)))
+  pub bare_is : (s s' : Span) (x y x' y' : A) (xs xs' : List A) → map bare (x' ∷ (y' ∷ xs')) ≡ map bare (x ∷ (y ∷ xs)) → bare (join s' (x' ∷ (y' ∷ xs'))) ≡ bare (join s (x ∷ (y ∷ xs)))
+
 pub record Joining (A B : Type 0) : Type 0 where
   pub bare : A → B
   pub phrase : A → Phrase
   pub all : Span → List A → A
   pub any : Span → List A → A
-  pub all_one : (s : Span) (x : A) → all s (x ∷ []) ≡ x
-  pub any_one : (s : Span) (x : A) → any s (x ∷ []) ≡ x
-  pub all_phrase : (s : Span) (x y : A) (xs : List A) → phrase (all s (x ∷ (y ∷ xs))) ≡ conjoined (map phrase (x ∷ (y ∷ xs)))
-  pub any_phrase : (s : Span) (x y : A) (xs : List A) → phrase (any s (x ∷ (y ∷ xs))) ≡ disjoined (map phrase (x ∷ (y ∷ xs)))
-  pub all_bare : (s s' : Span) (x y x' y' : A) (xs xs' : List A) → map bare (x' ∷ (y' ∷ xs')) ≡ map bare (x ∷ (y ∷ xs)) → bare (all s' (x' ∷ (y' ∷ xs'))) ≡ bare (all s (x ∷ (y ∷ xs)))
-  pub any_bare : (s s' : Span) (x y x' y' : A) (xs xs' : List A) → map bare (x' ∷ (y' ∷ xs')) ≡ map bare (x ∷ (y ∷ xs)) → bare (any s' (x' ∷ (y' ∷ xs'))) ≡ bare (any s (x ∷ (y ∷ xs)))
+  pub by_all : Joins bare phrase all conjoined
+  pub by_any : Joins bare phrase any disjoined
 
 abbrev pub conj_of : {A B : Type 0} → Joining A B → Language A → Language A → Language A
 conj_of j p np = spanned j.all (chain p np)
@@ -63,16 +65,15 @@ flat_behind : {A : Type 0} (sign : Kind) (f : A → List Word) (xs : List A) →
 flat_behind sign f [] = refl
 flat_behind sign f (x ∷ xs) = ap (λ ws. mark sign ∷ (f x ++ ws)) (flat_behind sign f xs)
 
-each_next : {A : Type 0} (l m : Language A) (sign : Kind) (f : A → List Word) (R : A → A → Type 0) → ((ws : List Word) (P : A → Type 0) → Written l ws P → Written m (mark sign ∷ ws) P)
-    → (xs : List A) → Each (λ x. Written l (f x) (λ y. R y x)) xs → Each (λ x. Written m (mark sign ∷ f x) (λ y. R y x)) xs
-each_next l m sign f R next [] e = tt
-each_next l m sign f R next (x ∷ xs) e = (next (f x) (λ y. R y x) e.0, each_next l m sign f R next xs e.1)
+each_so : {A : Type 0} (G H : A → Type 0) → ((x : A) → G x → H x) → (xs : List A) → Each G xs → Each H xs
+each_so G H so [] e = tt
+each_so G H so (x ∷ xs) e = (so x e.0, each_so G H so xs e.1)
 
 -- members with a sign between two of them
 chain_written : {A : Type 0} {l m : Language A} (sign : Kind) (f : A → List Word) (R : A → A → Type 0) → ((ws : List Word) (P : A → Type 0) → Written l ws P → Written m (mark sign ∷ ws) P)
     → (x : A) (xs : List A) → Each (λ y. Written l (f y) (λ z. R z y)) (x ∷ xs) → Written (chain l m) (separated sign (map f (x ∷ xs))) (λ ys. InTurn R ys (x ∷ xs))
 chain_written {A} {l} {m} sign f R next x xs e = at_words (ap (λ ws. f x ++ ws) (flat_behind sign f xs))
-    (both_written e.0 (many_written m R (λ y. mark sign ∷ f y) xs (each_next l m sign f R next xs e.1)) (λ y ys h i. (h, i)))
+    (both_written e.0 (many_written m R (λ y. mark sign ∷ f y) xs (each_so (λ y. Written l (f y) (λ z. R z y)) _ (λ y. next (f y) (λ z. R z y)) xs e.1)) (λ y ys h i. (h, i)))
 
 -- a chain of one member
 one_written : {A : Type 0} {l : Language A} (m : Language A) (f : Span → List A → A) → ((s : Span) (x : A) → f s (x ∷ []) ≡ x) → {ws : List Word} {P : A → Type 0} → Written l ws P → Written (spanned f (chain l m)) ws P
@@ -85,10 +86,10 @@ one_written {A} {l} m f one {ws} {P} a =
 
 module _ {A B : Type 0} (j : Joining A B) (p np : Language A) (next : (ws : List Word) (P : A → Type 0) → Written p ws P → Written np (mark k.Ampersand ∷ ws) P) where
   prim_as_conj : {ws : List Word} {P : A → Type 0} → Written p ws P → Written (conj_of j p np) ws P
-  prim_as_conj a = one_written np j.all j.all_one a
+  prim_as_conj a = one_written np j.all j.by_all.one a
 
   conj_as_disj : {ws : List Word} {P : A → Type 0} → Written (conj_of j p np) ws P → Written (disj_of j p np) ws P
-  conj_as_disj a = one_written (next_of j p np) j.any j.any_one a
+  conj_as_disj a = one_written (next_of j p np) j.any j.by_any.one a
 
   bar : (ws : List Word) (P : A → Type 0) → Written (conj_of j p np) ws P → Written (next_of j p np) (mark k.Bar ∷ ws) P
   bar ws P a = behind_written k.Bar (refl, refl) refl a
@@ -128,57 +129,20 @@ module _ {A B : Type 0} (j : Joining A B) (p np : Language A) (next : (ws : List
   one_conj x a = record { bare_words = a.bare_words; as_member = one_conj_at (j.phrase x).form (j.phrase x).words (λ y. Alike j y x) a.bare_words a.as_member }
 
   -- what is alike in turn makes what is alike
-  joined_all : (s s' : Span) (x y : A) (xs zs : List A) → InTurn (Alike j) zs (x ∷ (y ∷ xs)) → Alike j (j.all s' zs) (j.all s (x ∷ (y ∷ xs)))
-  joined_all s s' x y xs [] h = absurd h
-  joined_all s s' x y xs (x' ∷ []) h = absurd h.1
-  joined_all s s' x y xs (x' ∷ (y' ∷ xs')) h = record {
-    bare = j.all_bare s s' x y x' y' xs xs' (likes_bare j.bare j.phrase (x' ∷ (y' ∷ xs')) (x ∷ (y ∷ xs)) h);
-    words = j.all_phrase s' x' y' xs' ∙ (ap conjoined (likes_map j.bare j.phrase (x' ∷ (y' ∷ xs')) (x ∷ (y ∷ xs)) h) ∙ sym (j.all_phrase s x y xs));
+  joined : (join : Span → List A → A) (glue : List Phrase → Phrase) → Joins j.bare j.phrase join glue → (s s' : Span) (x y : A) (xs zs : List A) → InTurn (Alike j) zs (x ∷ (y ∷ xs)) → Alike j (join s' zs) (join s (x ∷ (y ∷ xs)))
+  joined join glue way s s' x y xs (x' ∷ (y' ∷ xs')) h = record {
+    bare = way.bare_is s s' x y x' y' xs xs' (likes_bare j.bare j.phrase (x' ∷ (y' ∷ xs')) (x ∷ (y ∷ xs)) h);
+    words = way.phrase_is s' x' y' xs' ∙ (ap glue (likes_map j.bare j.phrase (x' ∷ (y' ∷ xs')) (x ∷ (y ∷ xs)) h) ∙ sym (way.phrase_is s x y xs));
   }
+  joined join glue way s s' x y xs [] h = absurd h
+  joined join glue way s s' x y xs (x' ∷ []) h = absurd h.1
 
-  joined_any : (s s' : Span) (x y : A) (xs zs : List A) → InTurn (Alike j) zs (x ∷ (y ∷ xs)) → Alike j (j.any s' zs) (j.any s (x ∷ (y ∷ xs)))
-  joined_any s s' x y xs [] h = absurd h
-  joined_any s s' x y xs (x' ∷ []) h = absurd h.1
-  joined_any s s' x y xs (x' ∷ (y' ∷ xs')) h = record {
-    bare = j.any_bare s s' x y x' y' xs xs' (likes_bare j.bare j.phrase (x' ∷ (y' ∷ xs')) (x ∷ (y ∷ xs)) h);
-    words = j.any_phrase s' x' y' xs' ∙ (ap disjoined (likes_map j.bare j.phrase (x' ∷ (y' ∷ xs')) (x ∷ (y ∷ xs)) h) ∙ sym (j.any_phrase s x y xs));
-  }
-
-  prim_members : (xs : List A) → Each (GoodPrim j p np) xs → Each (λ x. Written p (in_conjunction (j.phrase x)) (λ y. Alike j y x)) xs
-  prim_members [] e = tt
-  prim_members (x ∷ xs) e = (e.0.as_member, prim_members xs e.1)
-
-  conj_members : (xs : List A) → Each (GoodConj j p np) xs → Each (λ x. Written (conj_of j p np) (in_disjunction (j.phrase x)) (λ y. Alike j y x)) xs
-  conj_members [] e = tt
-  conj_members (x ∷ xs) e = (e.0.as_member, conj_members xs e.1)
-
-  map_twice : (f : Phrase → List Word) (xs : List A) → map (λ x. f (j.phrase x)) xs ≡ map f (map j.phrase xs)
-  map_twice f [] = refl
-  map_twice f (x ∷ xs) = ap (λ ws. f (j.phrase x) ∷ ws) (map_twice f xs)
-
-  several_conj : (s : Span) (x y : A) (xs : List A) → Each (GoodPrim j p np) (x ∷ (y ∷ xs)) → Written (conj_of j p np) (conjoined (map j.phrase (x ∷ (y ∷ xs)))).words (λ z. Alike j z (j.all s (x ∷ (y ∷ xs))))
-  several_conj s x y xs e = spanned_written (at_words (ap (separated k.Ampersand) (map_twice in_conjunction (x ∷ (y ∷ xs))))
-      (chain_written k.Ampersand (λ x. in_conjunction (j.phrase x)) (Alike j) next x (y ∷ xs) (prim_members (x ∷ (y ∷ xs)) e))) (λ s' zs h. joined_all s s' x y xs zs h)
-
-  several_disj : (s : Span) (x y : A) (xs : List A) → Each (GoodConj j p np) (x ∷ (y ∷ xs)) → Written (disj_of j p np) (disjoined (map j.phrase (x ∷ (y ∷ xs)))).words (λ z. Alike j z (j.any s (x ∷ (y ∷ xs))))
-  several_disj s x y xs e = spanned_written (at_words (ap (separated k.Bar) (map_twice in_disjunction (x ∷ (y ∷ xs))))
-      (chain_written k.Bar (λ x. in_disjunction (j.phrase x)) (Alike j) bar x (y ∷ xs) (conj_members (x ∷ (y ∷ xs)) e))) (λ s' zs h. joined_any s s' x y xs zs h)
-
-  phrase_conj : (ph : Phrase) (P : A → Type 0) (ps : List Phrase) → ph ≡ conjoined ps → Written (conj_of j p np) (conjoined ps).words P → natural p (conj_of j p np) (disj_of j p np) ph.form ph.words P × Written (conj_of j p np) (in_disjunction ph) P
-  phrase_conj ph P ps e a = subst (λ (q : Phrase). natural p (conj_of j p np) (disj_of j p np) q.form q.words P × Written (conj_of j p np) (in_disjunction q) P) (sym e) (a, a)
-
-  phrase_disj : (ph : Phrase) (P : A → Type 0) (ps : List Phrase) → ph ≡ disjoined ps → Written (disj_of j p np) (disjoined ps).words P → natural p (conj_of j p np) (disj_of j p np) ph.form ph.words P
-  phrase_disj ph P ps e a = subst (λ (q : Phrase). natural p (conj_of j p np) (disj_of j p np) q.form q.words P) (sym e) a
-
-  conj_good : (s : Span) (x : A) (xs : List A) → Each (GoodPrim j p np) (x ∷ xs) → GoodConj j p np (j.all s (x ∷ xs))
-  conj_good s x [] e = subst (GoodConj j p np) (sym (j.all_one s x)) (one_conj x e.0)
-  conj_good s x (y ∷ xs) e =
-      let h = phrase_conj (j.phrase (j.all s (x ∷ (y ∷ xs)))) (λ z. Alike j z (j.all s (x ∷ (y ∷ xs)))) (map j.phrase (x ∷ (y ∷ xs))) (j.all_phrase s x y xs) (several_conj s x y xs e) in
-      record { bare_words = h.0; as_member = h.1 }
-
-  disj_good : (s : Span) (x : A) (xs : List A) → Each (GoodConj j p np) (x ∷ xs) → Natural j p np (j.any s (x ∷ xs))
-  disj_good s x [] e = subst (Natural j p np) (sym (j.any_one s x)) e.0.bare_words
-  disj_good s x (y ∷ xs) e = phrase_disj (j.phrase (j.any s (x ∷ (y ∷ xs)))) (λ z. Alike j z (j.any s (x ∷ (y ∷ xs)))) (map j.phrase (x ∷ (y ∷ xs))) (j.any_phrase s x y xs) (several_disj s x y xs e)
+  several : {l m : Language A} (sign : Kind) (bracketed : Phrase → List Word) (join : Span → List A → A) (glue : List Phrase → Phrase) → Joins j.bare j.phrase join glue → ((ps : List Phrase) → separated sign (map bracketed ps) ≡ (glue ps).words)
+      → ((ws : List Word) (P : A → Type 0) → Written l ws P → Written m (mark sign ∷ ws) P) → (s : Span) (x y : A) (xs : List A) → Each (λ x. Written l (bracketed (j.phrase x)) (λ y. Alike j y x)) (x ∷ (y ∷ xs))
+      → Written (spanned join (chain l m)) (glue (map j.phrase (x ∷ (y ∷ xs)))).words (λ z. Alike j z (join s (x ∷ (y ∷ xs))))
+  several sign bracketed join glue way glued behind s x y xs e =
+      spanned_written (at_words (ap (separated sign) (sym (fused bracketed j.phrase (x ∷ (y ∷ xs)))) ∙ glued (map j.phrase (x ∷ (y ∷ xs)))) (chain_written sign (λ x. bracketed (j.phrase x)) (Alike j) behind x (y ∷ xs) e))
+      (λ s' zs h. joined join glue way s s' x y xs zs h)
 
   abbrev Several : (A → Type 0) → List A → Type 0
   Several G [] = ⊥
@@ -186,11 +150,19 @@ module _ {A B : Type 0} (j : Joining A B) (p np : Language A) (next : (ws : List
 
   all_good : (s : Span) (xs : List A) → Several (GoodPrim j p np) xs → GoodConj j p np (j.all s xs)
   all_good s [] e = absurd e
-  all_good s (x ∷ xs) e = conj_good s x xs e
+  all_good s (x ∷ []) e = subst (GoodConj j p np) (sym (j.by_all.one s x)) (one_conj x e.0)
+  all_good s (x ∷ (y ∷ xs)) e =
+      let all = j.all s (x ∷ (y ∷ xs)) in
+      let written = several k.Ampersand in_conjunction j.all conjoined j.by_all (λ _. refl) next s x y xs (each_so (GoodPrim j p np) (λ x. Written p (in_conjunction (j.phrase x)) (λ y. Alike j y x)) (λ _ g. g.as_member) (x ∷ (y ∷ xs)) e) in
+      let both = subst (λ (q : Phrase). natural p (conj_of j p np) (disj_of j p np) q.form q.words (λ z. Alike j z all) × Written (conj_of j p np) (in_disjunction q) (λ z. Alike j z all)) (sym (j.by_all.phrase_is s x y xs)) (written, written) in
+      record { bare_words = both.0; as_member = both.1 }
 
   any_good : (s : Span) (xs : List A) → Several (GoodConj j p np) xs → Natural j p np (j.any s xs)
   any_good s [] e = absurd e
-  any_good s (x ∷ xs) e = disj_good s x xs e
+  any_good s (x ∷ []) e = subst (Natural j p np) (sym (j.by_any.one s x)) e.0.bare_words
+  any_good s (x ∷ (y ∷ xs)) e =
+      subst (λ (q : Phrase). natural p (conj_of j p np) (disj_of j p np) q.form q.words (λ z. Alike j z (j.any s (x ∷ (y ∷ xs))))) (sym (j.by_any.phrase_is s x y xs))
+      (several k.Bar in_disjunction j.any disjoined j.by_any (λ _. refl) bar s x y xs (each_so (GoodConj j p np) (λ x. Written (conj_of j p np) (in_disjunction (j.phrase x)) (λ y. Alike j y x)) (λ _ g. g.as_member) (x ∷ (y ∷ xs)) e))
 
   -- what the rules read, where a member was read
   conj_gives : (q nq : Language A) → Gives q (GoodPrim j p np) → Gives nq (GoodPrim j p np) → Gives (conj_of j q nq) (GoodConj j p np)

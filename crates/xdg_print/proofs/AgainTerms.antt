@@ -9,7 +9,7 @@ use Rattle.xdg_ast.specs.Grammar.{Params, Gen, in_parentheses, inside, under, na
 use Rattle.xdg_ast.specs.Words.{Word, mark, number}
 use Rattle.xdg_ast.specs.Trees.{names_words, card_words, gen_phrase, in_square_brackets as bracketed_words, Phrase}
 use Rattle.xdg_ast.specs.Same.{nowhere, bare_part, bare_name, bare_names, bare_num, bare_card, bare_gen}
-use Rattle.xdg_print.proofs.AgainTrees.{gen_phrase-Const, bare_gen-Const}
+use Rattle.xdg_print.proofs.AgainTrees.{gen_phrase-Const, bare_gen_of}
 use Rattle.xdg_print.proofs.AgainWritten.{Written, weaker, written_in, behind_written, Gives, stronger, both_given, behind_gives, either_gives}
 use Rattle.xdg_print.proofs.AgainNames.{Keeps, name_words, names_keeps, name_keeps, num_keeps, nums_keeps}
 use Rattle.xdg_print.proofs.AgainKept.{sign_keeps, signed_keeps, unsigned_keeps, either_keeps, pair_keeps, spanned_keeps}
@@ -74,7 +74,7 @@ module _ {params : Params} {m n : ℕ} (depth : Depth params m n) where
   prim_gives : Gives (gprim (under params m)) Prim
   unfolding gprim
   prim_gives = either_gives bracketed_gen (plain_gives gens (gprim (under params n)) (next_gprim (under params n)) (next_written params n) g.Const bare_name name_words (λ s x. gen_phrase-Const x)
-      (λ s s' x y h. ap (λ kind. at_span nowhere kind) (bare_gen-Const y ∙ (ap g.Const h ∙ sym (bare_gen-Const x)))) name_keeps (λ ts y i. inr i))
+      (λ s s' x y h. ap (λ kind. at_span nowhere kind) (bare_gen_of _ (g.rolls-Const y) ∙ (ap g.Const h ∙ sym (bare_gen_of _ (g.rolls-Const x))))) name_keeps (λ ts y i. inr i))
 
   next_gives : Gives (next_gprim (under params m)) Prim
   unfolding next_gprim

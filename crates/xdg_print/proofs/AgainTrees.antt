@@ -5,22 +5,22 @@ use Rattle.xdg_ast.specs.declared.token.Kind.TheVariants as k
 use Rattle.xdg_ast.specs.declared.names.Name.{Name}
 use Rattle.xdg_ast.specs.declared.names.Pair.{Pair}
 use Rattle.xdg_ast.specs.declared.names.Spanned.{Spanned}
-use Rattle.xdg_ast.specs.declared.types.TypeKind.{TypeKind}
+use Rattle.xdg_ast.specs.declared.types.TypeKind.{TypeKind, roll-TypeKind, map-TypeKind}
 use Rattle.xdg_ast.specs.declared.types.TypeKind.TheVariants as y
 use Rattle.xdg_ast.specs.declared.types.TypeKind.TheOpen.{TypeKind-F}
 use Rattle.xdg_ast.specs.declared.types.TypeKind.TheFolds.{fold-roll-TypeKind}
-use Rattle.xdg_ast.specs.declared.terms.TermKind.{TermKind}
+use Rattle.xdg_ast.specs.declared.terms.TermKind.{TermKind, roll-TermKind, map-TermKind}
 use Rattle.xdg_ast.specs.declared.terms.TermKind.TheVariants as t
-use Rattle.xdg_ast.specs.declared.terms.ElemKind.{ElemKind}
+use Rattle.xdg_ast.specs.declared.terms.ElemKind.{ElemKind, roll-ElemKind, map-ElemKind}
 use Rattle.xdg_ast.specs.declared.terms.ElemKind.TheVariants as e
 use Rattle.xdg_ast.specs.declared.terms.ElemKind.TheOpen.{TermKind-F, ElemKind-F}
 use Rattle.xdg_ast.specs.declared.terms.ElemKind.TheFolds.{fold-roll-TermKind, fold-roll-ElemKind}
 use Rattle.xdg_ast.specs.declared.terms.CardKind.{CardKind}
-use Rattle.xdg_ast.specs.declared.terms.GenKind.{GenKind}
+use Rattle.xdg_ast.specs.declared.terms.GenKind.{GenKind, roll-GenKind, map-GenKind}
 use Rattle.xdg_ast.specs.declared.terms.GenKind.TheVariants as g
 use Rattle.xdg_ast.specs.declared.terms.GenKind.TheOpen.{GenKind-F}
 use Rattle.xdg_ast.specs.declared.terms.GenKind.TheFolds.{fold-roll-GenKind}
-use Rattle.xdg_ast.specs.declared.expressions.ExprKind.{ExprKind}
+use Rattle.xdg_ast.specs.declared.expressions.ExprKind.{ExprKind, roll-ExprKind, map-ExprKind}
 use Rattle.xdg_ast.specs.declared.expressions.ExprKind.TheVariants as x
 use Rattle.xdg_ast.specs.declared.expressions.ExprKind.TheOpen.{ExprKind-F}
 use Rattle.xdg_ast.specs.declared.expressions.ExprKind.TheFolds.{fold-roll-ExprKind}
@@ -136,55 +136,19 @@ type_words-Str = ap type_words (sym y.rolls-Str) ∙ fold-roll-TypeKind (List Wo
 pub type_words-Named : (name : Name) → type_words (y.Named name) ≡ name_word name ∷ []
 type_words-Named name = ap type_words (sym (y.rolls-Named name)) ∙ fold-roll-TypeKind (List Word) type_step (TypeKind-F.Named name)
 
--- ---- terms without places
+-- ---- trees without places, by their layer
 
-pub bare_term-Const : (name : Name) → bare_term (t.Const name) ≡ t.Const (bare_name name)
-bare_term-Const name = ap bare_term (sym (t.rolls-Const name)) ∙ fold-roll-TermKind ElemKind TermKind bare_elem_step bare_term_step (TermKind-F.TermKind::Const name)
+pub bare_term_of : (layer : TermKind-F ElemKind TermKind) {term : TermKind} → roll-TermKind layer ≡ term → bare_term term ≡ bare_term_step (map-TermKind ElemKind TermKind ElemKind TermKind bare_elem bare_term layer)
+bare_term_of layer is = ap bare_term (sym is) ∙ fold-roll-TermKind ElemKind TermKind bare_elem_step bare_term_step layer
 
-pub bare_term-Param : (name : Name) → bare_term (t.Param name) ≡ t.Param (bare_name name)
-bare_term-Param name = ap bare_term (sym (t.rolls-Param name)) ∙ fold-roll-TermKind ElemKind TermKind bare_elem_step bare_term_step (TermKind-F.Param name)
+pub bare_elem_of : (layer : ElemKind-F ElemKind TermKind) {elem : ElemKind} → roll-ElemKind layer ≡ elem → bare_elem elem ≡ bare_elem_step (map-ElemKind ElemKind TermKind ElemKind TermKind bare_elem bare_term layer)
+bare_elem_of layer is = ap bare_elem (sym is) ∙ fold-roll-ElemKind ElemKind TermKind bare_elem_step bare_term_step layer
 
-pub bare_term-Card : (card : Spanned CardKind) → bare_term (t.Card card) ≡ t.Card (bare_part bare_card card)
-bare_term-Card card = ap bare_term (sym (t.rolls-Card card)) ∙ fold-roll-TermKind ElemKind TermKind bare_elem_step bare_term_step (TermKind-F.Card card)
+pub bare_gen_of : (layer : GenKind-F GenKind) {gen : GenKind} → roll-GenKind layer ≡ gen → bare_gen gen ≡ bare_gen_step (map-GenKind GenKind GenKind bare_gen layer)
+bare_gen_of layer is = ap bare_gen (sym is) ∙ fold-roll-GenKind GenKind bare_gen_step layer
 
-pub bare_term-Tuple : (names : List Name) → bare_term (t.Tuple names) ≡ t.Tuple (bare_names names)
-bare_term-Tuple names = ap bare_term (sym (t.rolls-Tuple names)) ∙ fold-roll-TermKind ElemKind TermKind bare_elem_step bare_term_step (TermKind-F.TermKind::Tuple names)
+pub bare_expr_of : (layer : ExprKind-F ExprKind) {expr : ExprKind} → roll-ExprKind layer ≡ expr → bare_expr expr ≡ bare_expr_step (map-ExprKind ExprKind ExprKind bare_expr layer)
+bare_expr_of layer is = ap bare_expr (sym is) ∙ fold-roll-ExprKind ExprKind bare_expr_step layer
 
-pub bare_term-Gen : (gen : Spanned GenKind) → bare_term (t.Gen gen) ≡ t.Gen (bare_part bare_gen gen)
-bare_term-Gen gen = ap bare_term (sym (t.rolls-Gen gen)) ∙ fold-roll-TermKind ElemKind TermKind bare_elem_step bare_term_step (TermKind-F.Gen gen)
-
--- ---- elements without places
-
-pub bare_elem-Count : (name : Name) (card : Spanned CardKind) → bare_elem (e.Count name card) ≡ e.Count (bare_name name) (bare_part bare_card card)
-bare_elem-Count name card = ap bare_elem (sym (e.rolls-Count name card)) ∙ fold-roll-ElemKind ElemKind TermKind bare_elem_step bare_term_step (ElemKind-F.Count name card)
-
-pub bare_elem-Keyed : (name : Name) (term : Spanned TermKind) → bare_elem (e.Keyed name term) ≡ e.Keyed (bare_name name) (bare_part bare_term term)
-bare_elem-Keyed name term = ap bare_elem (sym (e.rolls-Keyed name term)) ∙ fold-roll-ElemKind ElemKind TermKind bare_elem_step bare_term_step (ElemKind-F.Keyed name term)
-
-pub bare_elem-Const : (name : Name) → bare_elem (e.Const name) ≡ e.Const (bare_name name)
-bare_elem-Const name = ap bare_elem (sym (e.rolls-Const name)) ∙ fold-roll-ElemKind ElemKind TermKind bare_elem_step bare_term_step (ElemKind-F.ElemKind::Const name)
-
-pub bare_elem-Tuple : (names : List Name) → bare_elem (e.Tuple names) ≡ e.Tuple (bare_names names)
-bare_elem-Tuple names = ap bare_elem (sym (e.rolls-Tuple names)) ∙ fold-roll-ElemKind ElemKind TermKind bare_elem_step bare_term_step (ElemKind-F.ElemKind::Tuple names)
-
--- ---- generators without places
-
-pub bare_gen-Const : (name : Name) → bare_gen (g.Const name) ≡ g.Const (bare_name name)
-bare_gen-Const name = ap bare_gen (sym (g.rolls-Const name)) ∙ fold-roll-GenKind GenKind bare_gen_step (GenKind-F.Const name)
-
-pub bare_expr-Dim : (name : Name) (pairs : List (Pair (Spanned TermKind))) → bare_expr (x.Dim name pairs) ≡ x.Dim (bare_name name) (bare_terms pairs)
-bare_expr-Dim name pairs = ap bare_expr (sym (x.rolls-Dim name pairs)) ∙ fold-roll-ExprKind ExprKind bare_expr_step (ExprKind-F.Dim name pairs)
-
-pub bare_expr-Use : (name : Name) (pairs : Option (List (Pair (Spanned TermKind)))) → bare_expr (x.Use name pairs) ≡ x.Use (bare_name name) (bare_option bare_terms pairs)
-bare_expr-Use name pairs = ap bare_expr (sym (x.rolls-Use name pairs)) ∙ fold-roll-ExprKind ExprKind bare_expr_step (ExprKind-F.Use name pairs)
-
--- ---- types without places
-
-pub bare_type-Domain : (names : List Name) → bare_type (y.Domain names) ≡ y.Domain (bare_names names)
-bare_type-Domain names = ap bare_type (sym (y.rolls-Domain names)) ∙ fold-roll-TypeKind TypeKind bare_type_step (TypeKind-F.Domain names)
-
-pub bare_type-Map : (key : Spanned TypeKind) (value : Spanned TypeKind) → bare_type (y.Map key value) ≡ y.Map (bare_part bare_type key) (bare_part bare_type value)
-bare_type-Map key value = ap bare_type (sym (y.rolls-Map key value)) ∙ fold-roll-TypeKind TypeKind bare_type_step (TypeKind-F.Map key value)
-
-pub bare_type-Named : (name : Name) → bare_type (y.Named name) ≡ y.Named (bare_name name)
-bare_type-Named name = ap bare_type (sym (y.rolls-Named name)) ∙ fold-roll-TypeKind TypeKind bare_type_step (TypeKind-F.Named name)
+pub bare_type_of : (layer : TypeKind-F TypeKind) {type : TypeKind} → roll-TypeKind layer ≡ type → bare_type type ≡ bare_type_step (map-TypeKind TypeKind TypeKind bare_type layer)
+bare_type_of layer is = ap bare_type (sym is) ∙ fold-roll-TypeKind TypeKind bare_type_step layer

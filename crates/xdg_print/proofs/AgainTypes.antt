@@ -10,7 +10,7 @@ use Rattle.xdg_ast.specs.Grammar.{Params, TypeTerm, in_braces, in_parentheses, i
 use Rattle.xdg_ast.specs.Words.{Word, mark, constant}
 use Rattle.xdg_ast.specs.Trees.{name_word, names_words, pair_words, type_words, in_braces as between_braces, in_parentheses as parenthesized}
 use Rattle.xdg_ast.specs.Same.{bare_part, bare_name, bare_names, bare_pair, bare_type}
-use Rattle.xdg_print.proofs.AgainTrees.{type_words-Empty, type_words-Domain, type_words-Rec, type_words-Tuple, type_words-Set, type_words-ISet, type_words-Valency, type_words-Map, type_words-Card, type_words-Bool, type_words-Int, type_words-Str, type_words-Named, bare_type-Domain, bare_type-Map, bare_type-Named}
+use Rattle.xdg_print.proofs.AgainTrees.{type_words-Empty, type_words-Domain, type_words-Rec, type_words-Tuple, type_words-Set, type_words-ISet, type_words-Valency, type_words-Map, type_words-Card, type_words-Bool, type_words-Int, type_words-Str, type_words-Named, bare_type_of}
 use Rattle.xdg_print.proofs.AgainWritten.{Written, written_in, nothing_written, both_written, made_written, Gives, stronger, nothing_gives, made_gives, both_gives, either_gives}
 use Rattle.xdg_print.proofs.AgainNames.{Like, Keeps, name_gives, name_written, name_keeps, names_keeps, same_text, many_keeps, keyed_keeps}
 use Rattle.xdg_print.proofs.AgainKept.{kept_by, sign_keeps, behind_keeps, either_keeps, made_keeps, both_keeps, pair_keeps, spanned_keeps}
@@ -48,12 +48,12 @@ module _ {params : Params} {m n : ℕ} (depth : Depth params m n) where
       (either_keeps (made_keeps y.ISet (behind_keeps k.ISet (refl, refl) refl one_in_parentheses) bare_type_iset type_words-ISet (λ ts z h. inr (inr (inr (inl h)))))
       (either_keeps (made_keeps y.Valency (behind_keeps k.Valency (refl, refl) refl one_in_parentheses) bare_type_valency type_words-Valency (λ ts z h. inr (inr (inr (inr (inl h))))))
       (either_keeps (made_keeps (λ (said : TypeTerm × TypeTerm). y.Map said.0 said.1) (behind_keeps k.Map (refl, refl) refl (parentheses_keep (λ j. j.two_types) depth (λ m' n' l levels. levels.two_is n' l)))
-      (λ said. bare_type-Map said.0 said.1) (λ said. type_words-Map said.0 said.1) (λ ts z h. inr (inr (inr (inr (inr (inl h)))))))
+      (λ said. bare_type_of _ (y.rolls-Map said.0 said.1)) (λ said. type_words-Map said.0 said.1) (λ ts z h. inr (inr (inr (inr (inr (inl h)))))))
       (either_keeps (sign_keeps k.Card (refl, refl) refl type_words-Card (λ ts z h. inr (inr (inr (inr (inr (inr (inl h))))))))
       (either_keeps (sign_keeps k.Bool (refl, refl) refl type_words-Bool (λ ts z h. inr (inr (inr (inr (inr (inr (inr (inl h)))))))))
       (either_keeps (sign_keeps k.Int (refl, refl) refl type_words-Int (λ ts z h. inr (inr (inr (inr (inr (inr (inr (inr (inl h))))))))))
       (either_keeps (sign_keeps k.String (refl, refl) refl type_words-Str (λ ts z h. inr (inr (inr (inr (inr (inr (inr (inr (inr (inl h)))))))))))
-      (made_keeps y.Named name_keeps bare_type-Named type_words-Named (λ ts z h. inr (inr (inr (inr (inr (inr (inr (inr (inr (inr h))))))))))))))))))))
+      (made_keeps y.Named name_keeps (λ part. bare_type_of _ (y.rolls-Named part)) type_words-Named (λ ts z h. inr (inr (inr (inr (inr (inr (inr (inr (inr (inr h))))))))))))))))))))
 
   pub type_keeps : Keeps (type_term (under params m)) (type_term (under params n)) (bare_part bare_type) one_words
   unfolding type_term
@@ -96,7 +96,7 @@ module _ {params : Params} {m n : ℕ} (depth : Depth params m n) where
 
   domain_like : (a b : Name) (xs zs : List Name) → a.text ≡ b.text → Like bare_names names_words xs zs → Like bare_type type_words (domain_of xs a) (domain_of zs b)
   domain_like a b xs zs h j = record {
-    bare = bare_type-Domain (a ∷ xs) ∙ (ap (λ c. y.Domain (c ∷ bare_names xs)) (same_text a b h).bare ∙ (ap (λ vs. y.Domain (bare_name b ∷ vs)) j.bare ∙ sym (bare_type-Domain (b ∷ zs))));
+    bare = bare_type_of _ (y.rolls-Domain (a ∷ xs)) ∙ (ap (λ c. y.Domain (c ∷ bare_names xs)) (same_text a b h).bare ∙ (ap (λ vs. y.Domain (bare_name b ∷ vs)) j.bare ∙ sym (bare_type_of _ (y.rolls-Domain (b ∷ zs)))));
     words = type_words-Domain (a ∷ xs) ∙ (ap (λ text. between_braces (constant text ∷ names_words xs)) h ∙ (ap (λ ws. between_braces (name_word b ∷ ws)) j.words ∙ sym (type_words-Domain (b ∷ zs))));
   }
 

@@ -35,17 +35,6 @@ place_within table (Some at) h = slice_get_within table.used at.0 h.used.0 h.use
 
 -- ---- dimensions
 
--- a dimension's line was added, piece by piece
-pub dim_done : (dim : DimType) (m : Record) (name : List ℕ) (types : List (List ℕ × Ty)) (said : Record) (p began marked named opened listed closed : Printer) → name ≡ dim.name → types ≡ dim.fields → said ≡ m
-    → began ≡ begun [] p → marked ≡ put_mark k.Dim began → named ≡ put (constant name ∷ []) marked → opened ≡ put_mark k.LeftBrace named → listed ≡ put (features_words (fields_of (typed types)) said) opened → closed ≡ put_mark k.RightBrace listed
-    → ended closed ≡ put_lines (dim_line dim m ∷ []) p
-dim_done dim m name types said p began marked named opened listed closed name_is types_are same one two three four five six =
-    let words = features_words (fields_of (typed dim.fields)) m in
-    let before : opened ≡ put_mark k.LeftBrace (put (constant dim.name ∷ []) (put_mark k.Dim (begun [] p))) =
-    four ∙ ap (put_mark k.LeftBrace) (three ∙ ap₂ (λ n z. put (constant n ∷ []) z) name_is (two ∙ ap (put_mark k.Dim) one)) in
-    ap ended (six ∙ ap (put_mark k.RightBrace) (five ∙ ap₂ (λ ts ms. put (features_words (fields_of (typed ts)) ms) opened) types_are same ∙ ap (put words) before)
-    ∙ sym (put_append words (mark k.RightBrace ∷ []) (put_mark k.LeftBrace (put (constant dim.name ∷ []) (put_mark k.Dim (begun [] p))))))
-
 place_below : (bound : ℕ) (ks : List ℕ) (i : ℕ) → ArePlaces bound ks → i < length ks → get_or ks i 0 < bound
 place_below bound [] i h within = absurd (omega (arith, within))
 place_below bound (j ∷ ks) zero h within = h.0.0
@@ -100,12 +89,6 @@ unfolding dim_lines
 all_dims dims used records i p end past before = ap (λ us. put_lines (dim_lines dims us (drop i records)) p) (sym (drop_all i used past)) ∙ before
 
 -- ---- entries
-
-pub entry_done : (table : Table) (place : Option (ℕ × ℕ)) (n : ℕ) (entry : Entry) (word : List ℕ) (p q r : Printer) → word ≡ word_at place entry → q ≡ put_lines (entry_line n word ∷ []) p → r ≡ put_lines (dim_lines table.dims table.used entry) q
-    → put_lines (end_line ∷ []) r ≡ put_lines (entry_lines table place n entry) p
-entry_done table place n entry word p q r is one two =
-    ap (put_lines (end_line ∷ [])) (two ∙ ap (put_lines (dim_lines table.dims table.used entry)) (one ∙ ap (λ w. put_lines (entry_line n w ∷ []) p) is))
-    ∙ sym (put_lines_append (dim_lines table.dims table.used entry) (end_line ∷ []) (put_lines (entry_line n (word_at place entry) ∷ []) p))
 
 pub entry_at : (table : Table) (entries : List Entry) (i : ℕ) (entry : Entry) → AreEntries table entries → i < length entries → entry ≡ get_or entries i [] → IsEntry table entry
 entry_at table [] i entry h within is = absurd (omega (arith, within))

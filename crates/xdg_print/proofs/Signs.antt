@@ -92,9 +92,3 @@ all_from s is = is.whole
 pub cards_end : (s : List ℕ) (n : ℕ) (p start : Printer) → 128 ≤ n → IsCards s → put (map number (cards_from 128 s n)) p ≡ put (map number (cards_from 128 s 0)) start → p ≡ put (map number s) start
 cards_end s n p start over is before =
     ap (λ l. put (map number l) p) (sym (none_from 128 n s over)) ∙ before ∙ ap (λ l. put (map number l) start) (sym (all_from s is))
-
--- where no sign stands for them, the numbers in braces
-pub numbers_done : (ns : List ℕ) (told : Option Kind) (p hashed opened listed : Printer) → told ≡ None → told ≡ sign_for ns → hashed ≡ put_mark k.Hash p → opened ≡ put_mark k.LeftBrace hashed → listed ≡ put (map number ns) opened → put_mark k.RightBrace listed ≡ put (card_words ns) p
-numbers_done ns told p hashed opened listed none tells one two three =
-    ap (put_mark k.RightBrace) (three ∙ ap (put (map number ns)) (two ∙ ap (put_mark k.LeftBrace) one))
-    ∙ sym (ap (λ s. put (sign_or_numbers s ns) p) (sym tells ∙ none) ∙ put_braces (map number ns) (put_mark k.Hash p))

@@ -11,9 +11,9 @@ use Rattle.xdg_ast.specs.declared.grammar.DimPartKind.{DimPartKind}
 use Rattle.xdg_ast.specs.declared.grammar.StatementKind.{StatementKind}
 use Rattle.xdg_ast.specs.declared.grammar.StatementKind.TheVariants as s
 use Rattle.xdg_ast.specs.declared.grammar.Grammar.{Grammar}
-use Rattle.xdg_ast.specs.Grammar.{Params, params_of}
+use Rattle.xdg_ast.specs.Grammar.{params_of}
 use Rattle.xdg_ast.specs.Words.{mark}
-use Rattle.xdg_ast.specs.Trees.{name_word, in_braces, terms_words, expr_phrase}
+use Rattle.xdg_ast.specs.Trees.{name_word, in_braces, terms_words}
 use Rattle.xdg_ast.specs.Canon.{Line, line, indented, canon, principle_words, part_words, class_param_words, body_words, statement_words, statement_lines}
 use Rattle.xdg_print.specs.declared.printer.Printer.{Printer}
 use Rattle.xdg_print.specs.Printed.{put, put_lines, begun, ended, name_pairs_words, dim_lines}

@@ -1,24 +1,17 @@
 -- The words of terms and expressions, written one after the other.
-use Rattle.std.proofs.Common.{◌≡◌, List, flat_map, map, ap, sym, refl, ◌∙◌}
+use Rattle.std.proofs.Common.{◌≡◌, List, map, ap, sym, ◌∙◌}
 use Rattle.xdg_ast.specs.declared.token.Kind.{Kind}
-use Rattle.xdg_ast.specs.declared.token.Kind.TheVariants as k
-use Rattle.xdg_ast.specs.declared.names.Name.{Name}
 use Rattle.xdg_ast.specs.declared.names.Pair.{Pair}
 use Rattle.xdg_ast.specs.declared.names.Spanned.{Spanned}
 use Rattle.xdg_ast.specs.declared.terms.TermKind.{TermKind}
-use Rattle.xdg_ast.specs.declared.terms.TermKind.TheVariants as t
 use Rattle.xdg_ast.specs.declared.terms.ElemKind.{ElemKind}
-use Rattle.xdg_ast.specs.declared.terms.ElemKind.TheVariants as e
 use Rattle.xdg_ast.specs.declared.terms.GenKind.{GenKind}
-use Rattle.xdg_ast.specs.declared.terms.GenKind.TheVariants as g
 use Rattle.xdg_ast.specs.declared.expressions.ExprKind.{ExprKind}
-use Rattle.xdg_ast.specs.declared.expressions.ExprKind.TheVariants as x
 use Rattle.xdg_ast.specs.Grammar.{Params}
 use Rattle.xdg_ast.specs.Words.{Word}
-use Rattle.xdg_ast.specs.Trees.{Phrase, separated, in_conjunction, in_disjunction, names_words, gen_phrase, term_words, elem_words, pair_words, terms_words, expr_phrase}
+use Rattle.xdg_ast.specs.Trees.{Phrase, separated, in_conjunction, in_disjunction, gen_phrase, term_words, elem_words, pair_words, expr_phrase}
 use Rattle.xdg_print.specs.declared.printer.Printer.{Printer}
 use Rattle.xdg_print.specs.Printed.{put}
-use Rattle.xdg_print.proofs.Written.{put_mark, put_braces, put_square_brackets, enclosed}
 use Rattle.xdg_print.proofs.AgainTrees as form
 use Rattle.xdg_print.proofs.AgainTrees.{elem_words-Const, elem_words-Count, elem_words-Keyed, expr_phrase-And, expr_phrase-Dim, expr_phrase-Or, expr_phrase-Use, gen_phrase-And, gen_phrase-Const, gen_phrase-Or, term_words-Card, term_words-Const, term_words-Gen, term_words-Number, term_words-Param}
 use Rattle.xdg_facts.proofs.Lists.{fused}

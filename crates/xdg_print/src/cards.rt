@@ -81,6 +81,7 @@ fn put_numbers(printer: &mut Printer, cards: &CardSet) -> Result<(), OutOfMemory
 }
 
 /// Adds a cardinality: `!`, `?`, `*` or `+` where it is one of these, else `#{..}` with its numbers.
+#[tactic(auto, using(crate::proofs::Put::put_append))]
 pub(crate) fn put_cards(printer: &mut Printer, cards: &CardSet) -> Result<(), OutOfMemory>
     ensures { OnOk result (printer.new ≡ put (card_words cards.now) printer.old) }
 {

@@ -71,6 +71,7 @@ fn put_features(
 }
 
 /// Adds the line `dim D {..}`.
+#[tactic(auto, using(crate::proofs::Put::put_append))]
 fn put_dim_line(printer: &mut Printer, dim: &DimType, said: &Fields) -> Result<(), OutOfMemory>
     requires right { AreTypes (fields_of (typed dim.now.fields)) }
     requires said { EachSaid (IsFieldOf (fields_of (typed dim.now.fields))) said.now }
@@ -122,6 +123,7 @@ fn put_entries_line(printer: &mut Printer, count: u32) -> Result<(), OutOfMemory
 }
 
 /// Adds the lines of an entry with this number.
+#[tactic(auto, using(crate::proofs::Put::put_lines_append))]
 fn put_entry(
     printer: &mut Printer,
     types: &TypeTable,
