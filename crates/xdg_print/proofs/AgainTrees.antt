@@ -27,7 +27,7 @@ use Rattle.xdg_ast.specs.declared.expressions.ExprKind.TheFolds.{fold-roll-ExprK
 use Rattle.xdg_ast.specs.Grammar.{Params}
 use Rattle.xdg_ast.specs.Words.{Word, mark, number}
 use Rattle.xdg_ast.specs.Trees.{name_word, names_words, in_braces, in_parentheses, in_square_brackets, Phrase, conjoined, disjoined, plainly, card_words, gen_step, gen_phrase, constant_in, elem_step, term_step, elem_words, term_words, pair_words, terms_words, args_words, expr_step, expr_phrase, type_step, type_words}
-use Rattle.xdg_ast.specs.Same.{bare_part, bare_name, bare_names, bare_option, bare_card, bare_gen_step, bare_gen, bare_elem_step, bare_term_step, bare_elem, bare_term, bare_terms, bare_expr_step, bare_expr, bare_type_step, bare_type}
+use Rattle.xdg_ast.specs.Same.{bare_gen_step, bare_gen, bare_elem_step, bare_term_step, bare_elem, bare_term, bare_expr_step, bare_expr, bare_type_step, bare_type}
 use Rattle.xdg_facts.proofs.Lists.{fused}
 
 -- ---- a function of what stands in a place

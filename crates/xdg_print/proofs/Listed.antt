@@ -3,11 +3,8 @@ use Rattle.std.proofs.Common.{◌≡◌, ℕ, zero, suc, ◌<◌, ◌≤◌, ◌
 use Rattle.std.specs.Prelude.{IfSome}
 use Rattle.std.proofs.lemmas.List.{drop_all}
 use Rattle.std.proofs.lemmas.Option.{slice_get_read, slice_get-get_or, slice_get_within}
-use Rattle.xdg_ast.specs.declared.token.Kind.TheVariants as k
-use Rattle.xdg_ast.specs.Words.{mark, constant}
 use Rattle.xdg_domain.specs.Shapes.{fields, fields_of, AreTypes}
 use Rattle.xdg_domain.specs.Values.{EachSaid, IsFieldOf, IsIn}
-use Rattle.xdg_domain.specs.declared.types.Ty.{Ty}
 use Rattle.xdg_domain.specs.declared.values.Value.{out-Value}
 use Rattle.xdg_domain.specs.declared.values.Value.TheVariants as v
 use Rattle.xdg_types.specs.declared.table.DimType.{DimType}
@@ -15,11 +12,9 @@ use Rattle.xdg_types.specs.Table.{Table, Typed, typed, AreFeatures, KeepsDim, Ke
 use Rattle.xdg_packed.specs.Lexicon.{Record, Entry}
 use Rattle.xdg_packed.specs.Entries.{IsEntry, AreEntries, TellsWordPlace}
 use Rattle.xdg_print.specs.declared.printer.Printer.{Printer}
-use Rattle.xdg_print.specs.Printed.{put, put_lines, begun, ended}
-use Rattle.xdg_print.proofs.Put.{put_append, put_lines_append, text_of_lines}
-use Rattle.xdg_print.proofs.Written.{put_mark}
-use Rattle.xdg_print.specs.LexiconText.{dim_line, dim_line_at, dim_lines, end_line, entries_line, entry_line, entry_lines, entries_lines, lexicon_lines, lexicon_text, word_at}
-use Rattle.xdg_print.specs.ValueWords.{features_words}
+use Rattle.xdg_print.specs.Printed.{put_lines}
+use Rattle.xdg_print.proofs.Put.{put_lines_append, text_of_lines}
+use Rattle.xdg_print.specs.LexiconText.{dim_line, dim_line_at, dim_lines, entries_line, entry_lines, entries_lines, lexicon_lines, lexicon_text}
 use Rattle.xdg_print.specs.WordPlaces.{place_of_word}
 use Rattle.xdg_facts.proofs.Lists.{from_place, any_default}
 

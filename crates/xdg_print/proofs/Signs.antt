@@ -1,19 +1,15 @@
 -- Cardinalities that a sign stands for, and the numbers of the others.
 use Rattle.std.proofs.Common.{◌≡◌, ℕ, suc, ◌<◌, ◌≤◌, ◌+◌, ◌-◌, List, [], ◌∷◌, Bool, true, false, cond, nat_lt, map, filter, refl, sym, ap, ◌∙◌, true≢false, inl, inr, arith}
-use Rattle.std.specs.Prelude.{◌↔◌, ◌||◌, ◌==◌, Option, None}
+use Rattle.std.specs.Prelude.{◌↔◌, ◌||◌, ◌==◌}
 use Rattle.std.specs.List.{range_with_len}
 use Rattle.std.specs.Str.{bytes_eq}
 use Rattle.std.proofs.lemmas.Bool.Decides.{same_from_decides, Decides-ltb}
 use Rattle.std.proofs.lemmas.Bool.{cases_eq, eq-eqb, ne_eqb}
 use Rattle.std.proofs.lemmas.Slice.Eq.{bytes_eq-Decides}
-use Rattle.xdg_ast.specs.declared.token.Kind.{Kind}
-use Rattle.xdg_ast.specs.declared.token.Kind.TheVariants as k
 use Rattle.xdg_ast.specs.Words.{number}
 use Rattle.xdg_domain.specs.Cards.{cards, with_card, IsCards}
 use Rattle.xdg_print.specs.declared.printer.Printer.{Printer}
 use Rattle.xdg_print.specs.Printed.{put}
-use Rattle.xdg_print.proofs.Written.{put_mark, put_braces}
-use Rattle.xdg_print.specs.ValueWords.{sign_for, sign_or_numbers, card_words}
 use Rattle.xdg_facts.proofs.Truths.{or_true}
 use Rattle.xdg_facts.specs.Rises.{has, numbers_below}
 use Rattle.xdg_facts.proofs.Rising.{numbers_agree, has_of}
