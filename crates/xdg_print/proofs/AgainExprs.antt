@@ -7,13 +7,13 @@ use Rattle.xdg_ast.specs.declared.expressions.ExprKind.TheVariants as x
 use Rattle.xdg_ast.specs.Language.{is, token, nothing, optional}
 use Rattle.xdg_ast.specs.Grammar.{Params, Term, Expr, in_parentheses, inside, under, braced_terms, dim, use_of_class, prim, next_prim, prims, conj, next_conj, conjs, expr, at_span}
 use Rattle.xdg_ast.specs.Words.{Word, mark}
-use Rattle.xdg_ast.specs.Trees.{name_word, terms_words, args_words, expr_phrase, plainly, Phrase}
+use Rattle.xdg_ast.specs.Trees.{name_word, terms_words, args_words, expr_phrase, plainly}
 use Rattle.xdg_ast.specs.Same.{nowhere, bare_part, bare_name, bare_option, bare_terms, bare_expr}
 use Rattle.xdg_print.proofs.AgainTrees.{expr_phrase-Dim, expr_phrase-Use, bare_expr_of}
-use Rattle.xdg_print.proofs.AgainWritten.{Written, weaker, written_in, token_written, left_written, made_written, both_written, Gives, stronger, both_given, behind_gives, either_gives}
+use Rattle.xdg_print.proofs.AgainWritten.{Written, written_in, token_written, left_written, made_written, both_written, Gives, stronger, both_given, behind_gives, either_gives}
 use Rattle.xdg_print.proofs.AgainNames.{Keeps, name_words, name_keeps}
 use Rattle.xdg_print.proofs.AgainKept.{behind_keeps, pair_keeps, option_words, optional_keeps}
-use Rattle.xdg_print.proofs.AgainPhrases.{Natural, GoodPrim, as_disj, in_brackets, plain_gives, disj_gives}
+use Rattle.xdg_print.proofs.AgainPhrases.{Natural, GoodPrim, as_disj, disj_keeps, in_brackets, plain_gives, disj_gives}
 use Rattle.xdg_print.proofs.AgainLevels.{exprs, Depth, nested_gives, nested_written, braces_keep}
 
 -- a member behind a sign
@@ -81,7 +81,4 @@ module _ {params : Params} {m n : ℕ} (depth : Depth params m n) where
 
   pub expr_keeps : Keeps (expr (under params m)) (expr (under params n)) (bare_part bare_expr) (expr_words params)
   unfolding expr conjs conj prims next_conj
-  expr_keeps = record {
-    all = stronger expr_gives (λ x h. weaker (as_disj (exprs params) (prim (under params n)) (next_prim (under params n)) (next_written params n) x h)
-        (λ y i. record { bare = i.bare; words = ap (λ (ph : Phrase). ph.words) i.words }));
-  }
+  expr_keeps = disj_keeps (exprs params) (prim (under params n)) (next_prim (under params n)) (next_written params n) expr_gives

@@ -10,7 +10,7 @@ use Rattle.xdg_ast.specs.Language.{Language, is, token, many, spanned, made, beh
 use Rattle.xdg_ast.specs.Grammar.{at_span}
 use Rattle.xdg_ast.specs.Words.{Word, mark}
 use Rattle.xdg_ast.specs.Trees.{in_parentheses, Form, single, conjunction, disjunction, Phrase, in_conjunction, in_disjunction, each_behind, separated, conjoined, disjoined, plainly}
-use Rattle.xdg_print.proofs.AgainWritten.{Written, at_words, both_written, behind_written, spanned_written, made_written, written_in, Each, InTurn, many_written, no_tokens, Gives, both_gives, behind_gives, many_gives, spanned_gives, made_gives}
+use Rattle.xdg_print.proofs.AgainWritten.{Written, weaker, stronger, at_words, both_written, behind_written, spanned_written, made_written, written_in, Each, InTurn, many_written, no_tokens, Gives, both_gives, behind_gives, many_gives, spanned_gives, made_gives}
 use Rattle.xdg_facts.proofs.Lists.{fused}
 use Rattle.xdg_print.proofs.AgainNames.{Like, Kept, Keeps, likes_bare, likes_map}
 
@@ -172,6 +172,10 @@ module _ {A B : Type 0} (j : Joining A B) (p np : Language A) (next : (ws : List
   disj_gives q nq a b =
       let c = conj_gives q nq a b in
       spanned_gives {G = Several (GoodConj j p np)} (both_gives c (many_gives (behind_gives (token (is k.Bar)) c)) (λ x xs g h. (g, h))) any_good
+
+  -- what is read of the whole is kept, whatever stands around it
+  pub disj_keeps : {l : Language A} → Gives l (Natural j p np) → Keeps l (disj_of j p np) j.bare (λ x. (j.phrase x).words)
+  disj_keeps a = record { all = stronger a (λ x h. weaker (as_disj x h) (λ y i. record { bare = i.bare; words = ap (λ (ph : Phrase). ph.words) i.words })) }
 
 -- ---- members of one part
 

@@ -7,13 +7,13 @@ use Rattle.xdg_ast.specs.declared.terms.GenKind.TheVariants as g
 use Rattle.xdg_ast.specs.Language.{is, token}
 use Rattle.xdg_ast.specs.Grammar.{Params, Gen, in_parentheses, inside, under, names, nums, interval, bracketed_names, hashed, card_kind, card, gprim, next_gprim, gprims, gconj, next_gconj, gconjs, gen, at_span}
 use Rattle.xdg_ast.specs.Words.{Word, mark, number}
-use Rattle.xdg_ast.specs.Trees.{names_words, card_words, gen_phrase, in_square_brackets as bracketed_words, Phrase}
+use Rattle.xdg_ast.specs.Trees.{names_words, card_words, gen_phrase, in_square_brackets as bracketed_words}
 use Rattle.xdg_ast.specs.Same.{nowhere, bare_part, bare_name, bare_names, bare_num, bare_card, bare_gen}
 use Rattle.xdg_print.proofs.AgainTrees.{gen_phrase-Const, bare_gen_of}
-use Rattle.xdg_print.proofs.AgainWritten.{Written, weaker, written_in, behind_written, Gives, stronger, both_given, behind_gives, either_gives}
+use Rattle.xdg_print.proofs.AgainWritten.{Written, written_in, behind_written, Gives, stronger, both_given, behind_gives, either_gives}
 use Rattle.xdg_print.proofs.AgainNames.{Keeps, name_words, names_keeps, name_keeps, num_keeps, nums_keeps}
 use Rattle.xdg_print.proofs.AgainKept.{sign_keeps, signed_keeps, unsigned_keeps, either_keeps, pair_keeps, spanned_keeps}
-use Rattle.xdg_print.proofs.AgainPhrases.{Natural, GoodPrim, as_disj, in_brackets, plain_gives, disj_gives}
+use Rattle.xdg_print.proofs.AgainPhrases.{Natural, GoodPrim, as_disj, disj_keeps, in_brackets, plain_gives, disj_gives}
 use Rattle.xdg_print.proofs.AgainLevels.{gens, Depth, nested_gives, nested_written, braces_keep, square_brackets_keep}
 
 abbrev num_pair : Num × Num → Num × Num
@@ -86,7 +86,4 @@ module _ {params : Params} {m n : ℕ} (depth : Depth params m n) where
 
   pub gen_keeps : Keeps (gen (under params m)) (gen (under params n)) (bare_part bare_gen) gen_words
   unfolding gen gconjs gconj gprims next_gconj
-  gen_keeps = record {
-    all = stronger gen_gives
-        (λ x h. weaker (as_disj gens (gprim (under params n)) (next_gprim (under params n)) (next_written params n) x h) (λ y i. record { bare = i.bare; words = ap (λ (ph : Phrase). ph.words) i.words }));
-  }
+  gen_keeps = disj_keeps gens (gprim (under params n)) (next_gprim (under params n)) (next_written params n) gen_gives

@@ -135,12 +135,6 @@ Class = Name × Tail
 abbrev BareClass : Type 0
 BareClass = (Name × Tail) × List Word
 
-abbrev class_words : Class → List Word
-class_words said = mark k.DefClass ∷ (name_words said.0 ++ tail_words said.1)
-
-abbrev bare_class : Class → Class
-bare_class said = (bare_name said.0, bare_tail said.1)
-
 abbrev BareBody : Type 0
 BareBody = Expr × List Word
 

@@ -19,7 +19,7 @@ use Rattle.xdg_print.proofs.Written.{put_mark}
 use Rattle.xdg_types.specs.Table.{typed}
 use Rattle.xdg_print.specs.Defaulted.{is_default}
 use Rattle.xdg_print.specs.ValueWords.{member_words, card_words, counted_words, keyed_words, words_in, words_of, field_words}
-use Rattle.xdg_print.proofs.Layered.{of_map, of_record}
+use Rattle.xdg_print.proofs.Layered.{at_place, of_map, of_record}
 use Rattle.xdg_print.proofs.Stood.{braces_done}
 
 -- ---- maps
@@ -65,9 +65,7 @@ field_there (f ∷ types) zero x h = omega arith
 field_there (f ∷ types) (suc place) x h = let later = field_there types place x h in omega (arith, later)
 
 pub type_at : (types : List (List ℕ × Ty)) (place : ℕ) (field : List ℕ × Ty) → AreTypes (fields_of (typed types)) → place < length types → field ≡ get_or types place field → IsType (shape field.1)
-type_at [] place field h within is = absurd (omega (arith, within))
-type_at (f ∷ types) zero field h within is = subst (λ g. IsType (shape g.1)) (sym is) h.0
-type_at (f ∷ types) (suc place) field h within is = type_at types place field h.1 (omega (arith, within)) is
+type_at = at_place (λ types. AreTypes (fields_of (typed types))) (λ field. IsType (shape field.1)) (λ _ _ h. h)
 
 words_at : (types : List (List ℕ × Ty)) (place : ℕ) (x : Value) (field : List ℕ × Ty) → place < length types → field ≡ get_or types place field → field_words (fields_of (typed types)) place x ≡ constant field.0 ∷ mark k.Colon ∷ words_of (shape field.1) x
 words_at [] place x field within is = absurd (omega (arith, within))

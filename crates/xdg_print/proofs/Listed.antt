@@ -1,5 +1,5 @@
 -- The lines of the lexicon, put one after the other.
-use Rattle.std.proofs.Common.{◌≡◌, ℕ, zero, suc, ◌<◌, ◌≤◌, ◌+◌, List, [], ◌∷◌, length, get_or, slice_get, drop, Option, Some, None, refl, sym, ap, ap₂, ◌∙◌, subst, arith}
+use Rattle.std.proofs.Common.{◌≡◌, ℕ, ◌<◌, ◌≤◌, ◌+◌, List, [], ◌∷◌, length, get_or, slice_get, drop, Option, Some, None, refl, sym, ap, ap₂, ◌∙◌, subst, arith}
 use Rattle.std.specs.Prelude.{IfSome}
 use Rattle.std.proofs.lemmas.List.{drop_all}
 use Rattle.std.proofs.lemmas.Option.{slice_get_read, slice_get-get_or, slice_get_within}
@@ -13,6 +13,7 @@ use Rattle.xdg_packed.specs.Lexicon.{Record, Entry}
 use Rattle.xdg_packed.specs.Entries.{IsEntry, AreEntries, TellsWordPlace}
 use Rattle.xdg_print.specs.declared.printer.Printer.{Printer}
 use Rattle.xdg_print.specs.Printed.{put_lines}
+use Rattle.xdg_print.proofs.Layered.{at_place}
 use Rattle.xdg_print.proofs.Put.{put_lines_append, text_of_lines}
 use Rattle.xdg_print.specs.LexiconText.{dim_line, dim_line_at, dim_lines, entries_line, entry_lines, entries_lines, lexicon_lines, lexicon_text}
 use Rattle.xdg_print.specs.WordPlaces.{place_of_word}
@@ -30,20 +31,14 @@ place_within table (Some at) h = slice_get_within table.used at.0 h.used.0 h.use
 
 -- ---- dimensions
 
-place_below : (bound : ℕ) (ks : List ℕ) (i : ℕ) → ArePlaces bound ks → i < length ks → get_or ks i 0 < bound
-place_below bound [] i h within = absurd (omega (arith, within))
-place_below bound (j ∷ ks) zero h within = h.0.0
-place_below bound (j ∷ ks) (suc i) h within = place_below bound ks i h.1 (omega (arith, within))
-
 -- the place of a used dimension is one of a dimension
 pub used_below : (table : Table) (dims : List DimType) (used : List ℕ) (i : ℕ) → IsTable table → dims ≡ table.dims → used ≡ table.used → i < length used → get_or used i 0 < length dims
 used_below table dims used i h same lent within =
-    place_below (length dims) used i (subst (λ n. ArePlaces n used) (ap length (sym same)) (subst (ArePlaces (length table.dims)) (sym lent) h.used)) within
+    let places = subst (λ n. ArePlaces n used) (ap length (sym same)) (subst (ArePlaces (length table.dims)) (sym lent) h.used) in
+    at_place (ArePlaces (length dims)) (λ k. k < length dims) (λ _ _ h. (h.0.0, h.1)) used i (get_or used i 0) places within (any_default used i 0 (get_or used i 0) within)
 
-kept_at : (dims : List DimType) (i : ℕ) (dim : DimType) → KeepDims dims → i < length dims → dim ≡ get_or dims i dim → KeepsDim dim
-kept_at [] i dim h within is = absurd (omega (arith, within))
-kept_at (d ∷ dims) zero dim h within is = subst KeepsDim (sym is) h.0
-kept_at (d ∷ dims) (suc i) dim h within is = kept_at dims i dim h.1 (omega (arith, within)) is
+pub kept_at : (dims : List DimType) (i : ℕ) (dim : DimType) → KeepDims dims → i < length dims → dim ≡ get_or dims i dim → KeepsDim dim
+kept_at = at_place KeepDims KeepsDim (λ _ _ h. h)
 
 types_of_features : (all : Typed) → AreFeatures all → AreTypes (fields_of all)
 types_of_features [] h = tt
@@ -86,9 +81,7 @@ all_dims dims used records i p end past before = ap (λ us. put_lines (dim_lines
 -- ---- entries
 
 pub entry_at : (table : Table) (entries : List Entry) (i : ℕ) (entry : Entry) → AreEntries table entries → i < length entries → entry ≡ get_or entries i [] → IsEntry table entry
-entry_at table [] i entry h within is = absurd (omega (arith, within))
-entry_at table (e ∷ entries) zero entry h within is = subst (IsEntry table) (sym is) h.0
-entry_at table (e ∷ entries) (suc i) entry h within is = entry_at table entries i entry h.1 (omega (arith, within)) is
+entry_at table entries i entry h within is = at_place (AreEntries table) (IsEntry table) (λ _ _ h. h) entries i entry h within (is ∙ any_default entries i [] entry within)
 
 -- the lines of the entry at a place were added
 pub next_entry : {q end : Printer} (p : Printer) (table : Table) (place : Option (ℕ × ℕ)) (entries : List Entry) (i : ℕ) (entry : Entry) → i < length entries → entry ≡ get_or entries i []

@@ -20,37 +20,37 @@ pub put_lines_append : (a b : List Line) (p : Printer) → put_lines (a ++ b) p 
 put_lines_append [] b p = refl
 put_lines_append (line ∷ a) b p = put_lines_append a b _
 
--- the words of the element at a place were added
+-- what the element at a place adds was added, where a list adds what its first element does and then what the others do
+pub next_by : {X : Type 0} {q end : Printer} (adds : List X → Printer → Printer) (one : X → Printer → Printer) → ((x : X) (xs : List X) (p : Printer) → adds (x ∷ xs) p ≡ adds xs (one x p))
+    → (p : Printer) (xs : List X) (i : ℕ) (x : X) → i < length xs → x ≡ get_or xs i x → adds (drop i xs) p ≡ end → q ≡ one x p → adds (drop (i + 1) xs) q ≡ end
+next_by adds one first p xs i x within is left added =
+    ap (adds (drop (i + 1) xs)) added ∙ sym (first x (drop (i + 1) xs) p) ∙ ap (λ z. adds z p) (sym (from_place xs i x within is)) ∙ left
+
+-- its words, its word, its line or its lines
 pub next_of : {X : Type 0} {q end : Printer} (p : Printer) (f : X → List Word) (xs : List X) (i : ℕ) (x : X) → i < length xs → x ≡ get_or xs i x → put (flat_map f (drop i xs)) p ≡ end → q ≡ put (f x) p → put (flat_map f (drop (i + 1) xs)) q ≡ end
-next_of {X} {q} {end} p f xs i x within is left added =
-    ap (put (flat_map f (drop (i + 1) xs))) added ∙ sym (put_append (f x) (flat_map f (drop (i + 1) xs)) p)
-    ∙ ap (λ z. put (flat_map f z) p) (sym (from_place xs i x within is)) ∙ left
+next_of p f = next_by (λ xs. put (flat_map f xs)) (λ x. put (f x)) (λ x xs. put_append (f x) (flat_map f xs)) p
 
--- the word of the element at a place was added
 pub next_word : {X : Type 0} {q end : Printer} (p : Printer) (f : X → Word) (xs : List X) (i : ℕ) (x : X) → i < length xs → x ≡ get_or xs i x → put (map f (drop i xs)) p ≡ end → q ≡ put (f x ∷ []) p → put (map f (drop (i + 1) xs)) q ≡ end
-next_word {X} {q} {end} p f xs i x within is left added =
-    ap (put (map f (drop (i + 1) xs))) added ∙ ap (λ z. put (map f z) p) (sym (from_place xs i x within is)) ∙ left
+next_word p f = next_by (λ xs. put (map f xs)) (λ x. put (f x ∷ [])) (λ _ _ _. refl) p
 
--- the line of the element at a place was added
 pub next_line : {X : Type 0} {q end : Printer} (p : Printer) (f : X → Line) (xs : List X) (i : ℕ) (x : X) → i < length xs → x ≡ get_or xs i x → put_lines (map f (drop i xs)) p ≡ end → q ≡ put_lines (f x ∷ []) p → put_lines (map f (drop (i + 1) xs)) q ≡ end
-next_line {X} {q} {end} p f xs i x within is left added =
-    ap (put_lines (map f (drop (i + 1) xs))) added ∙ ap (λ z. put_lines (map f z) p) (sym (from_place xs i x within is)) ∙ left
+next_line p f = next_by (λ xs. put_lines (map f xs)) (λ x. put_lines (f x ∷ [])) (λ _ _ _. refl) p
 
--- the lines of the element at a place were added
 pub next_lines : {X : Type 0} {q end : Printer} (p : Printer) (f : X → List Line) (xs : List X) (i : ℕ) (x : X) → i < length xs → x ≡ get_or xs i x → put_lines (flat_map f (drop i xs)) p ≡ end → q ≡ put_lines (f x) p → put_lines (flat_map f (drop (i + 1) xs)) q ≡ end
-next_lines {X} {q} {end} p f xs i x within is left added =
-    ap (put_lines (flat_map f (drop (i + 1) xs))) added ∙ sym (put_lines_append (f x) (flat_map f (drop (i + 1) xs)) p)
-    ∙ ap (λ z. put_lines (flat_map f z) p) (sym (from_place xs i x within is)) ∙ left
+next_lines p f = next_by (λ xs. put_lines (flat_map f xs)) (λ x. put_lines (f x)) (λ x xs. put_lines_append (f x) (flat_map f xs)) p
 
 -- where no element is left, all were added
+pub all_by : {X : Type 0} {end : Printer} (adds : List X → Printer → Printer) → ((p : Printer) → adds [] p ≡ p) → (p : Printer) (xs : List X) (i : ℕ) → length xs ≤ i → adds (drop i xs) p ≡ end → p ≡ end
+all_by adds none p xs i beyond left = sym (none p) ∙ ap (λ z. adds z p) (sym (drop_all i xs beyond)) ∙ left
+
 pub all_of : {X : Type 0} {end : Printer} (p : Printer) (f : X → List Word) (xs : List X) (i : ℕ) → length xs ≤ i → put (flat_map f (drop i xs)) p ≡ end → p ≡ end
-all_of p f xs i beyond left = ap (λ z. put (flat_map f z) p) (sym (drop_all i xs beyond)) ∙ left
+all_of p f = all_by (λ xs. put (flat_map f xs)) (λ _. refl) p
 
 pub all_lines : {X : Type 0} {end : Printer} (p : Printer) (f : X → Line) (xs : List X) (i : ℕ) → length xs ≤ i → put_lines (map f (drop i xs)) p ≡ end → p ≡ end
-all_lines p f xs i beyond left = ap (λ z. put_lines (map f z) p) (sym (drop_all i xs beyond)) ∙ left
+all_lines p f = all_by (λ xs. put_lines (map f xs)) (λ _. refl) p
 
 pub all_of_lines : {X : Type 0} {end : Printer} (p : Printer) (f : X → List Line) (xs : List X) (i : ℕ) → length xs ≤ i → put_lines (flat_map f (drop i xs)) p ≡ end → p ≡ end
-all_of_lines p f xs i beyond left = ap (λ z. put_lines (flat_map f z) p) (sym (drop_all i xs beyond)) ∙ left
+all_of_lines p f = all_by (λ xs. put_lines (flat_map f xs)) (λ _. refl) p
 
 -- what is known of the last piece
 pub finish : {a b : Printer} (r : Result (Unit {0}) AllocError) (new : Printer) → a ≡ b → OnOk r (new ≡ a) → OnOk r (new ≡ b)

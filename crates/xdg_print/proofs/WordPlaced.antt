@@ -1,18 +1,19 @@
 -- There is one place of the words, which both ways to find it give.
 use Rattle.std.proofs.Common.{◌≡◌, ℕ, zero, suc, ◌+◌, List, [], ◌∷◌, Bool, true, false, cond, length, get_or, slice_get, map, Option, Some, None, codes, refl, sym, ap, ap₂, ◌∙◌, subst, inl, inr, true≢false, arith}
-use Rattle.std.specs.Prelude.{◌&&◌}
 use Rattle.std.specs.List.{position_from}
 use Rattle.std.specs.Str.{bytes_eq}
-use Rattle.std.proofs.lemmas.Option.{get_or_from_slice_get}
+use Rattle.std.proofs.lemmas.Bool.{and_parts}
+use Rattle.std.proofs.lemmas.Option.{get_or_from_slice_get, slice_get_within}
 use Rattle.std.proofs.lemmas.Slice.Eq.{bytes_eq-Decides}
 use Rattle.xdg_domain.specs.Shapes.{Shape, text}
 use Rattle.xdg_domain.specs.declared.types.Ty.{Ty}
 use Rattle.xdg_types.specs.declared.table.DimType.{DimType}
-use Rattle.xdg_types.specs.Table.{Table, Typed, typed, firsts, KeepsDim, KeepDims, IsTable}
+use Rattle.xdg_types.specs.Table.{Table, Typed, typed, firsts, IsTable}
 use Rattle.xdg_packed.specs.Entries.{IsWordPlace, TellsWordPlace}
 use Rattle.xdg_print.specs.WordPlaces.{is_text, is_word, is_lex, features, with_field, in_dim, place_of_word}
 use Rattle.xdg_facts.specs.Membership.{In, Differ}
 use Rattle.xdg_types.proofs.Places.{places_once}
+use Rattle.xdg_print.proofs.Listed.{kept_at}
 
 -- ---- the first that passes a test
 
@@ -58,11 +59,6 @@ differ_apart f (z ∷ xs) zero (suc j) x y h a b same = let is : z ≡ x = cc in
 differ_apart f (z ∷ xs) (suc i) zero x y h a b same = let is : z ≡ y = cc in absurd (h.0 (among_at f xs i x (f z) a (same ∙ sym (ap f is))))
 differ_apart f (z ∷ xs) (suc i) (suc j) x y h a b same = ap suc (differ_apart f xs i j x y h.1 a b same)
 
-kept : (dims : List DimType) (k : ℕ) (dim : DimType) → KeepDims dims → slice_get dims k ≡ Some dim → KeepsDim dim
-kept [] k dim h at = absurd (cc)
-kept (d ∷ dims) zero dim h at = let same : d ≡ dim = cc in subst KeepsDim same h.0
-kept (d ∷ dims) (suc k) dim h at = kept dims k dim h.1 at
-
 typed_names : (all : List (List ℕ × Ty)) → map (λ one. one.0) (typed all) ≡ firsts all
 typed_names [] = refl
 typed_names (one ∷ all) = ap (λ names. one.0 ∷ names) (typed_names all)
@@ -77,12 +73,8 @@ text_alone : (s : Shape) → is_text s ≡ true → s ≡ text
 text_alone text h = refl
 text_alone _ h = absurd (true≢false (sym h))
 
-both : (a b : Bool) → (a && b) ≡ true → (a ≡ true) × (b ≡ true)
-both true b h = (refl, h)
-both false b h = absurd (true≢false (sym h))
-
 is_word_true : (one : List ℕ × Shape) → is_word one ≡ true → (one.0 ≡ codes "word") × (one.1 ≡ text)
-is_word_true one h = let parts = both (bytes_eq one.0 (codes "word")) (is_text one.1) h in ((bytes_eq-Decides one.0 (codes "word")).0 parts.0, text_alone one.1 parts.1)
+is_word_true one h = let parts = and_parts (bytes_eq one.0 (codes "word")) (is_text one.1) h in ((bytes_eq-Decides one.0 (codes "word")).0 parts.0, text_alone one.1 parts.1)
 
 abbrev lex_test : Table → ℕ → Bool
 lex_test table k = is_lex (slice_get table.dims k)
@@ -113,7 +105,8 @@ placed : (table : Table) → IsTable table → (d f : ℕ) → IsWordPlace table
 unfolding place_of_word
 placed table h d f w =
     let stands : slice_get table.dims (get_or table.used d 0) ≡ Some w.lex = ap (slice_get table.dims) (get_or_from_slice_get table.used d w.used.0 0 w.used.1.0) ∙ w.used.1.1 in
-    let names = subst Differ (sym (typed_names w.lex.fields)) (kept table.dims w.used.0 w.lex h.dims w.used.1.1).fields in
+    let kept = kept_at table.dims w.used.0 w.lex h.dims (slice_get_within table.dims w.used.0 w.lex w.used.1.1) (sym (get_or_from_slice_get table.dims w.used.0 w.lex w.lex w.used.1.1)) in
+    let names = subst Differ (sym (typed_names w.lex.fields)) kept.fields in
     ap (in_dim table) (dim_place table h d f w (position_from (lex_test table) 0 table.used) refl)
     ∙ ap (λ o. with_field d (position_from is_word 0 (features o))) stands
     ∙ ap (with_field d) (field_place (typed w.lex.fields) f names w.word (position_from is_word 0 (typed w.lex.fields)) refl)

@@ -20,9 +20,6 @@ put_mark kind p = put (mark kind ∷ []) p
 pub put_braces : (words : List Word) (p : Printer) → put (in_braces words) p ≡ put_mark k.RightBrace (put words (put_mark k.LeftBrace p))
 put_braces words p = put_append words (mark k.RightBrace ∷ []) (put_mark k.LeftBrace p)
 
-pub put_parentheses : (words : List Word) (p : Printer) → put (in_parentheses words) p ≡ put_mark k.RightParenthesis (put words (put_mark k.LeftParenthesis p))
-put_parentheses words p = put_append words (mark k.RightParenthesis ∷ []) (put_mark k.LeftParenthesis p)
-
 pub put_square_brackets : (words : List Word) (p : Printer) → put (in_square_brackets words) p ≡ put_mark k.RightBracket (put words (put_mark k.LeftBracket p))
 put_square_brackets words p = put_append words (mark k.RightBracket ∷ []) (put_mark k.LeftBracket p)
 
