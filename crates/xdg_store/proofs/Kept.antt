@@ -1,7 +1,6 @@
 -- What a store keeps of edges by their daughters, over its calls.
-use Rattle.std.proofs.Common.{◌≡◌, ◌≢◌, ◌⊎◌, ℕ, ◌<◌, ◌≤◌, ◌+◌, ◌-◌, ◌*◌, ◌↔◌, inl, inr, Bool, false, not, IsTrue, List, [], length, get_or, set, drop, take, replicate, refl, ap, sym, ◌∙◌, arith, subst, zero, suc}
+use Rattle.std.proofs.Common.{◌≡◌, ◌≢◌, ℕ, ◌<◌, ◌≤◌, ◌+◌, ◌-◌, ◌*◌, ◌↔◌, inl, inr, Bool, false, not, IsTrue, List, [], length, get_or, set, drop, take, replicate, refl, ap, sym, ◌∙◌, arith, subst}
 use Rattle.std.specs.Prelude.{All}
-use Rattle.std.proofs.lemmas.Bool.{cases_eq}
 use Rattle.std.proofs.lemmas.Nat.{row_fits}
 use Rattle.std.proofs.lemmas.List.{get_or_default, get_or-drop, get_or-set_other, get_or-set_same, get_or-take, length-drop, length-take-le}
 use Rattle.std.proofs.lemmas.Option.{slice_get-get_or}
@@ -25,7 +24,7 @@ use Rattle.xdg_store.specs.InRange.{HasEdges}
 use Rattle.xdg_store.specs.Labels.{AreTold}
 use Rattle.xdg_store.specs.declared.labels.LabelsInto.{LabelsInto}
 use Rattle.xdg_store.specs.Layout.{bit_count, bits_of, box_in, edge_bit, edge_row, is_set}
-use Rattle.xdg_store.specs.Naming.{AreSteps, IsStep, SameBut}
+use Rattle.xdg_store.specs.Naming.{AreSteps, SameBut}
 use Rattle.xdg_store.specs.States.{State, Keeps, Known, oldest}
 use Rattle.xdg_store.specs.declared.across.Mothers.{Mothers}
 use Rattle.xdg_store.specs.declared.change.Change.{Change}
@@ -34,7 +33,7 @@ use Rattle.xdg_store.specs.declared.decision.Decision.{Decision}
 use Rattle.xdg_store.specs.declared.decision.Decision.TheVariants as decisions
 use Rattle.xdg_store.proofs.Renewed.{daughter_is, kept_beside}
 use Rattle.xdg_store.proofs.Boxed.{has_place}
-use Rattle.xdg_store.proofs.Noting.{IsOneStep, Leaves, LeavesOne, one_step}
+use Rattle.xdg_store.proofs.Noting.{IsOneStep, Leaves, LeavesOne, one_step, same_or_named}
 use Rattle.xdg_store.proofs.Histories.{cut_last, history_cut, history_length, known_of, seen}
 use Rattle.xdg_store.proofs.Located.{edge_located, place_found}
 use Rattle.xdg_store.proofs.Pairs.{IsPair, edge_is_pair, may_has, may_read, must_has, must_read}
@@ -188,18 +187,6 @@ module _ (parts : Parts) (p : IsProblem parts) where
 
   -- ---- going back
 
-  module _ (history : List (List (List Bool))) (removed : List Decision) (each : (k : ℕ) → k < length removed → IsStep parts history removed k) (mark d : ℕ) (default : Decision) where
-    -- a decision is as it was, or one of those named
-    same_or_named : (n : ℕ) → mark + n ≤ length removed → (get_or (get_or history (mark + n) []) d [] ≡ get_or (get_or history mark []) d []) ⊎ ((k : ℕ) × (k < n) × (number_of parts (get_or removed (mark + k) default) ≡ d))
-    same_or_named zero l = inl (let q : mark + 0 ≡ mark = omega arith in ap (λ i. get_or (get_or history i []) d []) q)
-    same_or_named (suc n) l = elim (cases_eq d (number_of parts (get_or removed (mark + n) default))) [
-      | inl q ↦ inr (n, omega arith, sym q)
-      | inr f ↦ elim (same_or_named n (omega (arith, l))) [
-        | inl same ↦ inl (let q : mark + suc n ≡ (mark + n) + 1 = omega arith in ap (λ i. get_or (get_or history i []) d []) q ∙ (each (mark + n) (omega (arith, l)) default).1 d f ∙ same)
-        | inr (k, w, is) ↦ inr (k, omega (arith, w), is)
-      ]
-    ]
-
   -- the box at a mark
   undone_box : (t u : Trailed) (mark : ℕ) → mark ≤ length t.records → past u ≡ drop (length t.records - mark) (past t) → Known (seen parts u 0) → box_in (bits_of parts) u.words ≡ get_or (oldest (bits_of parts) (past t)) mark []
   undone_box t u mark l e known =
@@ -329,7 +316,7 @@ module _ {parts : Parts} {t : Trailed} {removed named : List Decision} {room n :
       let now_is : get_or history (mark + (length removed - mark)) [] ≡ box_in (bits_of parts) t.words = ap (λ i. get_or history i []) (sym end) ∙ now.last in
       record {
         long = (let a = kept.long in let b = renews.count in omega (arith, a, b));
-        each = λ e is. renews.each e (place_fits parts (length rows) e p is kept.long) (elim (same_or_named parts p history removed steps.each mark (edge_decision parts e) default (length removed - mark) (omega (arith, c, long, l))) [
+        each = λ e is. renews.each e (place_fits parts (length rows) e p is kept.long) (elim (same_or_named parts history removed steps.each mark (edge_decision parts e) default (length removed - mark) (omega (arith, c, long, l))) [
           | inl same ↦ inl (stays parts p e t.words u.words rows is (ap (λ b. get_or b (edge_decision parts e) []) then_is ∙ sym same ∙ ap (λ b. get_or b (edge_decision parts e) []) now_is) (kept.each e is))
           | inr (k, w, number) ↦
               let within : mark + k < length removed = omega (arith, w) in

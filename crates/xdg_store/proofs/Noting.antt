@@ -1,7 +1,7 @@
 -- Of which decisions values were removed.
-use Rattle.std.proofs.Common.{◌≡◌, ℕ, ◌<◌, ◌≤◌, ◌+◌, ◌-◌, inl, inr, Bool, true, false, List, [], ◌∷◌, ◌++◌, length, get_or, set, take, drop, ap, sym, ◌∙◌, arith, subst, zero, suc, length-append}
+use Rattle.std.proofs.Common.{◌≡◌, ◌⊎◌, ℕ, ◌<◌, ◌≤◌, ◌+◌, ◌-◌, inl, inr, Bool, false, List, [], ◌∷◌, ◌++◌, length, get_or, set, take, drop, ap, sym, ◌∙◌, arith, subst, zero, suc, length-append}
 use Rattle.std.specs.Prelude.{sum}
-use Rattle.std.proofs.lemmas.Bool.{cases_Bool, cases_eq, cases_lt}
+use Rattle.std.proofs.lemmas.Bool.{cases_eq, cases_lt}
 use Rattle.std.proofs.lemmas.List.{get_or_append_left, get_or_at, get_or_default, get_or-drop, get_or-set_other, get_or-take, length-drop, length-take-le}
 use Rattle.xdg_problem.specs.declared.parts.Parts.{Parts}
 use Rattle.xdg_problem.specs.Boxes.{Has}
@@ -135,24 +135,16 @@ module _ (parts : Parts) where
 
   -- ---- what is lost since a mark
 
-  module _ (history : List (List (List Bool))) (removed : List Decision) (each : (k : ℕ) → k < length removed → IsStep parts history removed k) (mark d v : ℕ) (default : Decision) where
-    lost_at : (n : ℕ) → mark + n ≤ length removed → Has (get_or history mark []) d v → (Has (get_or history (mark + n) []) d v → ⊥) → (k : ℕ) × (k < n) × (number_of parts (get_or removed (mark + k) default) ≡ d)
-    lost_at zero l h gone = absurd (gone (let q : mark ≡ mark + 0 = omega arith in subst (λ i. Has (get_or history i []) d v) q h))
-    lost_at (suc n) l h gone = elim (cases_Bool (get_or (get_or (get_or history (mark + n) []) d []) v false)) [
-      | inl there ↦ (
-        n,
-        omega arith,
-        elim (cases_eq d (number_of parts (get_or removed (mark + n) default))) [
-          | inl q ↦ sym q
-          | inr f ↦ absurd (gone (
-              let q : (mark + n) + 1 ≡ mark + suc n = omega arith in
-              subst (λ i. Has (get_or history i []) d v) q (ap (λ row. get_or row v false) ((each (mark + n) (omega (arith, l)) default).1 d f) ∙ there)
-              ))
-        ],
-      )
-      | inr no_more ↦
-          let f = lost_at n (omega (arith, l)) h (λ on. (let q : true ≡ false = sym on ∙ no_more in cc)) in
-          (f.0, (let w = f.1 in omega (arith, w)), f.2)
+  module _ (history : List (List (List Bool))) (removed : List Decision) (each : (k : ℕ) → k < length removed → IsStep parts history removed k) (mark d : ℕ) (default : Decision) where
+    -- a decision is as it was, or one of those named
+    pub same_or_named : (n : ℕ) → mark + n ≤ length removed → (get_or (get_or history (mark + n) []) d [] ≡ get_or (get_or history mark []) d []) ⊎ ((k : ℕ) × (k < n) × (number_of parts (get_or removed (mark + k) default) ≡ d))
+    same_or_named zero l = inl (let q : mark + 0 ≡ mark = omega arith in ap (λ i. get_or (get_or history i []) d []) q)
+    same_or_named (suc n) l = elim (cases_eq d (number_of parts (get_or removed (mark + n) default))) [
+      | inl q ↦ inr (n, omega arith, sym q)
+      | inr f ↦ elim (same_or_named n (omega (arith, l))) [
+        | inl same ↦ inl (let q : mark + suc n ≡ (mark + n) + 1 = omega arith in ap (λ i. get_or (get_or history i []) d []) q ∙ (each (mark + n) (omega (arith, l)) default).1 d f ∙ same)
+        | inr (k, w, is) ↦ inr (k, omega (arith, w), is)
+      ]
     ]
 
   pub names_since : (s : State) (removed : List Decision) (room mark : ℕ) → Known s → AreSteps parts s.history removed room → mark < length s.history → Names parts (get_or s.history mark []) s.now (drop mark removed)
@@ -164,11 +156,10 @@ module _ (parts : Parts) where
       let now : get_or s.history (mark + (length removed - mark)) [] ≡ s.now = ap (λ i. get_or s.history i []) (sym end) ∙ known.last in
       record {
         each = λ k d m. subst (IsDecision parts) (sym (get_or-drop mark removed k d)) (steps.each (mark + k) (omega (arith, m, len)) d).0;
-        all = λ d v h gone.
-            let f = lost_at s.history removed steps.each mark d v default (length removed - mark) (omega (arith, c, l)) h (λ on. gone (subst (λ b. Has b d v) now on)) in
-            let w = f.1 in
-            let x = get_or removed (mark + f.0) default in
-            (x, (f.0, omega (arith, w, len), get_or-drop mark removed f.0 x ∙ get_or_default removed (mark + f.0) x default (omega (arith, w))), f.2);
+        all = λ d v h gone. elim (same_or_named s.history removed steps.each mark d default (length removed - mark) (omega (arith, c, l))) [
+          | inl same ↦ absurd (gone (subst (λ b. Has b d v) now (ap (λ row. get_or row v false) same ∙ h)))
+          | inr (k, w, is) ↦ (let x = get_or removed (mark + k) default in (x, (k, omega (arith, w, len), get_or-drop mark removed k x ∙ get_or_default removed (mark + k) x default (omega (arith, w))), is))
+        ];
       }
 
 -- ---- as the code goes

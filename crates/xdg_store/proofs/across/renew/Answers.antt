@@ -21,6 +21,3 @@ returns-clause-renews c =
     renews_both c.args.nodes c.args.edge c.is_set.result (not c.is_set-2.result) _ _ c.args.rows.now.items c.renew_may.new.rows.items c.renew_must.new.rows.items
     (c.is_set.ensures ∙ ap (λ i. is_set words (i + daughter)) c.edge_row.ensures) (ap not (c.is_set-2.ensures ∙ ap (λ i. is_set words (i + daughter + 128)) c.edge_row.ensures))
     c.renew_may.ensures.renews c.renew_must.ensures.renews
-
-pub returns-clause-told : goal.returns-clause-told
-returns-clause-told c parts p same is told = c.renew_must.ensures.told parts p same is (c.renew_may.ensures.told parts p same is told)

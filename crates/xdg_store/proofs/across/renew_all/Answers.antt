@@ -5,9 +5,6 @@ use Rattle.xdg_store.proofs.across.renew_all.Goals as goal
 pub loop-decision-init : goal.loop-decision-init
 loop-decision-init c = (upto_start c.args.nodes c.args.trail.now.words c.args.changed.now c.args.rows.now.items, refl, λ parts p same h told. told)
 
-pub renew_of-requires-clause-fits : goal.renew_of-requires-clause-fits
-renew_of-requires-clause-fits c = rw c.loop-decision.invariant.0.count_stays (c.requires.fits c.loop-decision.decision-index _ c.loop-decision-test.true)
-
 pub renew_of-requires-clause-wide : goal.renew_of-requires-clause-wide
 renew_of-requires-clause-wide c =
     let rows = c.loop-decision.invariant.0.count_stays in
@@ -24,6 +21,3 @@ loop-decision-preserved c = (
 
 pub returns-clause-renews : goal.returns-clause-renews
 returns-clause-renews c = upto_end c.args.nodes c.args.trail.now.words c.args.changed.now c.args.rows.now.items c.loop-decision.rows.items c.loop-decision.decision-index (let t = c.loop-decision-test.false in omega (arith, t)) c.loop-decision.invariant.0
-
-pub returns-clause-told : goal.returns-clause-told
-returns-clause-told c = c.loop-decision.invariant.2

@@ -1,4 +1,4 @@
-use Rattle.std.proofs.Common.{arith, refl}
+use Rattle.std.proofs.Common.{refl}
 use Rattle.xdg_store.proofs.OneBlock.{left_behind, left_in_row}
 use Rattle.xdg_store.proofs.rows.has_left.Goals as goal
 
@@ -11,6 +11,3 @@ returns-then-has_left_in_word c = (
   λ t. left_in_row c.args.trail.now.words c.args.start c.args.size c.args.block c.args.taken c.loop-place.place c.word-word.result c.taken_in-here.result c.requires.first c.word-word.ensures c.taken_in-here.ensures (c.has_left_in_word.ensures.0 c.if-has_left_in_word.true),
   λ h. refl,
 )
-
-pub returns : goal.returns
-returns c = (λ t. absurd (cc), λ (x, l, n, e). absurd (c.loop-place.invariant x (let t = c.loop-place-test.false in omega (arith, l, t)) l n e))

@@ -25,9 +25,6 @@ take_of_pair-change-requires-clause-room c = pair_room c.self.invariant.0 (its_b
 pub renew_forbidden-requires-clause-fits : goal.renew_forbidden-requires-clause-fits
 renew_forbidden-requires-clause-fits c = edge_fits c.self.invariant.0 c.self.view_is c.requires c.self.invariant.1 c.self.invariant.4
 
-pub renew_forbidden-requires-clause-wide : goal.renew_forbidden-requires-clause-wide
-renew_forbidden-requires-clause-wide c = c.self.invariant.5.wide
-
 pub note-requires : goal.note-requires
 note-requires c = record { room = room_left (taken c) c.self.invariant.3 }
 

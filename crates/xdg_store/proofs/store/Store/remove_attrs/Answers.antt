@@ -17,9 +17,6 @@ taken : (c : goal.After-note-arg-1)
     → LeavesAll c.self.inside.problem.now c.take_of_block-change.result c.self.inside.trail c.take_of_block-change.new.trail c.self.inside.turns (decisions.Attr c.args.dim c.args.node c.args.attr) (IsTaken c.args.block c.args.taken)
 taken c = block_taken c.self.invariant.0 (its_row c.before.before) c.args.block c.args.taken c.take_of_block-change.ensures
 
-pub take_of_block-change-requires-clause-block : goal.take_of_block-change-requires-clause-block
-take_of_block-change-requires-clause-block c = (its_row c).within
-
 pub take_of_block-change-requires-clause-room : goal.take_of_block-change-requires-clause-room
 take_of_block-change-requires-clause-room c = block_room c.self.invariant.0 (its_row c)
 

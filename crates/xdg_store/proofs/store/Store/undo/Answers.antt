@@ -13,9 +13,6 @@ renew_all-requires-clause-fits c =
     let named : c.behind-undone.result.now ≡ drop c.args.mark c.self.inside.removed.items = c.behind-undone.ensures ∙ ap₂ drop c.records.ensures c.as_slice.ensures.value in
     all_fit c.args.mark c.self.invariant.0 c.self.invariant.3 c.self.invariant.4 c.self.invariant.1 named (keeps_undone c.undo.new.self c.args.mark c.self.invariant.0 c.undo.ensures.len c.undo.ensures.room c.undo.ensures.past)
 
-pub renew_all-requires-clause-wide : goal.renew_all-requires-clause-wide
-renew_all-requires-clause-wide c = c.self.invariant.5.wide
-
 pub invariant_of-self : goal.invariant_of-self
 invariant_of-self c =
     let l = mark_within c.self.inside.trail c.self.view_is c.requires in
