@@ -13,7 +13,7 @@ use Rattle.xdg_problem.specs.Places.{nodes, edge}
 use Rattle.xdg_problem.specs.Problems.{IsProblem, IsDim}
 use Rattle.xdg_problem.proofs.PlacePlans.{dim_within, plan_read}
 use Rattle.xdg_reading.specs.declared.texts.EdgeLine.{EdgeLine}
-use Rattle.xdg_text.specs.Blocks.{no_plan}
+use Rattle.xdg_problem.specs.Arguments.{no_plan}
 use Rattle.xdg_reading.specs.Fitted.{lead, or_at, may_join, follows, said_edge, said_edges}
 use Rattle.xdg_reading.specs.Fits.{SaysEdge, Follows, NextEdge, SayEdges, EdgeOffends, this_edge, later_edge}
 use Rattle.xdg_reading.specs.Names.{dim_number, label_number}

@@ -19,7 +19,8 @@ use Rattle.xdg_reading.specs.declared.texts.AttrLine.{AttrLine}
 use Rattle.xdg_reading.specs.declared.texts.EdgeLine.{EdgeLine}
 use Rattle.xdg_reading.specs.Lines.{line_text, text_of, attr_text, edge_text}
 use Rattle.xdg_reading.specs.Texts.{word_lines, body, Placed}
-use Rattle.xdg_text.specs.Blocks.{no_plan, no_value}
+use Rattle.xdg_problem.specs.Arguments.{no_plan}
+use Rattle.xdg_text.specs.Blocks.{no_value}
 use Rattle.xdg_text.specs.Lines.{word_line}
 use Rattle.xdg_reading.specs.Blocks.{HasWords}
 use Rattle.xdg_reading.specs.Fits.{SayValues, SayEdges, Follows, Shows}

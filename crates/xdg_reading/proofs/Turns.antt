@@ -1,8 +1,9 @@
 -- How the loops over the lines of a text go on.
 use Rattle.std.proofs.Common.{◌≡◌, ◌<◌, ◌≤◌, ◌+◌, ◌-◌, ◌++◌, ◌==◌, ◌&&◌, ◌||◌, inl, inr, ℕ, suc, List, [], ◌∷◌, length, map, drop, get_or, refl, sym, ap, ap₂, ◌∙◌, arith, true, false, cond, Bool, Some, None, Option, Ok, Err, append_assoc, append-nil, add-one, nat_lt, bytes_eq}
-use Rattle.std.specs.Prelude.{Result, ◌↔◌, IsTrue}
+use Rattle.std.specs.Prelude.{Result, ◌↔◌, IsTrue, IfSome}
 use Rattle.std.proofs.lemmas.List.{drop_all, length-map, length-drop}
 use Rattle.std.proofs.lemmas.Bool.{eqb-true, eq-eqb, ltb-true, lt-ltb, or_cases, or_left, or_right, and_parts, and_from, false_from_ne_true}
+use Rattle.std.proofs.lemmas.List.Quantifiers.{position-Some}
 use Rattle.std.specs.List.{flat_map}
 use Rattle.xdg_base.specs.declared.ids.EntryNo.{EntryNo}
 use Rattle.xdg_problem.specs.declared.analysis.Edge.{Edge}
@@ -13,7 +14,7 @@ use Rattle.xdg_problem.specs.Places.{numbers_from}
 use Rattle.xdg_reading.specs.declared.texts.AttrLine.{AttrLine}
 use Rattle.xdg_reading.specs.declared.texts.EdgeLine.{EdgeLine}
 use Rattle.xdg_reading.specs.Fitted.{has_entry, words_fault, lead, leads, or_at, said_value, said_values, said_edge, said_edges, precedes, follows}
-use Rattle.xdg_reading.specs.Names.{same_texts}
+use Rattle.xdg_reading.specs.Names.{same_texts, label_number}
 use Rattle.xdg_reading.specs.Slots.{Asked}
 use Rattle.xdg_reading.proofs.Told.{value_said}
 use Rattle.xdg_facts.proofs.Lists.{from_place}
@@ -153,6 +154,10 @@ edges_go parts before lines k line e edges made all so_far within is said test m
 pub edges_end : (parts : Parts) (before : Option Edge) (lines : List EdgeLine) (k : ℕ) (edges : List Edge) (all : Result (List Edge) ℕ) → leads edges (said_edges parts before (drop k lines)) ≡ all → length lines ≤ k → all ≡ Ok edges
 edges_end parts before lines k edges all so_far done = ended edges _ all so_far (ap (said_edges parts before) (drop_all k lines done))
 
--- the number of a value is in range
+-- the numbers of a value and of a label are in range
 pub said_within : (asked : Asked) (line : AttrLine) (v : ℕ) → said_value asked line ≡ Some v → v < length asked.attr.values
 said_within asked line v e = (value_said asked line v e).within
+
+pub label_within : (labels : List (List ℕ)) (name : List ℕ) (result : Option ℕ) → result ≡ label_number labels name → IfSome result (λ label. label < length labels)
+label_within labels name None e = tt
+label_within labels name (Some l) e = (position-Some (λ label. bytes_eq label name) labels l [] (sym e)).0

@@ -19,7 +19,8 @@ use Rattle.xdg_reading.specs.declared.texts.EdgeLine.{EdgeLine}
 use Rattle.xdg_reading.specs.Lines.{line_text, text_of, edge_text}
 use Rattle.xdg_reading.specs.Texts.{word_lines, body, lines_of, lines2_of}
 use Rattle.xdg_text.specs.Blocks as blocks
-use Rattle.xdg_text.specs.Blocks.{no_plan, value_at, node_lines, dim_lines, attr_lines, line_of_edge, edge_lines, body_lines, block, block2}
+use Rattle.xdg_problem.specs.Arguments.{no_plan}
+use Rattle.xdg_text.specs.Blocks.{value_at, node_lines, dim_lines, attr_lines, line_of_edge, edge_lines, body_lines, block, block2}
 use Rattle.xdg_text.specs.Lines.{word_line, attr_line, edge_line, end_line}
 use Rattle.xdg_text.specs.Values.{value_text}
 use Rattle.xdg_reading.specs.Blocks.{HasWords}

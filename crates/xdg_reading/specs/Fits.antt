@@ -16,7 +16,8 @@ use Rattle.xdg_problem.specs.Places.{nodes}
 use Rattle.xdg_reading.specs.declared.texts.AnalysisText.{AnalysisText}
 use Rattle.xdg_reading.specs.declared.texts.AttrLine.{AttrLine}
 use Rattle.xdg_reading.specs.declared.texts.EdgeLine.{EdgeLine}
-use Rattle.xdg_text.specs.Blocks.{no_plan, no_value}
+use Rattle.xdg_problem.specs.Arguments.{no_plan}
+use Rattle.xdg_text.specs.Blocks.{no_value}
 use Rattle.xdg_reading.specs.Slots.{Asked, slots}
 
 -- a line says that an attribute has the value of this number

@@ -12,7 +12,7 @@ use Rattle.xdg_problem.specs.Places.{nodes, edge}
 use Rattle.xdg_reading.specs.declared.texts.AnalysisText.{AnalysisText}
 use Rattle.xdg_reading.specs.declared.texts.AttrLine.{AttrLine}
 use Rattle.xdg_reading.specs.declared.texts.EdgeLine.{EdgeLine}
-use Rattle.xdg_text.specs.Blocks.{no_plan}
+use Rattle.xdg_problem.specs.Arguments.{no_plan}
 use Rattle.xdg_reading.specs.declared.refused.Refused.{Refused}
 use Rattle.xdg_reading.specs.declared.refused.Refused.TheVariants as refused
 use Rattle.xdg_reading.specs.Fits.{behind_attrs}

@@ -21,6 +21,7 @@ mod words;
 pub use fitting::fit;
 pub use laws::reads_back;
 pub use line::Line;
+pub use names::label_number;
 pub use reading::read;
 pub use stage::Stage;
 pub use texts::{AnalysisText, AttrLine, EdgeLine};

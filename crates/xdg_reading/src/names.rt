@@ -1,6 +1,6 @@
 //! The numbers of names and values.
 
-ghost use Rattle.std.specs.Prelude.{◌≡◌};
+ghost use Rattle.std.specs.Prelude.{◌≡◌, ◌<◌, IfSome, length};
 ghost use Rattle.xdg_reading.specs.Names.{same_texts, same_shown, dim_number, label_number, value_number};
 
 use xdg_base::Text;
@@ -45,9 +45,13 @@ pub(crate) fn dim_number(dims: &[DimPlan], name: &Text) -> Option<usize>
         .position(|plan| plan.name.as_str() == name.as_str())
 }
 
-/// The number of a label.
-pub(crate) fn label_number(labels: &[Text], name: &Text) -> Option<usize>
-    ensures { result ≡ label_number labels.now name.now }
+/// The number of the first of these labels with this name.
+///
+/// The time is linear in their number.
+#[tactic(auto, using(crate::proofs::Turns::label_within))]
+pub fn label_number(labels: &[Text], name: &Text) -> Option<usize>
+    ensures is { result ≡ label_number labels.now name.now }
+    ensures within { IfSome result (λ label. label < length labels.now) }
 {
     labels
         .iter()

@@ -14,7 +14,8 @@ use Rattle.xdg_problem.specs.Analyses.{IsAnalysis, IsPlace}
 use Rattle.xdg_problem.specs.Places.{numbers_from}
 use Rattle.xdg_problem.specs.Problems.{IsProblem}
 use Rattle.xdg_problem.specs.Vectors.{attr_sizes}
-use Rattle.xdg_text.specs.Blocks.{body_lines, head_lines, shown, no_plan}
+use Rattle.xdg_problem.specs.Arguments.{no_plan}
+use Rattle.xdg_text.specs.Blocks.{body_lines, head_lines, shown}
 use Rattle.xdg_text.specs.Lines.{analysis_line, counts_line, version_line}
 use Rattle.xdg_text.specs.declared.form.Form.{Form}
 use Rattle.xdg_text.specs.declared.form.Form.TheVariants as forms

@@ -1,5 +1,5 @@
 -- The text of an analysis.
-use Rattle.std.specs.Prelude.{ℕ, zero, suc, ◌*◌, false, List, [], ◌∷◌, ◌++◌, length, drop, slice_index_or}
+use Rattle.std.specs.Prelude.{ℕ, zero, suc, ◌*◌, List, [], ◌∷◌, ◌++◌, length, drop, slice_index_or}
 use Rattle.std.specs.List.{flat_map}
 use Rattle.xdg_base.specs.declared.ids.EntryNo.{EntryNo}
 use Rattle.xdg_problem.specs.declared.analysis.Edge.{Edge}
@@ -10,6 +10,7 @@ use Rattle.xdg_problem.specs.declared.parts.Parts.{Parts}
 use Rattle.xdg_problem.specs.declared.parts.SentenceWord.{SentenceWord}
 use Rattle.xdg_problem.specs.declared.parts.Shown.{Shown}
 use Rattle.xdg_problem.specs.declared.parts.Shown.TheVariants as kinds
+use Rattle.xdg_problem.specs.Arguments.{no_plan}
 use Rattle.xdg_text.specs.Lines.{analysis_line, version_line, counts_line, word_line, attr_line, edge_line, end_line}
 use Rattle.xdg_text.specs.Values.{value_text}
 use Rattle.xdg_text.specs.declared.form.Form.{Form}
@@ -43,9 +44,6 @@ dim_lines plan node (suc count) values = node_lines plan.name node plan.attrs va
 abbrev pub attr_lines : ℕ → List DimPlan → List ℕ → List ℕ
 attr_lines n [] values = []
 attr_lines n (plan ∷ plans) values = dim_lines plan 0 n values ++ attr_lines n plans (drop (n * length plan.attrs) values)
-
-abbrev pub no_plan : DimPlan
-no_plan = record { name = []; labels = []; attrs = []; graph = false }
 
 -- the line of an edge, by the names of its dimension and its label
 abbrev pub line_of_edge : List DimPlan → Edge → List ℕ

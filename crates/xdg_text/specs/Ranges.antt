@@ -3,7 +3,7 @@ use Rattle.std.specs.Prelude.{ℕ, zero, suc, ◌*◌, ◌<◌, List, [], ◌∷
 use Rattle.xdg_problem.specs.declared.analysis.Edge.{Edge}
 use Rattle.xdg_problem.specs.declared.parts.AttrPlan.{AttrPlan}
 use Rattle.xdg_problem.specs.declared.parts.DimPlan.{DimPlan}
-use Rattle.xdg_text.specs.Blocks.{no_plan}
+use Rattle.xdg_problem.specs.Arguments.{no_plan}
 
 -- the first numbers of the list are those of a value of each attribute
 abbrev pub HasValues : List AttrPlan → List ℕ → Type 0

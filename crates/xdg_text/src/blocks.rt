@@ -282,6 +282,8 @@ pub fn write<K: Sink>(
 
 /// Writes the text 2 of an analysis, whose number counts from 1: a block that tells the number of the format first, and
 /// then how many lines of words, of attributes and of edges it has. It takes no memory.
+///
+/// Called by trials alone: commands write a text by its form.
 pub fn write2<K: Sink>(
     problem: &Problem,
     number: u64,
