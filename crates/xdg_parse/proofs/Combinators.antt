@@ -1,4 +1,4 @@
-use Rattle.std.proofs.Common.{◌≡◌, ℕ, suc, ◌<◌, Bool, true, false, ◌&&◌, if◌then◌else◌, List, [], ◌∷◌, ◌++◌, Option, Some, None, Ok, Err, refl, sym, ◌∙◌, ap, append_assoc}
+use Rattle.std.proofs.Common.{◌≡◌, ℕ, suc, ◌<◌, Bool, true, false, if◌then◌else◌, List, [], ◌∷◌, ◌++◌, Option, Some, None, Ok, Err, refl, sym, ◌∙◌, ap, append_assoc}
 use Rattle.xdg_ast.specs.declared.token.Kind.{Kind}
 use Rattle.xdg_ast.specs.Lexemes.{Lexeme}
 use Rattle.xdg_ast.specs.Language.{Language, Kinds, ◌or◌, kind_of, holds, sees, ended_by, Unexpected, skip, next, read_token, token, nothing, bind, both}
@@ -6,6 +6,7 @@ use Rattle.xdg_ast.specs.Brackets.{is_opening, is_closing, walk}
 use Rattle.xdg_parse.specs.Steadiness.{at}
 use Rattle.xdg_parse.specs.Laws.{Says, Alive, Law}
 use Rattle.xdg_parse.proofs.Ended.{ended-append}
+use Rattle.xdg_parse.proofs.SteadyParts.{empty-both}
 use Rattle.xdg_parse.proofs.Laws.{walk-both, walk-split, balanced, bind_says}
 use Rattle.xdg_facts.proofs.Truths.{none_or, or_here, either_true}
 
@@ -131,11 +132,6 @@ module _ {A B C : Type 0} (f : A → B → C) (l m : Language A) (l' m' : A → 
   bind-first t u [] (t' ∷ vs) x y e g h = rw (a.empty x g, heads t t' u vs e) (either_true (l.first t'.kind) (ex.first t'.kind) (second-first t' vs x y h))
   bind-first t u (t' ∷ us) vs x y e g h = rw (heads t t' u (us ++ vs) e) (first-in l.empty t'.kind (a.first t' us x g))
 
-  bind-empty : (us vs : List Lexeme) (x : A) (y : B) → [] ≡ us ++ vs → m.means us x → (m' x).means vs y → (l.empty && ex.empty) ≡ true
-  bind-empty [] [] x y e g h = rw (a.empty x g, second-empty x y h) refl
-  bind-empty [] (t ∷ vs) x y e g h = absurd (cc)
-  bind-empty (t ∷ us) vs x y e g h = absurd (cc)
-
   last-right : (v : Bool) (o : Option Kind) → holds (if v then (ex.last or (ex.first or l.last)) else ex.last) o ≡ false → holds ex.last o ≡ false
   last-right true o h = holds-left ex.last (ex.first or l.last) o h
   last-right false o h = h
@@ -161,7 +157,7 @@ module _ {A B C : Type 0} (f : A → B → C) (l m : Language A) (l' m' : A → 
     same_empty = rw (a.same_empty, ex-empty) refl;
     fits = λ u x h. rw h.4 (walk-both n n h.0 h.1 (Some n) (a.fits h.0 h.2 h.5) ((b h.2).fits h.1 h.3 h.6));
     first = λ t u x h. bind-first t u h.0 h.1 h.2 h.3 h.4 h.5 h.6;
-    empty = λ x h. bind-empty h.0 h.1 h.2 h.3 h.4 h.5 h.6;
+    empty = λ z h. empty-both (λ u. m.means u h.2) (λ u. (m' h.2).means u h.3) l.empty ex.empty (a.empty h.2) (second-empty h.2 h.3) h.0 h.1 h.4 h.5 h.6;
     complete = λ u x e r h w last. rw (h.4, h.7) (bind-complete h.0 h.1 h.2 h.3 e r h.5 h.6 (rw h.4 at w) last);
     says = λ lt s. bind_says f m m' ex' (alive lt) d s (l.read s) (a.says lt s) (λ x. (l' x).read) (λ x s1 e. (b x).says lt s1);
   }

@@ -2,7 +2,6 @@ pub mod Ended
 pub mod Items
 pub mod Loop
 pub mod Sees
-pub mod Shrinking
 pub mod SteadyParts
 pub mod Tags
 pub mod Laws

@@ -1,29 +1,20 @@
-use Rattle.std.proofs.Common.{◌≡◌, ℕ, zero, suc, ◌<◌, ◌≤◌, Bool, true, false, ◌||◌, ◌⊎◌, if◌then◌else◌, List, [], ◌∷◌, ◌++◌, length, Option, Some, Ok, Err, refl, sym, ◌∙◌, ap, inl, inr, append_assoc, arith}
+use Rattle.std.proofs.Common.{◌≡◌, ℕ, zero, suc, ◌<◌, ◌≤◌, Bool, true, false, ◌⊎◌, if◌then◌else◌, List, [], ◌∷◌, ◌++◌, length, Option, Some, Ok, Err, refl, sym, ◌∙◌, ap, inl, inr, append_assoc, arith}
 use Rattle.xdg_ast.specs.declared.token.Kind.{Kind}
 use Rattle.xdg_base.specs.declared.places.Span.{Span}
 use Rattle.xdg_ast.specs.Lexemes.{Lexeme}
 use Rattle.xdg_ast.specs.Language.{Language, ◌or◌, kind_of, holds, sees, start_of, ended_by, span_of, State, Unexpected, TooDeep, Outcome, ◌>>=◌, both, either, each, items, many, spanned}
 use Rattle.xdg_ast.specs.Brackets.{walk}
-use Rattle.xdg_parse.specs.Steadiness.{at, Shrinks}
+use Rattle.xdg_parse.specs.Steadiness.{at, Steady}
 use Rattle.xdg_parse.specs.Laws.{Says, Alive, Law}
 use Rattle.xdg_parse.proofs.Items.{Shortens, turn, none_at}
 use Rattle.xdg_parse.proofs.Ended.{ended-append}
 use Rattle.xdg_parse.proofs.Laws.{walk-both, walk-split, balanced, says_as, bind_says}
-use Rattle.xdg_parse.proofs.Shrinking.{shortens_of}
+use Rattle.xdg_parse.proofs.SteadyParts.{either-of, shortens_of}
 use Rattle.xdg_parse.proofs.Combinators.{holds-left, holds-right, holds-same, Apart, not-empty, first-holds, heads}
-use Rattle.xdg_facts.proofs.Truths.{or_here, either_true}
 
 -- ---- either
 
 module _ {A : Type 0} (l m l' m' : Language A) (d n : ℕ) (a : Law d n l m) (b : Law d n l' m') (full-first : l.empty ≡ false) (apart : Apart l.first l'.first) where
-  either-empty : (x : A) → (m.means [] x ⊎ m'.means [] x) → (l.empty || l'.empty) ≡ true
-  either-empty x (inl h) = or_here l.empty l'.empty (a.empty x h)
-  either-empty x (inr h) = either_true l.empty l'.empty (b.empty x h)
-
-  either-first : (t : Lexeme) (u : List Lexeme) (x : A) → (m.means (t ∷ u) x ⊎ m'.means (t ∷ u) x) → (l.first t.kind || l'.first t.kind) ≡ true
-  either-first t u x (inl h) = or_here (l.first t.kind) (l'.first t.kind) (a.first t u x h)
-  either-first t u x (inr h) = either_true (l.first t.kind) (l'.first t.kind) (b.first t u x h)
-
   either-fits : (u : List Lexeme) (x : A) → (m.means u x ⊎ m'.means u x) → walk n u ≡ Some n
   either-fits u x (inl h) = a.fits u x h
   either-fits u x (inr h) = b.fits u x h
@@ -58,15 +49,15 @@ module _ {A : Type 0} (l m l' m' : Language A) (d n : ℕ) (a : Law d n l m) (b 
     same = λ k. rw (a.same k, b.same k) refl;
     same_empty = rw (a.same_empty, b.same_empty) refl;
     fits = either-fits;
-    first = either-first;
-    empty = either-empty;
+    first = λ t u x h. either-of (l.first t.kind) (l'.first t.kind) (a.first t u x) (b.first t u x) h;
+    empty = λ x h. either-of l.empty l'.empty (a.empty x) (b.empty x) h;
     complete = either-complete;
     says = λ lt s. either-says s (sees l.first s.left) lt refl;
   }
 
 -- ---- many
 
-module _ {A : Type 0} (l m : Language A) (d n : ℕ) (a : Law d n l m) (full-item : l.empty ≡ false) (short : Shrinks l) (short' : Shrinks m) (apart : Apart l.last l.first) where
+module _ {A : Type 0} (l m : Language A) (d n : ℕ) (a : Law d n l m) (full-item : l.empty ≡ false) (short : Steady l) (short' : Steady m) (apart : Apart l.last l.first) where
   short-l : Shortens l.read
   short-l = shortens_of l short full-item
 

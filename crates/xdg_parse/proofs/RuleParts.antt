@@ -10,9 +10,8 @@ use Rattle.xdg_parse.specs.Steadiness.{Steady}
 use Rattle.xdg_parse.specs.Laws.{Alive, Law}
 use Rattle.xdg_parse.proofs.Combinators.{Apart, Plain, nothing_law, token_law, both_law}
 use Rattle.xdg_parse.proofs.More.{either_law, many_law, spanned_law}
-use Rattle.xdg_parse.proofs.SteadyParts.{token_steady, nothing_steady, both_steady, either_steady, many_steady, spanned_steady}
+use Rattle.xdg_parse.proofs.SteadyParts.{shortens_of, token_steady, nothing_steady, both_steady, either_steady, many_steady, spanned_steady}
 use Rattle.xdg_parse.proofs.Items.{Item}
-use Rattle.xdg_parse.proofs.Shrinking.{shortens_of}
 use Rattle.xdg_parse.proofs.EachKind.{some, token_alive}
 
 -- ---- something is meant
@@ -96,7 +95,7 @@ either_rule {A} {l} {m} {l'} {m'} {d} {n} a b some apart = record {
 
 pub many_rule : {A : Type 0} {l m : Language A} {d n : ℕ} → Rule d n l m → l.empty ≡ false → Apart l.last l.first → Rule d n (many l) (many m)
 many_rule {A} {l} {m} {d} {n} a some apart = record {
-  law = many_law l m d n a.law some a.steady.shrinks a.meant_steady.shrinks apart;
+  law = many_law l m d n a.law some a.steady a.meant_steady apart;
   alive = λ lt. many_alive m.means;
   steady = many_steady l a.steady;
   meant_steady = many_steady m a.meant_steady;
@@ -111,7 +110,7 @@ spanned_rule f {l} {m} {d} {n} a some = record {
 }
 
 pub item : {A : Type 0} {l m : Language A} {d n : ℕ} → Rule d n l m → l.empty ≡ false → Item l.first l
-item {A} {l} a some = record { begins = refl; short = shortens_of l a.steady.shrinks some }
+item {A} {l} a some = record { begins = refl; short = shortens_of l a.steady some }
 
 -- ---- said by those
 

@@ -1,11 +1,49 @@
--- Each combinator reads what it means, and doesn't go back, if its parts do so.
-use Rattle.std.proofs.Common.{◌≡◌, ℕ, zero, suc, ◌<◌, Bool, true, false, if◌then◌else◌, List, [], ◌∷◌, ◌++◌, length, Ok, refl, sym, ◌∙◌, ap, inl, inr, subst, append_assoc, arith}
+-- Each combinator reads what it means, if its parts do so.
+use Rattle.std.proofs.Common.{◌≡◌, ℕ, zero, suc, ◌<◌, Bool, true, false, ◌||◌, ◌&&◌, ◌⊎◌, if◌then◌else◌, List, [], ◌∷◌, ◌++◌, length, Ok, Err, refl, sym, ◌∙◌, ap, inl, inr, subst, append_assoc, length-append, arith}
 use Rattle.xdg_base.specs.declared.places.Span.{Span}
 use Rattle.xdg_ast.specs.Lexemes.{Lexeme}
 use Rattle.xdg_ast.specs.Language.{Language, Kinds, kind_of, sees, start_of, ended_by, span_of, State, Outcome, ◌>>=◌, skip, next, read_token, token, nothing, bind, both, either, items, many, full, room, nested, spanned}
 use Rattle.xdg_parse.specs.Steadiness.{at, Taken, Steady}
 use Rattle.xdg_parse.proofs.Ended.{ended-append}
-use Rattle.xdg_parse.proofs.Shrinking.{bind_ok, ok-parts, token_shrinks, nothing_shrinks, bind_shrinks, either_shrinks, many_shrinks, spanned_shrinks, full_shrinks, room_shrinks}
+use Rattle.xdg_parse.proofs.Items.{Shortens}
+use Rattle.xdg_facts.proofs.Truths.{or_here, either_true}
+
+-- ---- outcomes
+
+bind_ok : {A B : Type 0} (o : Outcome A) (f : A × State → Outcome B) (y : B × State) → (o >>= f) ≡ Ok y → (x : A × State) × (o ≡ Ok x) × (f x ≡ Ok y)
+bind_ok (Ok x) f y h = (x, refl, h)
+bind_ok (Err e) f y h = absurd (cc)
+
+parts-of : {A : Type 0} → A × State → Outcome A → A × State
+parts-of x (Ok y) = y
+parts-of x (Err e) = x
+
+ok-parts : {A : Type 0} (x y : A) (s t : State) → ◌≡◌ {A = Outcome A} (Ok (x, s)) (Ok (y, t)) → (x ≡ y) × (s ≡ t)
+unfolding parts-of
+ok-parts {A = A} x y s t h = (ap (λ o. (parts-of (x, s) o).0) h, ap (λ o. (parts-of (x, s) o).1) h)
+
+-- ---- no tokens
+
+-- nothing is said of no tokens by two together but where each says it of none
+pub empty-both : (P Q : List Lexeme → Type 0) (v w : Bool) → (P [] → v ≡ true) → (Q [] → w ≡ true) → (us vs : List Lexeme) → [] ≡ us ++ vs → P us → Q vs → (v && w) ≡ true
+empty-both P Q v w p q [] [] e a b = rw (p a, q b) refl
+empty-both P Q v w p q [] (t ∷ vs) e a b = absurd (cc)
+empty-both P Q v w p q (t ∷ us) vs e a b = absurd (cc)
+
+pub either-of : {P Q : Type 0} (v w : Bool) → (P → v ≡ true) → (Q → w ≡ true) → P ⊎ Q → (v || w) ≡ true
+either-of v w p q (inl h) = or_here v w (p h)
+either-of v w p q (inr h) = either_true v w (q h)
+
+-- what lacks the empty list takes a token
+pub shortens_of : {A : Type 0} (l : Language A) → Steady l → l.empty ≡ false → Shortens l.read
+shortens_of {A = A} l a e = record {
+  shorter = λ s x s' r. let p = a.sound s x s' r in omega (arith, ap length p.split, length-append p.used s'.left, some x p.used p.means);
+} where
+  some : (x : A) (used : List Lexeme) → l.means used x → 0 < length used
+  some x [] h = let i = a.empty x h in absurd (cc)
+  some x (t ∷ used) h = omega arith
+
+-- ---- tokens
 
 token-taken : (p : Kinds) (e : ℕ) (ts : List Lexeme) (v : Bool) → sees p ts ≡ v → (x : Lexeme) (s' : State) → read_token p (at e ts) ≡ Ok (x, s') → Taken (token p) (at e ts) x s'
 unfolding read_token kind_of next skip ended_by
@@ -21,12 +59,12 @@ token-taken p e (t ∷ ts) true h x s' r =
     }
 
 pub token_steady : (p : Kinds) → Steady (token p)
-token_steady p = record { shrinks = token_shrinks p; sound = λ s x s' r. token-taken p s.ended s.left (sees p s.left) refl x s' r }
+token_steady p = record { empty = λ x h. absurd (let i = h.0 in cc); sound = λ s x s' r. token-taken p s.ended s.left (sees p s.left) refl x s' r }
 
 pub nothing_steady : {A : Type 0} (a : A) → Steady (nothing a)
 unfolding ended_by
 nothing_steady a = record {
-  shrinks = nothing_shrinks a;
+  empty = λ x h. refl;
   sound = λ s x s' r.
       let i = ok-parts a x s s' r in
       record { used = []; split = ap (λ (u : State). u.left) i.1; ended = sym (ap (λ (u : State). u.ended) i.1); means = (refl, sym i.0) };
@@ -96,7 +134,7 @@ with-span f l s x s1 p lt = record {
 
 pub bind_steady : {A B C : Type 0} (f : A → B → C) (l : Language A) (m : A → Language B) (example : Language B) → Steady l → ((x : A) → Steady (m x)) → ((x : A) → (m x).empty ≡ example.empty) → Steady (bind f l m example)
 bind_steady f l m example a b e = record {
-  shrinks = bind_shrinks f l m example a.shrinks (λ x. (b x).shrinks) e;
+  empty = λ z h. empty-both (λ u. l.means u h.2) (λ u. (m h.2).means u h.3) l.empty example.empty (a.empty h.2) (λ g. sym (e h.2) ∙ (b h.2).empty h.3 g) h.0 h.1 h.4 h.5 h.6;
   sound = λ s z s' r.
       let g = bind_ok (l.read s) (λ x. (m x.0).read x.1 >>= λ y. Ok (f x.0 y.0, y.1)) (z, s') r in
       let h = bind_ok ((m g.0.0).read g.0.1) (λ y. Ok (f g.0.0 y.0, y.1)) (z, s') g.2 in
@@ -112,7 +150,7 @@ either-taken l m a b true s x s' r = let p = a.sound s x s' r in record { used =
 either-taken l m a b false s x s' r = let p = b.sound s x s' r in record { used = p.used; split = p.split; ended = p.ended; means = inr p.means }
 
 pub either_steady : {A : Type 0} (l m : Language A) → Steady l → Steady m → Steady (either l m)
-either_steady l m a b = record { shrinks = either_shrinks l m a.shrinks b.shrinks; sound = λ s x s' r. either-taken l m a b (sees l.first s.left) s x s' r }
+either_steady l m a b = record { empty = λ x h. either-of l.empty m.empty (a.empty x) (b.empty x) h; sound = λ s x s' r. either-taken l m a b (sees l.first s.left) s x s' r }
 
 none-taken : {A : Type 0} (l : Language A) (s : State) (xs : List A) (s' : State) → ◌≡◌ {A = Outcome (List A)} (Ok ([], s)) (Ok (xs, s')) → Taken (many l) s xs s'
 unfolding ended_by
@@ -131,7 +169,7 @@ items-taken l a (suc n) s true h xs s' r =
     moved (many l) s (g.0.0 ∷ k.0.0) xs k.0.1 s' i.0 i.1 (one-more l s g.0.0 g.0.1 k.0.0 k.0.1 (a.sound s g.0.0 g.0.1 g.1) (items-taken l a n g.0.1 (sees l.first g.0.1.left) refl k.0.0 k.0.1 k.1))
 
 pub many_steady : {A : Type 0} (l : Language A) → Steady l → Steady (many l)
-many_steady l a = record { shrinks = many_shrinks l a.shrinks; sound = λ s xs s' r. items-taken l a (length s.left) s (sees l.first s.left) refl xs s' r }
+many_steady l a = record { empty = λ xs h. refl; sound = λ s xs s' r. items-taken l a (length s.left) s (sees l.first s.left) refl xs s' r }
 
 module _ {A : Type 0} {L : Type 1} (op cl : Kinds) (body : L → Language A) where
   full-taken : (s : State) (v : Bool) → sees op s.left ≡ v → (x : A) (s' : State) → (nested op cl full body).read s ≡ Ok (x, s') → Taken (nested op cl full body) s x s'
@@ -139,7 +177,7 @@ module _ {A : Type 0} {L : Type 1} (op cl : Kinds) (body : L → Language A) whe
   full-taken s true h x s' r = absurd (let i = rw h at r in cc)
 
   pub full_steady : Steady (nested op cl full body)
-  full_steady = record { shrinks = full_shrinks op cl body; sound = λ s x s' r. full-taken s (sees op s.left) refl x s' r }
+  full_steady = record { empty = λ x h. absurd h; sound = λ s x s' r. full-taken s (sees op s.left) refl x s' r }
 
   room-taken : (j : L) → Steady (body j) → (e : ℕ) (ts : List Lexeme) (v : Bool) → sees op ts ≡ v → (x : A) (s' : State) → (nested op cl (room j) body).read (at e ts) ≡ Ok (x, s') → Taken (nested op cl (room j) body) (at e ts) x s'
   unfolding kind_of skip ended_by
@@ -152,16 +190,14 @@ module _ {A : Type 0} {L : Type 1} (op cl : Kinds) (body : L → Language A) whe
       moved (nested op cl (room j) body) (at e (o ∷ ts)) g.0.0 x k.0.1 s' i.0 i.1 (closed op cl j body e o ts g.0.0 g.0.1 k.0.0 k.0.1 h (a.sound (at o.span.end ts) g.0.0 g.0.1 g.1) ((token_steady cl).sound g.0.1 k.0.0 k.0.1 k.1))
 
   pub room_steady : (j : L) → Steady (body j) → Steady (nested op cl (room j) body)
-  room_steady j a = record { shrinks = room_shrinks op cl j body a.shrinks; sound = λ s x s' r. room-taken j a s.ended s.left (sees op s.left) refl x s' r }
+  room_steady j a = record { empty = λ x h. absurd (let i = h.3 in cc); sound = λ s x s' r. room-taken j a s.ended s.left (sees op s.left) refl x s' r }
 
 module _ {A B : Type 0} (f : Span → A → B) (l : Language A) (a : Steady l) (some : l.empty ≡ false) where
   pub spanned_steady : Steady (spanned f l)
   spanned_steady = record {
-    shrinks = spanned_shrinks f l a.shrinks;
+    empty = λ x h. a.empty h.1 h.3;
     sound = λ s z s' r.
         let g = bind_ok (l.read s) (λ x. Ok (f (record { start = start_of s.left; end = x.1.ended }) x.0, x.1)) (z, s') r in
         let i = ok-parts (f (record { start = start_of s.left; end = g.0.1.ended }) g.0.0) z g.0.1 s' g.2 in
-        let q = rw some at (a.shrinks.by s g.0.0 g.0.1 g.1) in
-        let lt : length g.0.1.left < length s.left = omega arith in
-        moved (spanned f l) s (f (record { start = start_of s.left; end = g.0.1.ended }) g.0.0) z g.0.1 s' i.0 i.1 (with-span f l s g.0.0 g.0.1 (a.sound s g.0.0 g.0.1 g.1) lt);
+        moved (spanned f l) s (f (record { start = start_of s.left; end = g.0.1.ended }) g.0.0) z g.0.1 s' i.0 i.1 (with-span f l s g.0.0 g.0.1 (a.sound s g.0.0 g.0.1 g.1) ((shortens_of l a some).shorter s g.0.0 g.0.1 g.1));
   }
