@@ -1,5 +1,5 @@
 -- A body denotes at most as many partial entries as it has combinations, and the classes that an entry uses have places.
-use Rattle.std.proofs.Common.{◌≡◌, ℕ, zero, suc, ◌<◌, ◌≤◌, ◌+◌, ◌*◌, List, ◌++◌, length, ap, sym, ◌∙◌, arith, subst}
+use Rattle.std.proofs.Common.{◌≡◌, ℕ, zero, suc, ◌<◌, ◌≤◌, ◌+◌, ◌*◌, List, ◌++◌, length, get_or, ap, sym, ◌∙◌, arith, subst}
 use Rattle.std.specs.Prelude.{Some}
 use Rattle.std.proofs.Math.Nat.{suc-mul}
 use Rattle.std.proofs.lemmas.List.{length-append, length-map}
@@ -84,4 +84,4 @@ entry_ranked checked e expr keeps stands is call used =
     let place = place_of-has_text known text (among_has known text (subst (In known) bound.name (map_in (λ (c : Class). c.name) checked.classes bound.class bound.stands))) in
     let inside : place.0 < length checked.classes = (let l = (place_of-Some known text place.0 place.1).0 in let long : length known ≡ length checked.classes = length-map checked.classes (λ (c : Class). c.name) in omega (arith, l, long)) in
     let found = in_index checked.order place.0 0 (keeps.ordered.placed place.0 inside) in
-    (found.0, (found.1.0, place.1 ∙ ap Some (sym found.1.1)))
+    (found.0, (found.1.0, place.1 ∙ ap Some (sym {a = get_or checked.order found.0 0} found.1.1)))

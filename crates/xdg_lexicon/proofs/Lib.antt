@@ -2,6 +2,7 @@ mod Backwards
 mod Bounded
 mod Denoted
 mod Dims
+mod Exits
 mod Fields
 mod Followed
 mod Framed

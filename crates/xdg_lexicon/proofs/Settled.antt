@@ -61,8 +61,11 @@ type_found : (fs : List (List ℕ × Ty)) (name : List ℕ) (s : Shape) → Diff
 type_found [] name s differ h = absurd h
 type_found (f ∷ fs) name s differ h = elim h [
   | inl e ↦ at_name f.0 name (Some (shape f.1)) (type_named fs name) (ap (λ (p : List ℕ × Shape). p.0) e) ∙ ap (λ (p : List ℕ × Shape). Some p.1) e
-  | inr k ↦ past_name f.0 name (Some (shape f.1)) (type_named fs name) (λ i. differ.0 (subst (In (firsts fs)) (sym i) (subst (λ l. In l name) (fused (λ (p : List ℕ × Shape). p.0) (λ (x : List ℕ × Ty). (x.0, shape x.1)) fs) (map_in (λ (p : List ℕ × Shape). p.0) (typed fs) (name, s) k)))) ∙ type_found fs name s differ.1 k
+  | inr k ↦ past_name f.0 name (Some (shape f.1)) (type_named fs name) (λ i. differ.0 (subst (In (firsts fs)) (sym i) (among k))) ∙ type_found fs name s differ.1 k
 ]
+  where
+    among : In (typed fs) (name, s) → In (firsts fs) name
+    among k = subst (λ l. In l name) (fused (λ (p : List ℕ × Shape). p.0) (λ (x : List ℕ × Ty). (x.0, shape x.1)) fs) (map_in (λ (p : List ℕ × Shape). p.0) (typed fs) (name, s) k)
 
 keeps_in : (dims : List DimType) (dim : DimType) → KeepDims dims → In dims dim → KeepsDim dim
 keeps_in dims dim keeps h = let at = in_index dims dim dim h in keeps_at dims at.0 dim (slice_get_read dims (length dims) at.0 dim refl at.1.0 (sym at.1.1)) keeps

@@ -1,20 +1,17 @@
-use Rattle.std.proofs.Common.{Err, sym, ap, ◌∙◌, subst}
-use Rattle.std.proofs.lemmas.Result.{err_from_is_err_and}
 use Rattle.xdg_lexicon.specs.Sources.{source_of}
 use Rattle.xdg_lexicon.specs.Steps.{one_of, CountsOne}
+use Rattle.xdg_lexicon.proofs.Exits.{exit_gives}
 use Rattle.xdg_lexicon.proofs.Stepping.{uses_refused, combos_refused, both_counted}
 use Rattle.xdg_lexicon.proofs.expanding.count_one.Goals as goal
 
 pub returns-in_err-uses : goal.returns-in_err-uses
 returns-in_err-uses c before same alike =
-    let p = err_from_is_err_and c.from_residual.result c.from_residual.ensures.1 in
-    subst (CountsOne (source_of c.args.checked.now) before (one_of c.args.def.now)) (sym (p.1 ∙ ap Err p.2))
+    exit_gives (CountsOne (source_of c.args.checked.now) before (one_of c.args.def.now)) c.from_residual.result _ c.from_residual.ensures.1
     (uses_refused c.args.checked.now c.requires.checked before c.args.def.now c.uses_of-here.result c.uses_of-here.ensures c.args.uses c.in_err-uses.field-0.0 same c.in_err-uses.ensures.many)
 
 pub returns-in_err-combos : goal.returns-in_err-combos
 returns-in_err-combos c before same alike =
-    let p = err_from_is_err_and c.from_residual-in_err-combos.result c.from_residual-in_err-combos.ensures.1 in
-    subst (CountsOne (source_of c.args.checked.now) before (one_of c.args.def.now)) (sym (p.1 ∙ ap Err p.2))
+    exit_gives (CountsOne (source_of c.args.checked.now) before (one_of c.args.def.now)) c.from_residual-in_err-combos.result _ c.from_residual-in_err-combos.ensures.1
     (combos_refused c.args.checked.now c.requires.checked before c.args.def.now c.uses_of-here.result c.uses_of-here.ensures c.combos_of-here.result c.combos_of-here.ensures c.args.uses c.args.combos c.in_ok-uses.uses c.in_err-combos.field-0.0 same alike
     c.in_ok-uses.ensures.within c.in_err-combos.ensures.many)
 

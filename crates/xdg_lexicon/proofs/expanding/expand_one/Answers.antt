@@ -1,26 +1,24 @@
-use Rattle.std.proofs.Common.{Err, refl, sym, ap, ◌∙◌, subst}
-use Rattle.std.proofs.lemmas.Result.{err_from_is_err_and}
+use Rattle.std.proofs.Common.{refl}
 use Rattle.xdg_base.specs.Told.{answer_of}
 use Rattle.xdg_lexicon.specs.Expanding.{so_far}
 use Rattle.xdg_lexicon.specs.Growing.{entries_in}
 use Rattle.xdg_lexicon.specs.Lexicon.{SoFar}
 use Rattle.xdg_lexicon.specs.Sources.{source_of}
 use Rattle.xdg_lexicon.specs.Steps.{one_of, ExpandsOne}
+use Rattle.xdg_lexicon.proofs.Exits.{exit_gives}
 use Rattle.xdg_lexicon.proofs.Stepping.{counts_refuse, adding_refuses, one_expanded, few_sums}
 use Rattle.xdg_lexicon.proofs.expanding.expand_one.Goals as goal
 
 pub returns-in_err-uses-clause-expands : goal.returns-in_err-uses-clause-expands
 returns-in_err-uses-clause-expands c =
-    let p = err_from_is_err_and c.from_residual.result c.from_residual.ensures.1 in
     let before = so_far c.args.expanding in
-    subst (λ r. ExpandsOne (source_of c.args.checked.now) before (one_of c.args.def.now) (answer_of so_far r)) (sym (p.1 ∙ ap Err p.2))
+    exit_gives (λ r. ExpandsOne (source_of c.args.checked.now) before (one_of c.args.def.now) (answer_of so_far r)) c.from_residual.result _ c.from_residual.ensures.1
     (counts_refuse (source_of c.args.checked.now) before (one_of c.args.def.now) c.in_err-uses.field-0.0 (c.in_err-uses.ensures before refl refl))
 
 pub returns-in_err-growing-clause-expands : goal.returns-in_err-growing-clause-expands
 returns-in_err-growing-clause-expands c =
-    let p = err_from_is_err_and c.from_residual-in_err-growing.result c.from_residual-in_err-growing.ensures.1 in
     let before = so_far c.args.expanding in
-    subst (λ r. ExpandsOne (source_of c.args.checked.now) before (one_of c.args.def.now) (answer_of so_far r)) (sym (p.1 ∙ ap Err p.2))
+    exit_gives (λ r. ExpandsOne (source_of c.args.checked.now) before (one_of c.args.def.now) (answer_of so_far r)) c.from_residual-in_err-growing.result _ c.from_residual-in_err-growing.ensures.1
     (adding_refuses (source_of c.args.checked.now) before (one_of c.args.def.now) (c.in_ok-uses.uses, c.in_ok-uses.combos) c.in_err-growing.field-0.0 (c.in_ok-uses.ensures before refl refl) (c.in_err-growing.ensures.adds before refl))
 
 pub returns-clause-right : goal.returns-clause-right

@@ -1,5 +1,4 @@
-use Rattle.std.proofs.Common.{◌≤◌, length, Ok, Err, refl, sym, ap, ◌∙◌, subst, arith}
-use Rattle.std.proofs.lemmas.Result.{err_from_is_err_and}
+use Rattle.std.proofs.Common.{◌≤◌, length, Ok, refl, sym, subst, arith}
 use Rattle.xdg_packed.specs.Entries.{IsRightLexicon}
 use Rattle.xdg_packed.specs.Lexicon.{Lexicon}
 use Rattle.xdg_base.specs.Told.{Gives}
@@ -8,6 +7,7 @@ use Rattle.xdg_lexicon.specs.Expanding.{so_far}
 use Rattle.xdg_lexicon.specs.Growing.{entries_in}
 use Rattle.xdg_lexicon.specs.Lexicon.{IsLexicon}
 use Rattle.xdg_lexicon.specs.Sources.{source_of}
+use Rattle.xdg_lexicon.proofs.Exits.{exit_gives}
 use Rattle.xdg_lexicon.proofs.Bounds.{words_once}
 use Rattle.xdg_lexicon.proofs.Stepping.{expanded_none, expanded_more, refused_tells, refused_only, all_expanded, expanded_only}
 use Rattle.xdg_lexicon.proofs.expanding.lexicon.Goals as goal
@@ -30,15 +30,13 @@ expand_one-requires-clause-entry c =
 
 pub returns-in_err-expanding-clause-tells : goal.returns-in_err-expanding-clause-tells
 returns-in_err-expanding-clause-tells c =
-    let p = err_from_is_err_and c.from_residual.result c.from_residual.ensures.1 in
-    subst (λ r. Tells (source_of c.args.checked.now) (entries_of r)) (sym (p.1 ∙ ap Err p.2))
+    exit_gives (λ r. Tells (source_of c.args.checked.now) (entries_of r)) c.from_residual.result _ c.from_residual.ensures.1
     (refused_tells c.args.checked.now c.entries-entries.result.now c.loop-def.def-index c.def-item.result c.loop-def-test.true c.def-item.is (so_far c.loop-def.expanding) c.loop-def.invariant.1 c.in_err-expanding.field-0.0
     (sym c.entries-entries.ensures.same) c.in_err-expanding.ensures.expands)
 
 pub returns-in_err-expanding-clause-only : goal.returns-in_err-expanding-clause-only
 returns-in_err-expanding-clause-only c answer told =
-    let p = err_from_is_err_and c.from_residual.result c.from_residual.ensures.1 in
-    subst (λ r. Gives answer (entries_of r)) (sym (p.1 ∙ ap Err p.2))
+    exit_gives (λ r. Gives answer (entries_of r)) c.from_residual.result _ c.from_residual.ensures.1
     (refused_only c.args.checked.now c.entries-entries.result.now c.loop-def.def-index c.def-item.result c.loop-def-test.true c.def-item.is (so_far c.loop-def.expanding) c.loop-def.invariant.1 c.word_place-dim.ensures.keeps c.in_err-expanding.field-0.0
     (sym c.entries-entries.ensures.same) c.in_err-expanding.ensures.expands answer told)
 

@@ -6,7 +6,8 @@ use Rattle.xdg_lexicon.proofs.filling.whole_entry.Goals as goal
 
 found : (c : After-as_slice) → Here c.args.types.now c.args.partial.now c.loop-place.place-index (get_or c.used-place-items.result.now c.loop-place.place-index 0) c.as_slice.result.now c.as_slice-said.result.now
 found c =
-    here c.args.types.now c.args.partial.now c.dims-dims.result.now c.used-place-items.result.now c.loop-place.place-index c.index-dims-place.result c.index-partial-place.result c.as_slice-said.result.now c.as_slice.result.now c.dims-dims.ensures.keeps c.requires
+    here c.args.types.now c.args.partial.now c.dims-dims.result.now c.used-place-items.result.now c.loop-place.place-index c.index-dims-place.result c.index-partial-place.result
+    c.as_slice-said.result.now c.as_slice.result.now c.dims-dims.ensures.keeps c.requires
     c.dims-dims.ensures.same c.used-place-items.ensures.same c.loop-place-test.true c.index-dims-place.is c.index-partial-place.is c.as_slice-said.ensures (c.as_slice.ensures ∙ ap (λ (x : DimType). x.fields) (sym c.index-dims-place.is))
 
 pub filled_record-requires-clause-types : goal.filled_record-requires-clause-types

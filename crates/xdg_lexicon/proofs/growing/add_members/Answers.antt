@@ -1,10 +1,10 @@
 use Rattle.std.proofs.Common.{Err, refl, sym, ap, ◌∙◌, subst, arith}
-use Rattle.std.proofs.lemmas.Result.{err_from_is_err_and}
 use Rattle.xdg_lexicon.specs.Partial.{IsPartial}
 use Rattle.xdg_base.specs.Told.{answer_of}
 use Rattle.xdg_lexicon.specs.Growing.{entries_in}
 use Rattle.xdg_lexicon.specs.Lexicon.{whole}
 use Rattle.xdg_lexicon.specs.Steps.{AddsMember, AddsMembers}
+use Rattle.xdg_lexicon.proofs.Exits.{exit_gives}
 use Rattle.xdg_lexicon.proofs.Joining.{one_of}
 use Rattle.xdg_lexicon.proofs.Adding.{adds_begun, adds_further, adds_done}
 use Rattle.xdg_lexicon.proofs.Putting.{member_refused}
@@ -24,9 +24,8 @@ add_member-requires-clause-partial c =
 
 pub returns-in_err-growing-clause-adds : goal.returns-in_err-growing-clause-adds
 returns-in_err-growing-clause-adds c =
-    let p = err_from_is_err_and c.from_residual.result c.from_residual.ensures.1 in
     let stands = in_at c.args.members.now c.loop-member.member-index c.member-item.result c.loop-member-test.true c.member-item.is in
-    subst (λ r. AddsMembers c.args.types.now c.args.members.now c.args.at (entries_in c.args.growing) (answer_of entries_in r)) (sym (p.1 ∙ ap Err p.2))
+    exit_gives (λ r. AddsMembers c.args.types.now c.args.members.now c.args.at (entries_in c.args.growing) (answer_of entries_in r)) c.from_residual.result _ c.from_residual.ensures.1
     (member_refused c.args.types.now c.args.members.now c.args.at (entries_in c.args.growing) (entries_in c.loop-member.growing) c.member-item.result c.in_err-growing.field-0.0 stands
     (subst (λ m. AddsMember c.args.types.now m c.args.at (entries_in c.loop-member.growing) (Err c.in_err-growing.field-0.0)) c.as_slice.ensures c.in_err-growing.ensures.adds))
 

@@ -16,4 +16,5 @@ offset_bounds-classes-place c =
 pub returns-clause-found : goal.returns-clause-found
 returns-clause-found c =
     let w = place_within c.args.checked.now.classes c.classes.result.now c.args.name.now c.in-Some.place c.classes.ensures.same c.in-Some.ensures in
-    (c.in-Some.place, (sym c.in-Some.ensures, subst (λ cs. slice_get cs c.in-Some.place ≡ Some c.index-classes-place.result) c.classes.ensures.same (slice_get_read c.classes.result.now _ c.in-Some.place c.index-classes-place.result refl w c.index-classes-place.is)))
+    let stands = slice_get_read c.classes.result.now _ c.in-Some.place c.index-classes-place.result refl w c.index-classes-place.is in
+    (c.in-Some.place, (sym c.in-Some.ensures, subst (λ cs. slice_get cs c.in-Some.place ≡ Some c.index-classes-place.result) c.classes.ensures.same stands))
