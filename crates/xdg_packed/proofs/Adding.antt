@@ -1,7 +1,7 @@
 -- An entry is added to a packed lexicon, or stands there already.
 use Rattle.std.proofs.Common.{◌≡◌, ℕ, suc, ◌+◌, ◌-◌, ◌<◌, ◌≤◌, true, false, List, [], ◌∷◌, ◌++◌, ◌⊎◌, length, get_or, map, take, refl, sym, ap, ap₂, subst, inl, inr, ◌∙◌, arith, true≢false}
 use Rattle.std.proofs.lemmas.Bool.{cases_lt}
-use Rattle.std.proofs.lemmas.List.{map-append, length-map, length-append, get_or-map, get_or_past, take_more}
+use Rattle.std.proofs.lemmas.List.{ext_get_or, map-append, length-map, length-append, get_or-map, get_or_past, take_more}
 use Rattle.std.proofs.lemmas.List.Elements.{All-take}
 use Rattle.std.proofs.Math.ListN.{get_or-append}
 use Rattle.std.proofs.Math.Seq.{get_or-append_seam}
@@ -18,19 +18,21 @@ use Rattle.xdg_packed.proofs.Packs.{taken_back}
 use Rattle.xdg_packed.proofs.Prefixes.{numbers_alone}
 use Rattle.xdg_packed.proofs.Unpacked.{all_places, row_back, columns_wide, columns_at, long_places}
 use Rattle.xdg_facts.proofs.In.{in_get, in_index, map_in}
-use Rattle.xdg_facts.proofs.Lists.{head_of, tail_of}
 use Rattle.xdg_facts.specs.Membership.{In}
 
 -- ---- lists by their places
 
-map_same : {A B : Type 0} (f : A → B) (xs ys : List A) (d : A) → length xs ≡ length ys → ((i : ℕ) → i < length xs → f (get_or xs i d) ≡ f (get_or ys i d)) → map f xs ≡ map f ys
-map_same f [] [] d size same = refl
-map_same f [] (y ∷ ys) d size same = absurd (omega (arith, size))
-map_same f (x ∷ xs) [] d size same = absurd (omega (arith, size))
-map_same f (x ∷ xs) (y ∷ ys) d size same = ap₂ (λ z zs. z ∷ zs) (same 0 (omega arith)) (map_same f xs ys d (omega (arith, size)) (λ i within. same (suc i) (omega (arith, within))))
+-- what two functions make of two lists is the same where it is at each place
+maps_agree : {A B : Type 0} (f g : A → B) (xs ys : List A) (d : A) → length xs ≡ length ys → ((i : ℕ) → i < length xs → f (get_or xs i d) ≡ g (get_or ys i d)) → map f xs ≡ map g ys
+maps_agree f g xs ys d size same =
+    let long = length-map xs f in
+    ext_get_or (f d) (map f xs) (map g ys) (long ∙ size ∙ sym (length-map ys g)) (λ i inside.
+    let within : i < length xs = omega (arith, long, inside) in
+    get_or-map f xs i d (f d) within ∙ same i within ∙ sym (get_or-map g ys i d (f d) (omega (arith, size, within))))
 
-from_zero : (i : ℕ) → 0 + i ≡ i
-from_zero i = omega arith
+-- and then it is at each place
+at_place : {A B : Type 0} (f g : A → B) (xs : List A) (d : A) (i : ℕ) → i < length xs → map f xs ≡ map g xs → f (get_or xs i d) ≡ g (get_or xs i d)
+at_place f g xs d i within e = sym (get_or-map f xs i d (f d) within) ∙ ap (λ l. get_or l i (f d)) e ∙ get_or-map g xs i d (f d) within
 
 -- ---- rows of tables
 
@@ -42,27 +44,23 @@ row tables n = map (λ table. get_or (records table) n []) tables
 abbrev Reach : List Table → ℕ → Type 0
 Reach tables n = (dim : ℕ) → dim < length tables → n < length (get_or tables dim no_table).places
 
--- entries at equal places are equal
-rows_told : (tables : List Table) (m k : ℕ) → Reach tables m → Reach tables k → places_at tables m ≡ places_at tables k → row tables m ≡ row tables k
-rows_told [] m k one other e = refl
-rows_told (table ∷ tables) m k one other e =
-    let head : get_or table.places m 0 ≡ get_or table.places k 0 = head_of (get_or table.places m 0) (get_or table.places k 0) (places_at tables m) (places_at tables k) e in
-    ap₂ (λ x xs. x ∷ xs)
-    (in_shown table.rows table.places m (one 0 (omega arith)) ∙ ap (λ p. get_or table.rows p []) head ∙ sym (in_shown table.rows table.places k (other 0 (omega arith))))
-    (rows_told tables m k (λ dim within. one (suc dim) (omega (arith, within))) (λ dim within. other (suc dim) (omega (arith, within))) (tail_of (get_or table.places m 0) (get_or table.places k 0) (places_at tables m) (places_at tables k) e))
+module _ (tables : List Table) (m k : ℕ) (one : Reach tables m) (other : Reach tables k) where
+  -- entries at equal places are equal
+  rows_told : places_at tables m ≡ places_at tables k → row tables m ≡ row tables k
+  rows_told e = maps_agree (λ table. get_or (records table) m []) (λ table. get_or (records table) k []) tables tables no_table refl (λ dim within.
+      let table = get_or tables dim no_table in
+      in_shown table.rows table.places m (one dim within)
+      ∙ ap (λ p. get_or table.rows p []) (at_place (λ (t : Table). get_or t.places m 0) (λ t. get_or t.places k 0) tables no_table dim within e)
+      ∙ sym (in_shown table.rows table.places k (other dim within)))
 
--- and equal entries stand at equal places
-places_told : (tables : List Table) (m k : ℕ) → ((dim : ℕ) → IsRight (get_or tables dim no_table)) → Reach tables m → Reach tables k → row tables m ≡ row tables k → places_at tables m ≡ places_at tables k
-places_told [] m k right one other e = refl
-places_told (table ∷ tables) m k right one other e =
-    let here = one 0 (omega arith) in
-    let there = other 0 (omega arith) in
-    let head = head_of (get_or (records table) m []) (get_or (records table) k []) (row tables m) (row tables k) e in
-    ap₂ (λ x xs. x ∷ xs)
-    (same_row table.rows (right 0).kept.once (get_or table.places m 0) (get_or table.places k 0) ((right 0).within m 0 here) ((right 0).within k 0 there)
-    (sym (in_shown table.rows table.places m here) ∙ head ∙ in_shown table.rows table.places k there))
-    (places_told tables m k (λ dim. right (suc dim)) (λ dim within. one (suc dim) (omega (arith, within))) (λ dim within. other (suc dim) (omega (arith, within)))
-    (tail_of (get_or (records table) m []) (get_or (records table) k []) (row tables m) (row tables k) e))
+  -- and equal entries stand at equal places
+  places_told : ((dim : ℕ) → IsRight (get_or tables dim no_table)) → row tables m ≡ row tables k → places_at tables m ≡ places_at tables k
+  places_told right e = maps_agree (λ (t : Table). get_or t.places m 0) (λ t. get_or t.places k 0) tables tables no_table refl (λ dim within.
+      let table = get_or tables dim no_table in
+      same_row table.rows (right dim).kept.once (get_or table.places m 0) (get_or table.places k 0) ((right dim).within m 0 (one dim within)) ((right dim).within k 0 (other dim within))
+      (sym (in_shown table.rows table.places m (one dim within))
+      ∙ at_place (λ table. get_or (records table) m []) (λ table. get_or (records table) k []) tables no_table dim within e
+      ∙ in_shown table.rows table.places k (other dim within)))
 
 -- ---- tables of entries
 
@@ -134,7 +132,7 @@ module _ (entries : List Entry) (entry : Entry) (old new : List Table) (equal : 
   at_places : (tables : List Table) (n : ℕ) → n < length entries → length tables ≡ length entry → ((dim : ℕ) → dim < length entry → get_or (get_or tables dim no_table).places n 0 ≡ get_or (get_or old dim no_table).places n 0)
       → places_at tables n ≡ places_at old n
   at_places tables n within size same =
-      map_same (λ (table : Table). get_or table.places n 0) tables old no_table (size ∙ sym (long_old n within)) (λ dim inside. same dim (subst (λ k. dim < k) size inside))
+      maps_agree (λ (table : Table). get_or table.places n 0) (λ table. get_or table.places n 0) tables old no_table (size ∙ sym (long_old n within)) (λ dim inside. same dim (subst (λ k. dim < k) size inside))
 
   places_stay : (n : ℕ) → n < length entries → places_at new n ≡ places_at old n
   places_stay n within = at_places new n within adds.as_many each
@@ -172,7 +170,7 @@ module _ (entries : List Entry) (entry : Entry) (old new : List Table) (equal : 
     fresh right absent h =
         let at = in_index entries entry [] h in
         let within = at.1.0 in
-        let same : places_at new at.0 ≡ places_at new (length entries) = places_told new at.0 (length entries) right (reach_new at.0 (omega (arith, within))) reaches_last (row_before at.0 within ∙ at.1.1 ∙ sym last_row) in
+        let same : places_at new at.0 ≡ places_at new (length entries) = places_told new at.0 (length entries) (reach_new at.0 (omega (arith, within))) reaches_last right (row_before at.0 within ∙ at.1.1 ∙ sym last_row) in
         true≢false (sym (stands-has_text keys text at.0 (let size = keyed.as_many in omega (arith, size, within))
         (keyed.each at.0 within ∙ ap numbers (sym (places_stay at.0 within) ∙ same) ∙ sym is)) ∙ absent)
 
@@ -215,7 +213,7 @@ module _ (entries : List Entry) (entry : Entry) (old new : List Table) (equal : 
       records_back dim inside = ap₂ shown (less dim).0 (places_back dim inside) ∙ (cut dim inside).0
 
       pub back_columns : map records back ≡ columns entries
-      back_columns = map_same records back old no_table (long_back ∙ sym same_long) (λ dim within. records_back dim (subst (λ n. dim < n) long_back within)) ∙ are
+      back_columns = maps_agree records records back old no_table (long_back ∙ sym same_long) (λ dim within. records_back dim (subst (λ n. dim < n) long_back within)) ∙ are
 
       right_back : (dim : ℕ) → dim < length entry → IsRight (get_or back dim no_table)
       right_back dim inside =

@@ -4,6 +4,7 @@ use Rattle.std.proofs.lemmas.Bool.{cond_both, eqb-true, eqb-false}
 use Rattle.std.proofs.lemmas.List.{append_assoc}
 use Rattle.std.specs.Prelude.{codes}
 use Rattle.xdg_packed.specs.Spelling.{digits, number}
+use Rattle.xdg_facts.proofs.Lists.{head_of, tail_of}
 
 -- ---- enough turns
 
@@ -71,26 +72,20 @@ unfolding digits
 are_digits zero n = tt
 are_digits (suc turns) n = cond_both (n == 0) [] ((48 + n % 64) ∷ digits turns (n / 64)) AreDigits (λ e. tt) (λ e. (digit n, are_digits turns (n / 64)))
 
-pub heads : (a b : ℕ) (x y : List ℕ) → a ∷ x ≡ b ∷ y → a ≡ b
-heads a b x y e = cc
-
-pub tails : (a b : ℕ) (x y : List ℕ) → a ∷ x ≡ b ∷ y → x ≡ y
-tails a b x y e = cc
-
 pub apart : (a b : ℕ) (x y : List ℕ) → (a == b) ≡ false → a ∷ x ≡ b ∷ y → ⊥
-apart a b x y differ e = absurd (eqb-false a b differ (heads a b x y e))
+apart a b x y differ e = absurd (eqb-false a b differ (head_of a b x y e))
 
 stopped : (a b r s : List ℕ) → AreDigits a → AreDigits b → a ++ 46 ∷ r ≡ b ++ 46 ∷ s → (a ≡ b) × (r ≡ s)
-stopped [] [] r s p q e = (refl, tails 46 46 r s e)
+stopped [] [] r s p q e = (refl, tail_of 46 46 r s e)
 stopped [] (y ∷ b) r s p q e =
-    let h : 46 ≡ y = heads 46 y r (b ++ 46 ∷ s) e in
+    let h : 46 ≡ y = head_of 46 y r (b ++ 46 ∷ s) e in
     absurd (omega (arith, h, q.0))
 stopped (x ∷ a) [] r s p q e =
-    let h : x ≡ 46 = heads x 46 (a ++ 46 ∷ r) s e in
+    let h : x ≡ 46 = head_of x 46 (a ++ 46 ∷ r) s e in
     absurd (omega (arith, h, p.0))
 stopped (x ∷ a) (y ∷ b) r s p q e =
-    let rest = stopped a b r s p.1 q.1 (tails x y (a ++ 46 ∷ r) (b ++ 46 ∷ s) e) in
-    (ap₂ (λ d ds. d ∷ ds) (heads x y (a ++ 46 ∷ r) (b ++ 46 ∷ s) e) rest.0, rest.1)
+    let rest = stopped a b r s p.1 q.1 (tail_of x y (a ++ 46 ∷ r) (b ++ 46 ∷ s) e) in
+    (ap₂ (λ d ds. d ∷ ds) (head_of x y (a ++ 46 ∷ r) (b ++ 46 ∷ s) e) rest.0, rest.1)
 
 -- the spelling of a number is the front of that of no other
 pub number_told : (n m : ℕ) (r s : List ℕ) → number n ++ r ≡ number m ++ s → (n ≡ m) × (r ≡ s)

@@ -1,24 +1,20 @@
 -- The first entry with each record of a dimension.
-use Rattle.std.proofs.Common.{◌≡◌, ℕ, zero, suc, ◌<◌, ◌≤◌, List, [], ◌∷◌, ◌++◌, ◌⊎◌, length, get_or, refl, sym, ap, subst, inl, inr, ◌∙◌, arith, All}
-use Rattle.std.proofs.lemmas.Bool.{cases_lt}
+use Rattle.std.proofs.Common.{◌≡◌, ℕ, ◌<◌, ◌≤◌, List, [], ◌∷◌, ◌++◌, length, get_or, Some, below_more, sym, ap, subst, ◌∙◌, arith, All}
 use Rattle.std.proofs.lemmas.List.{length-map, get_or-map}
+use Rattle.std.proofs.lemmas.Option.{slice_get-get_or}
 use Rattle.std.proofs.Math.ListN.{get_or-append}
 use Rattle.std.proofs.Math.Seq.{get_or-append_seam}
 use Rattle.xdg_packed.specs.Lexicon.{Record, Entry, Lexicon, column, IsFirstAlike}
 use Rattle.xdg_packed.specs.Rows.{shown, AreFirsts, IsTable, IsFirst}
-use Rattle.xdg_facts.proofs.In.{in_get}
+use Rattle.xdg_facts.proofs.In.{differ_once}
 use Rattle.xdg_facts.proofs.Lists.{length_more}
-use Rattle.xdg_facts.specs.Membership.{Differ, In}
+use Rattle.xdg_facts.specs.Membership.{Differ}
 
 -- ---- one entry more
 
 -- what holds of each place of a list and of the next one
 each_more : (P : ℕ → Type 0) (xs : List ℕ) (x : ℕ) → ((k : ℕ) → k < length xs → P k) → P (length xs) → (k : ℕ) → k < length (xs ++ x ∷ []) → P k
-each_more P xs x below here k within = by (cases_lt k (length xs))
-  where
-    by : (k < length xs) ⊎ (length xs ≤ k) → P k
-    by (inl h) = below k h
-    by (inr h) = subst P (let size = length_more xs x in let e : length xs ≡ k = omega (arith, size, h, within) in e) here
+each_more P xs x below here k within = let size = length_more xs x in below_more P (length xs) below here k (omega (arith, size, within))
 
 -- an entry with the place of a row keeps it
 still : (places : List ℕ) (place row first : ℕ) → (first < length places) × (get_or places first 0 ≡ row) → (first < length (places ++ place ∷ [])) × (get_or (places ++ place ∷ []) first 0 ≡ row)
@@ -57,11 +53,7 @@ firsts_new firsts places place number last next within are =
 
 -- equal rows are one row
 pub same_row : (rows : List Record) → Differ rows → (i j : ℕ) → i < length rows → j < length rows → get_or rows i [] ≡ get_or rows j [] → i ≡ j
-same_row [] differ i j first second e = absurd (omega (arith, first))
-same_row (row ∷ rows) differ zero zero first second e = refl
-same_row (row ∷ rows) differ zero (suc j) first second e = absurd (differ.0 (subst (In rows) (sym e) (in_get rows j [] (omega (arith, second)))))
-same_row (row ∷ rows) differ (suc i) zero first second e = absurd (differ.0 (subst (In rows) e (in_get rows i [] (omega (arith, first)))))
-same_row (row ∷ rows) differ (suc i) (suc j) first second e = ap suc (same_row rows differ.1 i j (omega (arith, first)) (omega (arith, second)) e)
+same_row rows differ i j first second e = differ_once rows i j (get_or rows j []) differ (slice_get-get_or rows i [] first ∙ ap Some e) (slice_get-get_or rows j [] second)
 
 pub in_shown : (rows : List Record) (places : List ℕ) (k : ℕ) → k < length places → get_or (shown rows places) k [] ≡ get_or rows (get_or places k 0) []
 in_shown rows places k within = get_or-map (λ place. get_or rows place []) places k 0 [] within

@@ -1,13 +1,13 @@
 -- The tables of a lexicon, while an entry is added, and taken back.
-use Rattle.std.proofs.Common.{◌≡◌, ℕ, zero, suc, ◌+◌, ◌<◌, ◌≤◌, ◌≢◌, List, [], ◌∷◌, ◌++◌, length, get_or, slice_set, refl, sym, ap, ap₂, subst, inl, inr, ◌∙◌, arith}
+use Rattle.std.proofs.Common.{◌≡◌, ℕ, zero, suc, ◌+◌, ◌<◌, ◌≤◌, ◌≢◌, List, [], ◌∷◌, ◌++◌, length, get_or, slice_set, reverse, refl, sym, ap, ap₂, subst, inl, inr, ◌∙◌, arith}
 use Rattle.std.proofs.lemmas.Bool.{cases_eq}
-use Rattle.std.proofs.lemmas.List.{append_assoc, length-append, length-set, get_or-set_same, get_or-set_other}
+use Rattle.std.proofs.lemmas.List.{append_assoc, append_cancel_right, reverse-append, length-append, length-set, get_or-set_same, get_or-set_other}
 use Rattle.std.proofs.Math.Seq.{get_or-append_seam}
 use Rattle.xdg_packed.specs.Lexicon.{Record, Entry}
 use Rattle.xdg_packed.specs.Rows.{IsTable, AreSpelled}
 use Rattle.xdg_packed.specs.Tables.{no_table, IsRight, AreTables, AddsRecord, IsWithoutLast}
 use Rattle.xdg_packed.specs.declared.table.Table.{Table}
-use Rattle.xdg_facts.proofs.Lists.{any_default, head_of, tail_of}
+use Rattle.xdg_facts.proofs.Lists.{any_default, head_of}
 
 -- ---- one place of a list
 
@@ -125,12 +125,9 @@ module _ (old : List Table) (entry rest more : Entry) (fields : Record) (tables 
 
 -- lists with one last element more that are equal
 pub cut_last : {A : Type 0} (xs ys : List A) (x y : A) → xs ++ x ∷ [] ≡ ys ++ y ∷ [] → (xs ≡ ys) × (x ≡ y)
-cut_last [] [] x y e = (refl, head_of x y [] [] e)
-cut_last [] (b ∷ ys) x y e = absurd (let size : 1 ≡ suc (length (ys ++ y ∷ [])) = ap length e in let more = length-append ys (y ∷ []) in omega (arith, size, more))
-cut_last (a ∷ xs) [] x y e = absurd (let size : suc (length (xs ++ x ∷ [])) ≡ 1 = ap length e in let more = length-append xs (x ∷ []) in omega (arith, size, more))
-cut_last (a ∷ xs) (b ∷ ys) x y e =
-    let rest = cut_last xs ys x y (tail_of a b (xs ++ x ∷ []) (ys ++ y ∷ []) e) in
-    (ap₂ (λ z zs. z ∷ zs) (head_of a b (xs ++ x ∷ []) (ys ++ y ∷ []) e) rest.0, rest.1)
+cut_last xs ys x y e =
+    let last : x ≡ y = head_of x y (reverse xs) (reverse ys) (sym (reverse-append xs (x ∷ [])) ∙ ap reverse e ∙ reverse-append ys (y ∷ [])) in
+    (append_cancel_right xs ys (x ∷ []) (e ∙ ap (λ z. ys ++ z ∷ []) (sym last)), last)
 
 -- what is known while the last entry is taken out of the first tables
 abbrev pub Shortened : List Table → List Table → ℕ → Type 0

@@ -9,7 +9,6 @@ pub mod Kept
 pub mod Packs
 pub mod Prefixes
 pub mod Said
-pub mod Standing
 pub mod Unpacked
 pub mod Variants
 pub mod WordLists

@@ -1,5 +1,5 @@
 -- The different records of a dimension, while further ones are added, and one that was added is taken back.
-use Rattle.std.proofs.Common.{◌≡◌, ℕ, ◌+◌, ◌<◌, ◌≤◌, List, [], ◌∷◌, ◌++◌, ◌⊎◌, length, get_or, Bool, true, false, not, if◌then◌else◌, refl, sym, ap, ap₂, inl, inr, subst, ◌∙◌, arith, Some, None, All}
+use Rattle.std.proofs.Common.{◌≡◌, ℕ, ◌+◌, ◌<◌, ◌≤◌, List, [], ◌∷◌, ◌++◌, ◌⊎◌, length, get_or, map, Bool, true, false, true≢false, not, if◌then◌else◌, refl, sym, ap, ap₂, inl, inr, subst, ◌∙◌, arith, Some, None, All}
 use Rattle.std.specs.Prelude.{◌↔◌}
 use Rattle.std.proofs.lemmas.Bool.{not-false, not-true}
 use Rattle.std.proofs.lemmas.List.{map-append, length-map, length-append, get_or-map}
@@ -7,17 +7,24 @@ use Rattle.std.proofs.lemmas.List.Elements.{All-push, All-tail, All-head, All-we
 use Rattle.std.proofs.Math.ListN.{get_or-append}
 use Rattle.std.proofs.Math.Seq.{get_or-append_seam}
 use Rattle.xdg_names.specs.Texts.{has_text, place_of, AllDiffer}
-use Rattle.xdg_names.proofs.Texts.{place_of-Some, place_of-None, AllDiffer-append}
+use Rattle.xdg_names.proofs.Texts.{among_has, place_of-Some, place_of-None, AllDiffer-append}
 use Rattle.xdg_packed.specs.Lexicon.{Record, KeepsEachOnce}
 use Rattle.xdg_packed.specs.Rows.{shown, IsTable, AddsFirst, AreSpelled, IsKnownRow, IsNewRow}
 use Rattle.xdg_packed.specs.Spelling.{spelling_of_fields}
 use Rattle.xdg_packed.proofs.Counted.{no_more}
 use Rattle.xdg_packed.proofs.Firsts.{firsts_known, firsts_new, same_row as same_place, in_shown, long_shown}
 use Rattle.xdg_packed.proofs.Prefixes.{fields_told}
-use Rattle.xdg_facts.proofs.In.{in_append, in_left, in_right, in_get, in_index}
-use Rattle.xdg_packed.proofs.Standing.{stands_last, rows_differ}
+use Rattle.xdg_facts.proofs.In.{in_append, in_left, in_right, in_get, in_index, map_in}
 use Rattle.xdg_facts.proofs.Lists.{all_before, any_default}
-use Rattle.xdg_facts.specs.Membership.{In}
+use Rattle.xdg_facts.specs.Membership.{Differ, In}
+
+-- ---- different records
+
+-- where the spellings differ, the records do
+rows_differ : (rows : List Record) → AllDiffer (map spelling_of_fields rows) → Differ rows
+rows_differ [] differ = tt
+rows_differ (first ∷ rows) differ =
+    (λ h. true≢false (sym (among_has (map spelling_of_fields rows) (spelling_of_fields first) (map_in spelling_of_fields rows first h)) ∙ differ.0), rows_differ rows differ.1)
 
 -- ---- one record
 
@@ -128,7 +135,7 @@ added_new rows spellings firsts places fields place number table spelled fresh l
     record {
       right = record {
         within = within;
-        kept = stands_once more (shown rows places ++ fields ∷ []) (spellings ++ spelling_of_fields fields ∷ []) (places ++ place ∷ []) grown within shows (λ x h. by x (stands_last rows fields x h));
+        kept = stands_once more (shown rows places ++ fields ∷ []) (spellings ++ spelling_of_fields fields ∷ []) (places ++ place ∷ []) grown within shows (λ x h. by x (in_append rows (fields ∷ []) x h));
         as_many = let added = longer ℕ firsts number in let same = table.as_many in omega (arith, size, added, same);
         firsts_are = firsts_new firsts places place number (last ∙ sym table.as_many) next (subst (λ n. All (λ k. k < n) places) (sym table.as_many) table.within) table.firsts_are;
       };
@@ -136,34 +143,22 @@ added_new rows spellings firsts places fields place number table spelled fresh l
       shows = shows;
     }
   where
-    by : (x : Record) → In rows x ⊎ (fields ≡ x) → In (shown rows places ++ fields ∷ []) x
+    by : (x : Record) → In rows x ⊎ In (fields ∷ []) x → In (shown rows places ++ fields ∷ []) x
     by x (inl h) = in_left (shown rows places) (fields ∷ []) x (table.kept.only x h)
-    by x (inr e) = in_right (shown rows places) (fields ∷ []) x (inl e)
+    by x (inr h) = in_right (shown rows places) (fields ∷ []) x h
 
-added : (rows more : List Record) (spellings more_spellings : List (List ℕ)) (firsts more_firsts places : List ℕ) (fields : Record) (place number : ℕ) → IsTable rows firsts places → AreSpelled rows spellings
-    → IsKnownRow rows spellings more more_spellings fields place ⊎ IsNewRow rows spellings more more_spellings fields place → AddsFirst firsts more_firsts place number → number ≡ length places
-    → Added (shown rows places ++ fields ∷ []) more more_spellings more_firsts (places ++ place ∷ [])
-added rows more spellings more_spellings firsts more_firsts places fields place number table spelled (inl k) adds next =
-    let stay : more_firsts ≡ firsts = adds.known (subst (λ n. place < n) (sym table.as_many) k.within) in
-    subst (λ f. Added (shown rows places ++ fields ∷ []) more more_spellings f (places ++ place ∷ [])) (sym stay)
-    (subst (λ r. Added (shown rows places ++ fields ∷ []) r more_spellings firsts (places ++ place ∷ [])) (sym k.rows_stay)
-    (subst (λ t. Added (shown rows places ++ fields ∷ []) rows t firsts (places ++ place ∷ [])) (sym k.spellings_stay) (added_known rows spellings firsts places fields place table spelled k.within k.stands)))
-added rows more spellings more_spellings firsts more_firsts places fields place number table spelled (inr n) adds next =
-    let last = n.last in
-    let same = table.as_many in
-    let grow : more_firsts ≡ firsts ++ number ∷ [] = adds.fresh (omega (arith, last, same)) in
-    subst (λ f. Added (shown rows places ++ fields ∷ []) more more_spellings f (places ++ place ∷ [])) (sym grow)
-    (subst (λ r. Added (shown rows places ++ fields ∷ []) r more_spellings (firsts ++ number ∷ []) (places ++ place ∷ [])) (sym n.rows_grow)
-    (subst (λ t. Added (shown rows places ++ fields ∷ []) (rows ++ fields ∷ []) t (firsts ++ number ∷ []) (places ++ place ∷ [])) (sym n.spellings_grow)
-    (added_new rows spellings firsts places fields place number table spelled n.fresh n.last next)))
-
--- the same of what the code pushes
+-- what the code pushes
 pub pushed : (rows more : List Record) (spellings more_spellings : List (List ℕ)) (firsts more_firsts places grown : List ℕ) (fields : Record) (place number : ℕ) → IsTable rows firsts places → AreSpelled rows spellings
     → IsKnownRow rows spellings more more_spellings fields place ⊎ IsNewRow rows spellings more more_spellings fields place → AddsFirst firsts more_firsts place number → number ≡ length places → grown ≡ places ++ place ∷ []
     → Added (shown rows places ++ fields ∷ []) more more_spellings more_firsts grown
-pushed rows more spellings more_spellings firsts more_firsts places grown fields place number table spelled how adds next is =
-    subst (λ all. Added (shown rows places ++ fields ∷ []) more more_spellings more_firsts all) (sym is)
-    (added rows more spellings more_spellings firsts more_firsts places fields place number table spelled how adds next)
+pushed rows more spellings more_spellings firsts more_firsts places grown fields place number table spelled (inl k) adds next is =
+    let stay : more_firsts ≡ firsts = adds.known (subst (λ n. place < n) (sym table.as_many) k.within) in
+    rw (k.rows_stay, k.spellings_stay, stay, is) (added_known rows spellings firsts places fields place table spelled k.within k.stands)
+pushed rows more spellings more_spellings firsts more_firsts places grown fields place number table spelled (inr n) adds next is =
+    let last = n.last in
+    let same = table.as_many in
+    let grow : more_firsts ≡ firsts ++ number ∷ [] = adds.fresh (omega (arith, last, same)) in
+    rw (n.rows_grow, n.spellings_grow, grow, is) (added_new rows spellings firsts places fields place number table spelled n.fresh n.last next)
 
 -- ---- one record less
 

@@ -6,7 +6,8 @@ use Rattle.xdg_domain.specs.declared.values.Value.{Value, out-Value, roll-Value,
 use Rattle.xdg_domain.specs.declared.values.Value.TheOpen.{Value-F}
 use Rattle.xdg_domain.specs.declared.values.Value.TheFolds.{ind-Value}
 use Rattle.xdg_packed.specs.Spelling.{number, each, numbers, keyed, text, layer, truth, spelling, spelling_of_fields}
-use Rattle.xdg_packed.proofs.Digits.{heads, tails, apart, number_told}
+use Rattle.xdg_packed.proofs.Digits.{apart, number_told}
+use Rattle.xdg_facts.proofs.Lists.{head_of, tail_of}
 use Rattle.xdg_domain.proofs.JoinLaws.{same_out}
 
 -- what stands at the front of a text with this spelling is this element, and the rest is told
@@ -25,12 +26,12 @@ each_of_all code all [] = tt
 each_of_all code all (x ∷ xs) = (all x, each_of_all code all xs)
 
 list_told : {A : Type 0} (code : A → List ℕ) (xs : List A) → EachTold code xs → Told (each code) xs
-list_told code [] told [] r s e = (refl, tails 59 59 r s e)
-list_told code [] told (y ∷ ys) r s e = absurd (omega (arith, heads 59 44 r (code y ++ each code ys ++ s) e))
-list_told code (x ∷ xs) told [] r s e = absurd (omega (arith, heads 44 59 (code x ++ each code xs ++ r) s e))
+list_told code [] told [] r s e = (refl, tail_of 59 59 r s e)
+list_told code [] told (y ∷ ys) r s e = absurd (omega (arith, head_of 59 44 r (code y ++ each code ys ++ s) e))
+list_told code (x ∷ xs) told [] r s e = absurd (omega (arith, head_of 44 59 (code x ++ each code xs ++ r) s e))
 list_told code (x ∷ xs) told (y ∷ ys) r s e =
     let first = told.0 y (each code xs ++ r) (each code ys ++ s)
-    (sym (append_assoc (code x) (each code xs) r) ∙ tails 44 44 (code x ++ each code xs ++ r) (code y ++ each code ys ++ s) e ∙ append_assoc (code y) (each code ys) s) in
+    (sym (append_assoc (code x) (each code xs) r) ∙ tail_of 44 44 (code x ++ each code xs ++ r) (code y ++ each code ys ++ s) e ∙ append_assoc (code y) (each code ys) s) in
     let rest = list_told code xs told.1 ys r s first.1 in
     (ap₂ (λ z zs. z ∷ zs) first.0 rest.0, rest.1)
 
@@ -47,8 +48,8 @@ long [] (y ∷ b) r s same e = absurd (omega (arith, same))
 long (x ∷ a) [] r s same e = absurd (omega (arith, same))
 long (x ∷ a) (y ∷ b) r s same e =
     let shorter : length a ≡ length b = omega (arith, same) in
-    let rest = long a b r s shorter (tails x y (a ++ r) (b ++ s) e) in
-    (ap₂ (λ d ds. d ∷ ds) (heads x y (a ++ r) (b ++ s) e) rest.0, rest.1)
+    let rest = long a b r s shorter (tail_of x y (a ++ r) (b ++ s) e) in
+    (ap₂ (λ d ds. d ∷ ds) (head_of x y (a ++ r) (b ++ s) e) rest.0, rest.1)
 
 text_told : (t : List ℕ) → Told text t
 text_told t u r s e =
@@ -98,10 +99,10 @@ unfolding spelling
 spelling_is v = fold_out-Value (List ℕ) layer v ∙ layer_is (out-Value v)
 
 truth_told : (b : Bool) → Told truth b
-truth_told true true r s e = (refl, tails 49 49 r s e)
+truth_told true true r s e = (refl, tail_of 49 49 r s e)
 truth_told true false r s e = absurd (apart 49 48 r s refl e)
 truth_told false true r s e = absurd (apart 48 49 r s refl e)
-truth_told false false r s e = (refl, tails 48 48 r s e)
+truth_told false false r s e = (refl, tail_of 48 48 r s e)
 
 -- a value that is told
 abbrev Known : Type 0
@@ -122,7 +123,7 @@ entries_told entries = list_told (λ entry. number entry.0 ++ spelling entry.1) 
 
 -- a mark and what follows it tell one variant
 mark_told : {A : Type 0} (make : A → Value-F Value) (mark : ℕ) (spell : A → List ℕ) (x y : A) (r s : List ℕ) → Told spell x → mark ∷ (spell x ++ r) ≡ mark ∷ (spell y ++ s) → (make x ≡ make y) × (r ≡ s)
-mark_told make mark spell x y r s told e = let rest = told y r s (tails mark mark (spell x ++ r) (spell y ++ s) e) in (ap make rest.0, rest.1)
+mark_told make mark spell x y r s told e = let rest = told y r s (tail_of mark mark (spell x ++ r) (spell y ++ s) e) in (ap make rest.0, rest.1)
 
 -- what the layer holds is told, so the layer is
 layer_told : (z : Value-F Known) (l : Value-F Value) (r s : List ℕ) → inner (forget z) ++ r ≡ inner l ++ s → (forget z ≡ l) × (r ≡ s)

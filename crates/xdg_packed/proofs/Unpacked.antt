@@ -1,7 +1,7 @@
 -- Packed entries are the entries.
-use Rattle.std.proofs.Common.{◌≡◌, ℕ, suc, ◌+◌, ◌-◌, ◌^◌, ◌<◌, ◌≤◌, List, [], ◌∷◌, ◌++◌, length, get_or, map, take, refl, sym, ap, ap₂, subst, ◌∙◌, arith, All}
+use Rattle.std.proofs.Common.{◌≡◌, ℕ, ◌+◌, ◌-◌, ◌^◌, ◌<◌, ◌≤◌, List, [], ◌∷◌, ◌++◌, length, get_or, map, take, refl, sym, ap, subst, ◌∙◌, arith, All}
 use Rattle.std.specs.List.{range_with_len}
-use Rattle.std.proofs.lemmas.List.{length-map, get_or-map, map-append, take_more}
+use Rattle.std.proofs.lemmas.List.{ext_get_or, length-map, get_or-map, map-append, take_more}
 use Rattle.std.proofs.lemmas.List.FromFn.{length-map-range_with_len, get_or-map-range_with_len}
 use Rattle.xdg_base.specs.declared.ids.EntryNo.{EntryNo}
 use Rattle.xdg_packed.specs.Lexicon.{Record, Entry, Lexicon, HasWord, word_of, AreAsLong, width, column, columns, CountsDifferent, CountsRows, IsFirstAlike}
@@ -11,26 +11,18 @@ use Rattle.xdg_packed.specs.Tables.{records, no_table, IsRight}
 use Rattle.xdg_packed.specs.Words.{IsWordIndex}
 use Rattle.xdg_packed.specs.declared.table.Table.{Table}
 use Rattle.xdg_packed.proofs.Firsts.{in_column, column_first, long_shown}
-use Rattle.xdg_facts.proofs.Numbers.{plus_one}
 use Rattle.xdg_facts.proofs.Lists.{fused, any_default}
 
 -- ---- lists by their places
 
-start_of : (start : ℕ) → start ≡ start + 0
-start_of start = omega arith
-
-from_zero : (i : ℕ) → 0 + i ≡ i
+pub from_zero : (i : ℕ) → 0 + i ≡ i
 from_zero i = omega arith
 
-module _ {X : Type 0} (f : ℕ → X) (d : X) where
-  by_places : (start : ℕ) (xs : List X) → ((i : ℕ) → i < length xs → f (start + i) ≡ get_or xs i d) → map f (range_with_len start (length xs)) ≡ xs
-  by_places start [] each = refl
-  by_places start (x ∷ xs) each =
-      ap₂ (λ y ys. y ∷ ys) (ap f (start_of start) ∙ each 0 (omega arith))
-      (by_places (start + 1) xs (λ i within. ap f (plus_one start i) ∙ each (suc i) (omega (arith, within))))
-
-  pub all_places : (xs : List X) (count : ℕ) → count ≡ length xs → ((i : ℕ) → i < length xs → f i ≡ get_or xs i d) → map f (range_with_len 0 count) ≡ xs
-  all_places xs count size each = ap (λ n. map f (range_with_len 0 n)) size ∙ by_places 0 xs (λ i within. ap f (from_zero i) ∙ each i within)
+pub all_places : {X : Type 0} (f : ℕ → X) (d : X) (xs : List X) (count : ℕ) → count ≡ length xs → ((i : ℕ) → i < length xs → f i ≡ get_or xs i d) → map f (range_with_len 0 count) ≡ xs
+all_places f d xs count size each =
+    let long = length-map-range_with_len f 0 count in
+    ext_get_or d (map f (range_with_len 0 count)) xs (long ∙ size)
+    (λ i within. get_or-map-range_with_len f 0 count i i d (omega (arith, within, long)) (from_zero i) ∙ each i (omega (arith, within, long, size)))
 
 -- ---- entries
 

@@ -3,9 +3,11 @@ use Rattle.std.proofs.Common.{◌≡◌, ℕ, suc, ◌+◌, ◌<◌, Bool, true,
 use Rattle.std.specs.Prelude.{Option, Result, OnOk, bytes_eq, option_map}
 use Rattle.std.specs.List.{range_with_len}
 use Rattle.std.proofs.Math.Bool.{or-false}
+use Rattle.std.proofs.Math.ListN.{get_or-append}
 use Rattle.std.proofs.Math.Seq.{get_or-append_seam, take-suc}
 use Rattle.std.proofs.lemmas.Bool.{cases_Bool}
-use Rattle.std.proofs.lemmas.List.{append-nil, append_assoc, map-append, length-map, length-append, length-take-le, get_or-map}
+use Rattle.std.proofs.lemmas.List.{append-nil, map-append, length-map, length-append, length-take-le, get_or-map}
+use Rattle.std.proofs.lemmas.List.Elements.{filter-append}
 use Rattle.std.proofs.lemmas.Result.{on_ok_weaker}
 use Rattle.std.proofs.lemmas.Slice.Eq.{bytes_eq-Decides}
 use Rattle.xdg_base.specs.declared.ids.EntryNo.{EntryNo}
@@ -14,64 +16,37 @@ use Rattle.xdg_names.proofs.Texts.{has_text-append, place_of-Some, place_of-None
 use Rattle.xdg_packed.specs.Lexicon.{Entry, number, places_of, numbers_of, word_of}
 use Rattle.xdg_packed.specs.Words.{IsWordIndex}
 use Rattle.xdg_packed.proofs.Packs.{added_last}
-use Rattle.xdg_facts.proofs.Numbers.{plus_one}
+use Rattle.xdg_domain.proofs.Sorting.{range_more}
+use Rattle.xdg_facts.proofs.Texts.{either_way}
+use Rattle.xdg_facts.proofs.Truths.{agree_in, none_in, none_or}
 use Rattle.xdg_facts.proofs.Lists.{any_default}
 
--- ---- places one by one
+-- ---- places and numbers
 
--- the places of a word, counted from a number on
-listed : ℕ → List (List ℕ) → List ℕ → List ℕ
-listed start [] word = []
-listed start (first ∷ words) word = cond (bytes_eq first word) (start ∷ listed (start + 1) words word) (listed (start + 1) words word)
-
-places_listed : (front words : List (List ℕ)) (word : List ℕ) (start : ℕ) → start ≡ length front
-    → filter (λ place. bytes_eq (get_or (front ++ words) place []) word) (range_with_len start (length words)) ≡ listed start words word
-unfolding listed
-places_listed front [] word start size = refl
-places_listed front (first ∷ words) word start size =
-    let here : get_or (front ++ first ∷ words) start [] ≡ first = ap (λ k. get_or (front ++ first ∷ words) k []) size ∙ get_or-append_seam front first words [] in
-    let longer : start + 1 ≡ length (front ++ first ∷ []) = ap (λ k. k + 1) size ∙ sym (length-append front (first ∷ [])) in
-    let later : filter (λ place. bytes_eq (get_or (front ++ first ∷ words) place []) word) (range_with_len (start + 1) (length words)) ≡ listed (start + 1) words word =
-    ap (λ all. filter (λ place. bytes_eq (get_or all place []) word) (range_with_len (start + 1) (length words))) (sym (append_assoc front (first ∷ []) words)) ∙ places_listed (front ++ first ∷ []) words word (start + 1) longer in
-    ap₂ (λ t rest. cond (bytes_eq t word) (start ∷ rest) rest) here later
-
-places_are : (words : List (List ℕ)) (word : List ℕ) → places_of words word ≡ listed 0 words word
-places_are words word = places_listed [] words word 0 refl
-
-plus_zero : (n : ℕ) → n ≡ n + 0
-plus_zero n = omega arith
-
-zero_plus : (n : ℕ) → 0 + n ≡ n
-zero_plus n = omega arith
-
-listed_more : (start : ℕ) (words : List (List ℕ)) (last word : List ℕ) → listed start (words ++ last ∷ []) word ≡ listed start words word ++ cond (bytes_eq last word) ((start + length words) ∷ []) []
-unfolding listed
-listed_more start [] last word = ap (λ k. cond (bytes_eq last word) (k ∷ []) []) (plus_zero start)
-listed_more start (first ∷ words) last word = by (bytes_eq first word) (listed_more (start + 1) words last word ∙ ap (λ k. listed (start + 1) words word ++ cond (bytes_eq last word) (k ∷ []) []) (plus_one start (length words)))
-  where
-    by : (b : Bool) → listed (start + 1) (words ++ last ∷ []) word ≡ listed (start + 1) words word ++ cond (bytes_eq last word) ((start + suc (length words)) ∷ []) []
-        → cond b (start ∷ listed (start + 1) (words ++ last ∷ []) word) (listed (start + 1) (words ++ last ∷ []) word) ≡ cond b (start ∷ listed (start + 1) words word) (listed (start + 1) words word) ++ cond (bytes_eq last word) ((start + suc (length words)) ∷ []) []
-    by true e = ap (λ l. start ∷ l) e
-    by false e = e
+-- a word more stands at the last place
+places_more : (words : List (List ℕ)) (last word : List ℕ) → places_of (words ++ last ∷ []) word ≡ places_of words word ++ cond (bytes_eq last word) (length words ∷ []) []
+places_more words last word =
+    let all = words ++ last ∷ [] in
+    let test : ℕ → Bool = λ place. bytes_eq (get_or all place []) word in
+    ap (λ n. filter test (range_with_len 0 n)) (length-append words (last ∷ []))
+    ∙ ap (filter test) (sym (range_more (length words)))
+    ∙ filter-append test (range_with_len 0 (length words)) (length words ∷ [])
+    ∙ ap₂ (λ places here. places ++ cond here (length words ∷ []) [])
+    (agree_in test (λ place. bytes_eq (get_or words place []) word) 0 (length words) (λ place _ within. ap (λ w. bytes_eq w word) (get_or-append words (last ∷ []) [] place (omega (arith, within)))))
+    (ap (λ w. bytes_eq w word) (get_or-append_seam words last [] []))
 
 -- no place of a word that doesn't stand there
-listed_none : (start : ℕ) (words : List (List ℕ)) (word : List ℕ) → has_text words word ≡ false → listed start words word ≡ []
-unfolding listed
-listed_none start [] word none = refl
-listed_none start (first ∷ words) word none = by (bytes_eq first word) (listed_none (start + 1) words word) none
-  where
-    by : (b : Bool) → (has_text words word ≡ false → listed (start + 1) words word ≡ []) → (b || has_text words word) ≡ false → cond b (start ∷ listed (start + 1) words word) (listed (start + 1) words word) ≡ []
-    by true rest e = absurd (true≢false e)
-    by false rest e = rest e
-
--- ---- numbers
-
 pub numbers_none : (words : List (List ℕ)) (word : List ℕ) → has_text words word ≡ false → numbers_of words word ≡ []
-numbers_none words word none = ap (map number) (places_are words word ∙ listed_none 0 words word none)
+numbers_none words word none =
+    ap (map number) (agree_in (λ place. bytes_eq (get_or words place []) word) (λ _. false) 0 (length words) (λ place _ within. elim (cases_Bool (bytes_eq (get_or words place []) word)) [
+      | inl t ↦ absurd (true≢false (sym (stands-has_text words word place (omega (arith, within)) ((bytes_eq-Decides (get_or words place []) word).0 t)) ∙ none))
+      | inr f ↦ f
+    ])
+    ∙ none_in (λ _. false) 0 (length words) (λ _. refl))
 
 numbers_more : (words : List (List ℕ)) (last word : List ℕ) → numbers_of (words ++ last ∷ []) word ≡ numbers_of words word ++ cond (bytes_eq last word) (number (length words) ∷ []) []
 numbers_more words last word =
-    ap (map number) (places_are (words ++ last ∷ []) word ∙ listed_more 0 words last word ∙ ap (λ k. listed 0 words word ++ cond (bytes_eq last word) (k ∷ []) []) (zero_plus (length words)) ∙ ap (λ l. l ++ cond (bytes_eq last word) (length words ∷ []) []) (sym (places_are words word)))
+    ap (map number) (places_more words last word)
     ∙ map-append number (places_of words word) (cond (bytes_eq last word) (length words ∷ []) [])
     ∙ ap (λ l. numbers_of words word ++ l) (by (bytes_eq last word))
   where
@@ -104,21 +79,11 @@ module _ (said : List (List ℕ)) (last : List ℕ) where
       ∙ length-append (before last) (number (length said) ∷ [])
       ∙ ap (λ n. n + 1) (length-map (places_of said last) number)
 
-  differs : (a b : List ℕ) → bytes_eq a b ≡ false → bytes_eq b a ≡ false
-  differs a b e = elim (cases_Bool (bytes_eq b a)) [
-    | inl t ↦ absurd (true≢false (sym ((bytes_eq-Decides a b).1 (sym ((bytes_eq-Decides b a).0 t))) ∙ e))
-    | inr f ↦ f
-  ]
-
-  split : (a b : Bool) → (a || b) ≡ false → (a ≡ false) × (b ≡ false)
-  split true b e = absurd (true≢false e)
-  split false b e = (refl, e)
-
   others : (words : List (List ℕ)) → has_text words last ≡ false → map before words ≡ map after words
   others [] none = refl
   others (first ∷ words) none =
-      let n = split (bytes_eq first last) (has_text words last) none in
-      ap₂ (λ x xs. x ∷ xs) (sym (other_word first (differs first last n.0))) (others words n.1)
+      let n = none_or (bytes_eq first last) (has_text words last) none in
+      ap₂ (λ x xs. x ∷ xs) (sym (other_word first (either_way last first ∙ n.0))) (others words n.1)
 
   place_before : (found : Option ℕ) (place : ℕ) → option_map suc found ≡ Some place → (k : ℕ) × (found ≡ Some k) × (suc k ≡ place)
   place_before None place e = cc
@@ -138,7 +103,7 @@ module _ (said : List (List ℕ)) (last : List ℕ) where
       by false other rest e =
           let p = place_before (place_of words last) place e in
           ap (λ k. slice_set (map before (first ∷ words)) k (before last ++ number (length said) ∷ [])) (sym p.2)
-          ∙ ap₂ (λ x xs. x ∷ xs) (sym (other_word first (differs first last other))) (rest p.0 p.1)
+          ∙ ap₂ (λ x xs. x ∷ xs) (sym (other_word first (either_way last first ∙ other))) (rest p.0 p.1)
 
   -- whether the last word stands among words that stand there already
   still : (words : List (List ℕ)) (word : List ℕ) → has_text words last ≡ true → has_text words word ≡ has_text said word → has_text words word ≡ has_text (said ++ last ∷ []) word
