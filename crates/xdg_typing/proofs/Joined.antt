@@ -54,9 +54,6 @@ module _ (statements : List Statement) (named : None_of (NameOffends statements)
     pub graph_right : IsGraph graph
     graph_right = subst IsGraph (sym graph_is) (is_graph statements)
 
-    pub graph_long : length graph ≡ length bodies
-    graph_long = ap length made ∙ length-map bodies (λ b. uses_in told (tree b.now.kind))
-
     many : length bodies ≡ length ds
     many = sym (length-map bodies at) ∙ ap length are ∙ length-map ds (λ d. d.body)
 

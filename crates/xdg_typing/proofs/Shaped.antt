@@ -1,5 +1,5 @@
 -- The shapes of types, form by form.
-use Rattle.std.proofs.Common.{◌≡◌, ℕ, List, [], ◌∷◌, map, ap, ap₂, sym, ◌∙◌, refl, Bool}
+use Rattle.std.proofs.Common.{◌≡◌, ℕ, List, [], ◌∷◌, map, ap, sym, ◌∙◌, refl, Bool}
 use Rattle.std.specs.Prelude.{IsTrue, ◌↔◌}
 use Rattle.xdg_ast.specs.declared.names.Pair.{Pair}
 use Rattle.xdg_ast.specs.declared.types.TypeKind.{TypeKind}
@@ -7,14 +7,13 @@ use Rattle.xdg_ast.specs.declared.types.TypeKind.TheVariants as y
 use Rattle.xdg_domain.specs.declared.types.Ty.{Ty}
 use Rattle.xdg_domain.specs.declared.types.Ty.TheOpen.{Ty-F}
 use Rattle.xdg_domain.specs.declared.types.Ty.TheVariants as t
-use Rattle.xdg_domain.specs.Shapes.{Shape, tuple, text, mapping, fields, no_field, field_then, shape_then, shape, shapes_of, fields_of}
+use Rattle.xdg_domain.specs.Shapes.{Shape, tuple, text, fields, no_field, field_then, shape_then, shape, shapes_of, fields_of}
 use Rattle.xdg_types.specs.Written.{tree}
 use Rattle.xdg_types.specs.Parts.{TypeTerm}
-use Rattle.xdg_types.specs.Meaning.{meaning, domains_meaning, fields_meaning, as_domain}
+use Rattle.xdg_types.specs.Meaning.{meaning, domains_meaning, fields_meaning}
 use Rattle.xdg_types.specs.Table.{typed}
 use Rattle.xdg_typing.specs.Branches.{domain_meaning, field_meaning}
-use Rattle.xdg_types.proofs.Treed.{trees, members, tree_map, tree_tuple, tree_rec}
-use Rattle.xdg_domain.proofs.Opened.{shape_map}
+use Rattle.xdg_types.proofs.Treed.{trees, members, tree_tuple, tree_rec}
 use Rattle.xdg_domain.proofs.Shaped.{by_layer}
 
 shape_tuple : (all : List Ty) → shape (t.Tuple all) ≡ tuple (shapes_of (map shape all))
@@ -36,13 +35,6 @@ rec_is_empty ty all b is told = (
 -- ---- the forms
 
 module _ (names : List ℕ → Shape) where
-  pub made_map : (kind : TypeKind) (key of key_written of_written : TypeTerm) (from to held_from held_to : Ty) → kind ≡ y.Map key of → key_written ≡ key → of_written ≡ of → held_from ≡ from → held_to ≡ to
-      → shape from ≡ as_domain (meaning names (tree key_written.kind)) → shape to ≡ meaning names (tree of_written.kind) → shape (t.Map held_from held_to) ≡ meaning names (tree kind)
-  made_map kind key of key_written of_written from to held_from held_to is same_key same_of holds_from holds_to h k =
-      shape_map held_from held_to
-      ∙ ap₂ mapping (ap shape holds_from ∙ h ∙ ap (λ (w : TypeTerm). as_domain (meaning names (tree w.kind))) same_key) (ap shape holds_to ∙ k ∙ ap (λ (w : TypeTerm). meaning names (tree w.kind)) same_of)
-      ∙ sym (ap (meaning names) (ap tree is ∙ tree_map key of))
-
   domains_are : (ts : List TypeTerm) → shapes_of (map (domain_meaning names) ts) ≡ domains_meaning names (trees ts)
   domains_are [] = refl
   domains_are (t ∷ ts) = ap (shape_then (domain_meaning names t)) (domains_are ts)
