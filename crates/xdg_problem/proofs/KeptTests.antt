@@ -12,7 +12,6 @@ use Rattle.xdg_problem.specs.Places.{nodes}
 use Rattle.xdg_problem.specs.Arguments.{first_dim, label_count, truth_of}
 use Rattle.xdg_problem.specs.Asking.{AsksWhole}
 use Rattle.xdg_problem.specs.Relations.{IsKept}
-use Rattle.xdg_problem.specs.Tests.{Test}
 use Rattle.xdg_problem.proofs.Tuples.{none_kept, one_kept, two_kept, three_kept, chosen_kept}
 use Rattle.xdg_problem.proofs.Passing.{PassesAt}
 use Rattle.xdg_problem.proofs.EachTest.{Each}
@@ -27,9 +26,6 @@ use Rattle.xdg_problem.specs.Principles.{conditions_for, linking_of, way_in}
 module _ (parts : Parts) (group : Group) (candidates attrs : List ℕ) (edges : List Edge) (some : 0 < nodes parts) (mothers : All (λ e. e.mother.0 < nodes parts) edges) (daughters : All (λ e. e.daughter.0 < nodes parts) edges) where
   abbrev Kept : Condition → Type 0
   Kept condition = IsKept parts group candidates attrs edges condition
-
-  abbrev Passes : Test → Type 0
-  Passes test = PassesAt parts group candidates attrs edges test
 
   abbrev Whole : Principle → Type 0
   Whole principle = AsksWhole principle parts candidates attrs edges
@@ -46,7 +42,8 @@ module _ (parts : Parts) (group : Group) (candidates attrs : List ℕ) (edges : 
   by_empty : (principle : Principle) → group.principle ≡ principle → (Unit {0} × Whole principle) ↔ ((tuple : List ℕ) → tuple ≡ [] → Whole group.principle)
   by_empty principle is = (λ both tuple none. subst Whole (sym is) both.1, λ kept. (tt, subst Whole is (kept [] refl)))
 
-  pub kept_tests : (principle : Principle) → group.principle ≡ principle → (Each group.truths (nodes parts) (label_count parts (first_dim group)) Passes principle × Whole principle) ↔ All Kept (conditions_for principle group.truths)
+  pub kept_tests : (principle : Principle) → group.principle ≡ principle
+      → (Each group.truths (nodes parts) (label_count parts (first_dim group)) (PassesAt parts group candidates attrs edges) principle × Whole principle) ↔ All Kept (conditions_for principle group.truths)
   kept_tests principles.Graph is = alone _ _ (none_kept Kept)
   kept_tests principles.Entries is = alone _ _ (none_kept Kept)
   kept_tests principles.Tree is = alone _ _ (

@@ -47,9 +47,6 @@ module _ (parts : Parts) (group : Group) (candidates attrs : List ℕ) (edges : 
   abbrev labels : ℕ
   labels = label_count parts one
 
-  abbrev link_row : ℕ → ℕ → List ℕ
-  link_row u l = map_row group u (slice_index candidates u) l
-
   -- the edges that a test looks at
   abbrev seen : Test → List Edge
   seen test = filter (looks_at group test) edges
@@ -96,7 +93,7 @@ module _ (parts : Parts) (group : Group) (candidates attrs : List ℕ) (edges : 
   linked_tests principle way is asks = triples (Asks conditions.Link parts group candidates attrs edges) (λ u l v. PassesAt parts group candidates attrs edges (linked way u l v)) n labels n (λ u l v.
       let c : ℕ = slice_index candidates u in
       let few : List Edge = edges_on two (seen (linked way u l v)) in
-      let same = asked_alike _ _ _ _ (λ some. some, λ some. some) (linked_same way u l v (link_row u l)) in
+      let same = asked_alike _ _ _ _ (λ some. some, λ some. some) (linked_same way u l v (map_row group u (slice_index candidates u) l)) in
       link_alike principle group c u l v (edges_on one (seen (linked way u l v))) (edges_on one edges) few (edges_on two edges) is
       (placed group edges (linked way u l v) u l v (λ e. refl))
       (λ h. (asks c u l v (edges_on two edges)).1 (same.0 ((asks c u l v few).0 h)), λ h. (asks c u l v few).1 (same.1 ((asks c u l v (edges_on two edges)).0 h))))

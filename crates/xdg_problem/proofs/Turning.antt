@@ -48,5 +48,5 @@ bound_placed parts feats groups copied costs bound none same now =
     ∙ ap (λ (z : CostLists). record parts { groups = parts.groups ++ bare_use (no_features parts.candidates) (principles.Bound z bound) ∷ [] }) same)
 
 -- no features of one more candidate
-pub nothing_more : (entries : List EntryNo) (i : ℕ) (d : EntryNo) → i < length entries → map (λ (entry : EntryNo). none_of entry) (take (i + 1) entries) ≡ map (λ (entry : EntryNo). none_of entry) (take i entries) ++ [] ∷ []
-nothing_more entries i d l = ap (map none_of) (take_more entries i d l) ∙ map-append none_of (take i entries) (get_or entries i d ∷ [])
+pub nothing_more : (entries : List EntryNo) (i : ℕ) → i < length entries → map (λ (entry : EntryNo). none_of entry) (take (i + 1) entries) ≡ map (λ (entry : EntryNo). none_of entry) (take i entries) ++ [] ∷ []
+nothing_more entries i l = ap (map none_of) (take_more entries i (record { 0 = 0 }) l) ∙ map-append none_of (take i entries) (get_or entries i (record { 0 = 0 }) ∷ [])

@@ -100,12 +100,9 @@ module _ (parts : Parts) (group : Group) (analysis : Analysis) where
   same_at : (place : ℕ) (other : Condition) → place < length (conditions_of group) → slice_index_or (conditions_of group) place other ≡ at place
   same_at place other within = get_or_default (conditions_of group) place other conditions.Cycle within
 
-  abbrev Broken : Condition → Type 0
-  Broken condition = LeastBroken parts group (entry_places parts.candidates analysis.entries) analysis.attrs analysis.edges condition
-
   -- there is a verdict
   pub some_verdict : Relation parts group analysis ⊎ ((condition : Condition) × (tuple : List ℕ) × IsFirstBroken parts group analysis condition tuple)
-  some_verdict = elim (first_below (λ place. Broken (at place)) (λ place. decided_broken parts group (entry_places parts.candidates analysis.entries) analysis.attrs analysis.edges (at place)) (length (conditions_of group))) [
+  some_verdict = elim (first_below _ (λ place. decided_broken parts group (entry_places parts.candidates analysis.entries) analysis.attrs analysis.edges (at place)) (length (conditions_of group))) [
     | inl none ↦ inl (λ place other within. subst Kept (sym (same_at place other within)) (kept_or_broken parts group (entry_places parts.candidates analysis.entries) analysis.attrs analysis.edges (at place) (none place within)))
     | inr found ↦ inr (
       at found.0,
