@@ -30,10 +30,6 @@ attr_decided parts group is argument known node within =
     attr_place_within parts _ (attr_within parts (first_dim group) node (attr_of group argument) (attr_dim_within parts group is argument known) within (is.attrs argument (record { 0 = 0 }) (omega (arith, known, count))))
 
 module _ (parts : Parts) (group : Group) (small large : List (List Bool)) (problem : IsProblem parts) (group_is : IsGroup parts group) (is : IsBox (shape parts) small) (lies : LiesIn small large) where
-  -- the rules of a principle take nothing that remains in the small box
-  abbrev KeepsBy : Principle → Type 0
-  KeepsBy principle = (d v : ℕ) → Has small d v → TakesBy principle parts group small d v → ⊥
-
   for_root : (d v : ℕ) → (TakesForRoot parts group small d v → ⊥) → TakesForRoot parts group large d v → ⊥
   for_root d v keeps (inl found) = root_found parts group small large is lies d v (λ r. keeps (inl r)) (λ r. keeps (inr (inl r))) found
   for_root d v keeps (inr (inl none)) = keeps (inr (inl (no_root parts group small large is lies none)))
@@ -44,7 +40,8 @@ module _ (parts : Parts) (group : Group) (small large : List (List Bool)) (probl
   way_less None d v taken = absurd taken
   way_less (Some way) d v taken = linking_reach parts group small large is lies way d v taken
 
-  taken_by : (principle : Principle) → group.principle ≡ principle → KeepsBy principle → (d v : ℕ) → Has small d v → TakesBy principle parts group large d v → ⊥
+  -- where the rules of a principle take nothing that remains in the small box
+  taken_by : (principle : Principle) → group.principle ≡ principle → ((d v : ℕ) → Has small d v → TakesBy principle parts group small d v → ⊥) → (d v : ℕ) → Has small d v → TakesBy principle parts group large d v → ⊥
   taken_by principles.Tree same keeps d v has (inl mother) = keeps d v has (inl (one_mother parts group small large is lies d v mother))
   taken_by principles.Tree same keeps d v has (inr (inl root)) = for_root d v (λ r. keeps d v has (inr (inl r))) root
   taken_by principles.Tree same keeps d v has (inr (inr cycle)) = keeps d v has (inr (inr (no_cycle parts group small large is lies d v cycle)))

@@ -1,7 +1,6 @@
 -- A box that agrees with a whole vector is closed for a principle use exactly where the vector's analysis satisfies it.
 use Rattle.std.proofs.Common.{◌≡◌, ℕ, ◌<◌, ◌↔◌, inl, inr, Bool, List, [], length, refl, sym, subst, arith}
 use Rattle.std.specs.Prelude.{All}
-use Rattle.xdg_problem.specs.declared.analysis.Edge.{Edge}
 use Rattle.xdg_problem.specs.declared.conditions.Condition.{Condition}
 use Rattle.xdg_problem.specs.declared.conditions.Condition.TheVariants as conditions
 use Rattle.xdg_problem.specs.declared.parts.Group.{Group}
@@ -30,14 +29,8 @@ module _ (parts : Parts) (group : Group) (group_is : IsGroup parts group) (box :
   abbrev Holds : Condition → Type 0
   Holds condition = Kept parts group box x problem is whole agrees condition
 
-  abbrev candidates : List ℕ
-  candidates = entry_places parts.candidates (entries_at parts.candidates x)
-
-  abbrev attrs : List ℕ
-  attrs = (analysis_of parts x).attrs
-
-  abbrev edges : List Edge
-  edges = edges_in parts x
+  abbrev Whole : Principle → Type 0
+  Whole principle = AsksWhole principle parts (entry_places parts.candidates (entries_at parts.candidates x)) (analysis_of parts x).attrs (edges_in parts x)
 
   -- a principle use that takes at least so many attributes
   takes_attrs : (principle : Principle) (count : ℕ) → group.principle ≡ principle → count < attr_arguments principle → count < attr_arguments group.principle
@@ -80,8 +73,8 @@ module _ (parts : Parts) (group : Group) (group_is : IsGroup parts group) (box :
   keeps_by principles.Climbing same all d v has taken = climbing_reach parts group box x problem is whole agrees ((one_kept Holds conditions.Below).1 all) d v has taken
   keeps_by principles.Barriers same all d v has taken = barriers_reach parts group box x problem is whole agrees ((one_kept Holds conditions.Blocked).1 all) d v has taken
   keeps_by principles.LinkingNotDaughter same all d v has taken = linking_not_daughter parts group box x problem is whole agrees same ((one_kept Holds conditions.Link).1 all) d v has taken
-  keeps_by (principles.Rule formula) same all d v has taken = rule_takes_none parts group box x problem is whole agrees formula (subst (λ p. IsSuited p parts) same group_is.suits) (subst (λ p. AsksWhole p parts candidates attrs edges) same ((one_kept Holds conditions.Rule).1 all [] refl)) taken
-  keeps_by (principles.Bound costs bound) same all d v has taken = bound_takes_none parts group box x problem is whole agrees costs bound (subst (λ p. AsksWhole p parts candidates attrs edges) same ((one_kept Holds conditions.Bound).1 all [] refl)) d v has taken
+  keeps_by (principles.Rule formula) same all d v has taken = rule_takes_none parts group box x problem is whole agrees formula (subst (λ p. IsSuited p parts) same group_is.suits) (subst Whole same ((one_kept Holds conditions.Rule).1 all [] refl)) taken
+  keeps_by (principles.Bound costs bound) same all d v has taken = bound_takes_none parts group box x problem is whole agrees costs bound (subst Whole same ((one_kept Holds conditions.Bound).1 all [] refl)) d v has taken
   keeps_by principles.Graph same all d v has taken = absurd taken
   keeps_by principles.Entries same all d v has taken = absurd taken
   keeps_by principle same all d v has taken = linking_reach parts group box x problem is whole agrees principle (way_in (linking_of principle)) same (λ e asks. asks) ((one_kept Holds conditions.Link).1 all) d v has taken

@@ -42,10 +42,6 @@ module _ (parts : Parts) (box : List (List Bool)) (x : List ℕ) (problem : IsPr
   abbrev edges : List Edge
   edges = edges_in parts x
 
-  -- what the claim is in the analysis
-  abbrev True : Claim → (ℕ → ℕ) → Type 0
-  True c b = IsTrueIn parts (analysis_of parts x) c b
-
   abbrev EachTrue : Claims → (ℕ → ℕ) → Type 0
   EachTrue cs b = EachTrueOf parts entries attrs edges cs b
 
@@ -53,7 +49,7 @@ module _ (parts : Parts) (box : List (List Bool)) (x : List ℕ) (problem : IsPr
   SomeTrue cs b = SomeTrueOf parts entries attrs edges cs b
 
   mutual
-    pub sound : (c : Claim) (truth : Bool) (b : ℕ → ℕ) → IsOf parts c → AreNodes parts b → Makes parts box c truth b → HasTruth truth (True c b)
+    pub sound : (c : Claim) (truth : Bool) (b : ℕ → ℕ) → IsOf parts c → AreNodes parts b → Makes parts box c truth b → HasTruth truth (IsTrueIn parts (analysis_of parts x) c b)
     sound (negation c) true b suits nodes_are makes = sound c false b suits nodes_are makes
     sound (negation c) false b suits nodes_are makes = λ false_is. false_is (sound c true b suits nodes_are makes)
     sound (conjunction cs) true b suits nodes_are makes = each_true cs b suits nodes_are makes
