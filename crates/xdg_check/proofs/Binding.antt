@@ -16,8 +16,9 @@ use Rattle.xdg_types.proofs.Elements.{among_or_not, among_name, differ_append}
 use Rattle.xdg_names.proofs.Texts.{has_among, among_has}
 use Rattle.xdg_classes.specs.Bodies.{Term, Called}
 use Rattle.xdg_classes.specs.Definitions.{ClassDef, classes, class_names, class_named, param_names}
-use Rattle.xdg_classes.specs.Names.{NameOffends, all_calls, once}
-use Rattle.xdg_classes.proofs.NameLaw.{no_repeat}
+use Rattle.xdg_classes.specs.Names.{NameOffends, all_calls, used_classes, once}
+use Rattle.xdg_types.proofs.NamesAgain.{once_differ}
+use Rattle.xdg_types.proofs.NamesKnown.{each_known}
 use Rattle.xdg_check.specs.declared.checked.Class.{Class}
 use Rattle.xdg_check.specs.Completed.{left_out, preset_pair, bound_by}
 use Rattle.xdg_check.specs.Answers.{AreClassesOf}
@@ -114,7 +115,7 @@ left_pair known (p ∷ params) pair h =
 
 module _ (statements : List Statement) (table : Table) (right : None_of (NameOffends statements table)) where
   pub differ : (names : List Name) → In (once statements) names → Differ (texts names)
-  differ = no_repeat statements (λ f h. right f (inr (inr (inl h))))
+  differ = once_differ (once statements) (λ f h. right f (inr (inr (inl h))))
 
   pub classes_differ : Differ (texts (class_names (classes statements)))
   classes_differ = differ (class_names (classes statements)) (inl refl)
@@ -132,16 +133,11 @@ module _ (statements : List Statement) (table : Table) (right : None_of (NameOff
   -- the class that a use names
   pub class_of : (call : Called) → In (all_calls statements) call → (c : ClassDef) × (class_named (classes statements) call.name.text ≡ Some c)
   class_of call h =
-      named_some (classes statements) call.name.text (elim (among_or_not (texts (class_names (classes statements))) call.name.text) [
-        | inl a ↦ a
-        | inr b ↦ absurd (right (fault_at causes.UnknownName call.name.span.start) (inr (inl (record { call = call; stands = h; missing = b; fault = refl }))))
-      ])
+      named_some (classes statements) call.name.text (each_known (texts (class_names (classes statements))) (used_classes statements) (λ f u. right f (inr (inl u)))
+      call.name (map_in (λ (one : Called). one.name) (all_calls statements) call h))
 
   key_known : (call : Called) (c : ClassDef) → In (all_calls statements) call → class_named (classes statements) call.name.text ≡ Some c → (key : Name) → In (keys call.args) key → In (texts (param_names c.params)) key.text
-  key_known call c h named key i = elim (among_or_not (texts (param_names c.params)) key.text) [
-    | inl a ↦ a
-    | inr b ↦ absurd (right (fault_at causes.WrongParams key.span.start) (inr (inr (inr (inl (record { call = call; stands = h; class = c; defined = named; key = key; given = i; missing = b; fault = refl }))))))
-  ]
+  key_known call c h named = each_known (texts (param_names c.params)) (keys call.args) (λ f u. right f (inr (inr (inr (inl (record { call = call; stands = h; class = c; defined = named; unknown = u }))))))
 
   given_or_not : (call : Called) (c : ClassDef) → In (all_calls statements) call → class_named (classes statements) call.name.text ≡ Some c → (p : ClassParam) → In c.params p
       → In (texts (keys call.args)) p.name.text ⊎ ((has_text (texts (keys call.args)) p.name.text ≡ false) × (p.preset ≡ None → ⊥))

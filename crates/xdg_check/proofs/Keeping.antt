@@ -2,22 +2,20 @@
 use Rattle.std.proofs.Common.{◌≡◌, ◌⊎◌, inl, inr, ℕ, Bool, true, false, List, [], ◌∷◌, map, Some, refl, sym, ap, ◌∙◌, subst}
 use Rattle.std.specs.Prelude.{if◌then◌else◌, bytes_eq}
 use Rattle.std.proofs.lemmas.Slice.Eq.{bytes_eq-Decides}
-use Rattle.xdg_base.specs.Faults.{fault_at}
 use Rattle.xdg_ast.specs.declared.names.Name.{Name}
 use Rattle.xdg_ast.specs.declared.names.Pair.{Pair}
 use Rattle.xdg_ast.specs.declared.grammar.ClassParam.{ClassParam}
-use Rattle.xdg_base.specs.declared.faults.Cause.TheVariants as causes
 use Rattle.xdg_domain.specs.declared.types.Ty.{Ty}
 use Rattle.xdg_domain.specs.Shapes.{Shape, shape}
 use Rattle.xdg_types.specs.declared.table.DimType.{DimType}
 use Rattle.xdg_types.specs.Answers.{None_of}
 use Rattle.xdg_types.specs.Parts.{Statement, keys}
 use Rattle.xdg_types.specs.Table.{Table, typed, dim_named}
-use Rattle.xdg_types.proofs.Elements.{among_or_not}
+use Rattle.xdg_types.proofs.NamesKnown.{each_known}
 use Rattle.xdg_terms.specs.Wanted.{params_in}
 use Rattle.xdg_classes.specs.Bodies.{Term, Body, Said, Called, records, calls}
 use Rattle.xdg_classes.specs.Definitions.{ClassDef, classes, Scoped, bodies}
-use Rattle.xdg_classes.specs.Names.{NameOffends, all_calls, dim_texts}
+use Rattle.xdg_classes.specs.Names.{NameOffends, all_records, all_calls, said_dims, dim_texts}
 use Rattle.xdg_classes.specs.Wants as w
 use Rattle.xdg_classes.specs.Wants.{NamedBody, Wants, at_feature, at_argument, feature_shape, feature_in, type_named}
 use Rattle.xdg_check.specs.declared.checked.Class.{Class}
@@ -130,10 +128,8 @@ module _ (statements : List Statement) (table : Table) (names : None_of (NameOff
         ])
 
     dim_of : (b : Scoped) → In (bodies statements) b → (said : Said) → In (records b.body) said → (d : DimType) × (dim_named table.dims said.dim.text ≡ Some d)
-    dim_of b h said i = dim_found table.dims said.dim.text (elim (among_or_not (dim_texts table) said.dim.text) [
-      | inl a ↦ a
-      | inr n ↦ absurd (names (fault_at causes.UnknownName said.dim.span.start) (inl (record { said = said; stands = flat_map_in (λ (one : Scoped). records one.body) (bodies statements) b said h i; missing = n; fault = refl })))
-    ])
+    dim_of b h said i = dim_found table.dims said.dim.text (each_known (dim_texts table) (said_dims statements) (λ f u. names f (inl u)) said.dim
+        (in_map (λ (one : Said). one.dim) (all_records statements) said (flat_map_in (λ (one : Scoped). records one.body) (bodies statements) b said h i)))
 
     right_record : (b : Scoped) → In (bodies statements) b → (said : Said) → In (records b.body) said → IsRightRecord table b.params said
     right_record b h said i =

@@ -8,7 +8,8 @@ use Rattle.xdg_domain.specs.Shapes.{Shape}
 use Rattle.xdg_types.specs.Answers.{None_of}
 use Rattle.xdg_types.specs.Parts.{Statement, keys}
 use Rattle.xdg_types.specs.Table.{Table}
-use Rattle.xdg_types.proofs.Elements.{among_or_not, differ_unless}
+use Rattle.xdg_types.proofs.Elements.{among_or_not}
+use Rattle.xdg_types.proofs.NamesAgain.{again_differ}
 use Rattle.xdg_terms.specs.Stray.{IsStrayParam}
 use Rattle.xdg_classes.specs.Bodies.{Term, Said, records}
 use Rattle.xdg_classes.specs.Definitions.{Scoped, bodies}
@@ -36,8 +37,7 @@ module _ (statements : List Statement) (table : Table) (none : None_of (ValueOff
   pub right_bodies : RightBodies statements table
   right_bodies = record {
     said = λ b h said i. record {
-      once = differ_unless (keys said.pairs) (λ before name after parts earlier. none (fault_at causes.Twice name.span.start)
-          (inr (inl (record { scoped = b; among = h; said = said; stands = i; before = before; name = name; after = after; parts = parts; earlier = earlier; fault = refl }))));
+      once = again_differ (keys said.pairs) (λ f a. none f (inr (inl (record { scoped = b; among = h; said = said; stands = i; again = a }))));
       pairs = λ pair j. pair_right b h said i pair j;
       scoped = λ pair j. scoped_unless b.params pair.value (λ f k. none f (inr (inr (inr (inr (inr (inl (record { scoped = b; among = h; said = said; stands = i; pair = pair; has = j; offends = k }))))))));
     };

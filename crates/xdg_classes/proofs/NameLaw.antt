@@ -1,8 +1,8 @@
 -- The offences of names that the pass lists are those of the rules.
-use Rattle.std.proofs.Common.{◌≡◌, inl, inr, ℕ, Bool, true, false, List, [], ◌∷◌, ◌++◌, map, Option, None, Some, refl, sym, ap, ◌∙◌, subst}
+use Rattle.std.proofs.Common.{◌≡◌, ◌⊎◌, inl, inr, ℕ, Bool, true, false, List, [], ◌∷◌, ◌++◌, map, Option, None, Some, refl, sym, ap, ◌∙◌, subst}
 use Rattle.std.specs.List.{flat_map}
 use Rattle.std.specs.Prelude.{option_map, bytes_eq, if◌then◌else◌}
-use Rattle.std.proofs.lemmas.Bool.{true≢false, false_from_ne_true}
+use Rattle.std.proofs.lemmas.Bool.{true≢false}
 use Rattle.std.proofs.lemmas.Slice.Eq.{bytes_eq-Decides}
 use Rattle.xdg_base.specs.Faults.{fault_at}
 use Rattle.xdg_ast.specs.declared.names.Name.{Name}
@@ -10,22 +10,22 @@ use Rattle.xdg_ast.specs.declared.grammar.ClassParam.{ClassParam}
 use Rattle.xdg_base.specs.declared.faults.Cause.TheVariants as causes
 use Rattle.xdg_base.specs.declared.faults.Fault.{Fault}
 use Rattle.xdg_names.specs.First.{Tells, first}
-use Rattle.xdg_names.proofs.First.{tells_as, first-tells}
 use Rattle.xdg_names.specs.Texts.{has_text}
-use Rattle.xdg_types.specs.Answers.{None_of}
-use Rattle.xdg_types.specs.NameFaults.{repeats, different}
+use Rattle.xdg_types.specs.Misnamed.{IsUnknown}
+use Rattle.xdg_types.specs.NameFaults.{unknown, foreign, repeats, different}
 use Rattle.xdg_types.specs.Parts.{Statement, keys}
 use Rattle.xdg_types.specs.Table.{Table}
+use Rattle.xdg_types.proofs.AllOf.{AllOf, all_tell, joined, joined_each, mapped, swapped}
 use Rattle.xdg_types.proofs.Distinct.{missing, not_there, same_known}
 use Rattle.xdg_names.proofs.Texts.{has_among, among_has}
-use Rattle.xdg_types.proofs.NamesAgain.{again_sound, again_complete, differ_by}
+use Rattle.xdg_types.proofs.NamesAgain.{all_twice, all_of_one, more_lists}
+use Rattle.xdg_types.proofs.NamesKnown.{all_unknown}
 use Rattle.xdg_classes.specs.Bodies.{Term, Called}
 use Rattle.xdg_classes.specs.Definitions.{ClassDef, classes, class_names, class_named, param_names}
-use Rattle.xdg_classes.specs.Names.{dim_texts, all_records, all_calls, once, IsTwice, IsLeftOut, NameOffends}
-use Rattle.xdg_classes.specs.NameFaults.{bare_of, bare_names, asked_by, unknown_param, lacks, left_out, class_faults, call_faults, said_faults, param_faults, name_faults}
-use Rattle.xdg_facts.specs.Membership.{In, Differ}
-use Rattle.xdg_facts.proofs.In.{in_append, in_left, in_right, in_unless, unless_in, in_when, when_in, in_flat_map, flat_map_in, in_map as map_in}
-use Rattle.xdg_facts.proofs.In.{map_in as in_map}
+use Rattle.xdg_classes.specs.Names.{dim_texts, all_records, all_calls, said_dims, used_classes, IsUnknownParam, IsLeftOut, NameOffends}
+use Rattle.xdg_classes.specs.NameFaults.{bare_of, bare_names, asked_by, lacks, left_out, class_faults, name_faults}
+use Rattle.xdg_facts.specs.Membership.{In}
+use Rattle.xdg_facts.proofs.In.{in_append, in_left, in_right, in_when, when_in, in_flat_map, flat_map_in, in_map, map_in}
 use Rattle.xdg_ast.specs.Texts.{texts}
 
 -- ---- lists of names
@@ -103,9 +103,6 @@ to_different names t a = has_among (different names) t (same_known names t ∙ a
 -- ---- the pass
 
 module _ (statements : List Statement) (table : Table) where
-  abbrev dims : List (List ℕ)
-  dims = dim_texts table
-
   abbrev cs : List ClassDef
   cs = classes statements
 
@@ -115,132 +112,74 @@ module _ (statements : List Statement) (table : Table) where
   abbrev keys_of : Called → List Name
   keys_of call = keys call.args
 
-  -- the parts of the list, and what follows each
-  abbrev in_said : List Fault
-  in_said = flat_map (said_faults dims) (all_records statements)
-
-  abbrev in_params : List Fault
-  in_params = flat_map param_faults cs
-
-  abbrev in_calls : List Fault
-  in_calls = flat_map (call_faults cs) (all_calls statements)
-
-  abbrev after_classes : List Fault
-  after_classes = in_params ++ in_calls
-
-  abbrev after_said : List Fault
-  after_said = repeats [] (class_names cs) ++ after_classes
-
-  twice : (names : List Name) → In (once statements) names → (f : Fault) → In (repeats [] names) f → IsTwice statements f
-  twice names among f h =
-      let k = again_sound [] names [] (λ t a. a) f h in
-      record { names = names; among = among; before = k.before; name = k.name; after = k.after; parts = k.parts; earlier = k.earlier; fault = k.fault }
-
-  of_class : (call : Called) → In (all_calls statements) call → (f : Fault) → In (class_faults (option_map asked_by (class_named cs call.name.text)) call) f → NameOffends statements table f
-  of_class call stands f h = by (class_named cs call.name.text) refl h
-    where
-      by : (o : Option ClassDef) → class_named cs call.name.text ≡ o → In (class_faults (option_map asked_by o) call) f → NameOffends statements table f
-      by None is h = elim h [
-        | inl e ↦ inr (inl (record { call = call; stands = stands; missing = λ a. named_among cs call.name.text a is; fault = sym e }))
-        | inr k ↦ absurd k
-      ]
-      by (Some c) is h = elim (in_append (flat_map (unknown_param (asked_by c).has) (keys call.args)) (left_out (different (keys call.args)) (asked_by c).needs call.name.span.start) f h) [
-        | inl u ↦ (let k = in_flat_map (unknown_param (asked_by c).has) (keys call.args) f u in
-            let e = in_unless (has_text (asked_by c).has k.0.text) (fault_at causes.WrongParams k.0.span.start) f k.1.1 in
-            inr (inr (inr (inl (record { call = call; stands = stands; class = c; defined = is; key = k.0; given = k.1.0; missing = missing (param_names c.params) k.0.text e.0; fault = sym e.1 })))))
-        | inr l ↦ (let e = in_when (lacks (different (keys call.args)) (asked_by c).needs) (fault_at causes.WrongParams call.name.span.start) f l in
-            let r = lacks_sound (different (keys call.args)) (asked_by c).needs e.0 in
-            let p = bare_found c.params r.0 (of_different (bare_names c.params) r.0 r.1.0) in
-            inr (inr (inr (inr (record {
-              call = call;
-              stands = stands;
-              class = c;
-              defined = is;
-              param = p.param;
-              has = p.has;
-              bare = p.none;
-              missing = λ a. missing (keys call.args) r.0 r.1.1 (subst (In (texts (keys call.args))) p.text a);
-              fault = sym e.1;
-            })))))
-      ]
-
-  of_call : (call : Called) → In (all_calls statements) call → (f : Fault) → In (call_faults cs call) f → NameOffends statements table f
-  of_call call stands f h = elim (in_append (repeats [] (keys call.args)) (class_faults (option_map asked_by (class_named cs call.name.text)) call) f h) [
-    | inl r ↦ inr (inr (inl (twice (keys call.args) (inr (in_right (map params_of cs) (map keys_of (all_calls statements)) (keys call.args) (in_map keys_of (all_calls statements) call stands))) f r)))
-    | inr w ↦ of_class call stands f w
-  ]
-
-  pub sound : (f : Fault) → In (name_faults statements table) f → NameOffends statements table f
-  sound f h = elim (in_append in_said after_said f h) [
-    | inl u ↦ (let k = in_flat_map (said_faults dims) (all_records statements) f u in
-        let e = in_unless (has_text dims k.0.dim.text) (fault_at causes.UnknownName k.0.dim.span.start) f k.1.1 in
-        inl (record { said = k.0; stands = k.1.0; missing = λ a. true≢false (sym (among_has dims k.0.dim.text a) ∙ e.0); fault = sym e.1 }))
-    | inr h₁ ↦ elim (in_append (repeats [] (class_names cs)) after_classes f h₁) [
-      | inl r ↦ inr (inr (inl (twice (class_names cs) (inl refl) f r)))
-      | inr h₂ ↦ elim (in_append in_params in_calls f h₂) [
-        | inl p ↦ (let k = in_flat_map param_faults cs f p in
-            inr (inr (inl (twice (params_of k.0) (inr (in_left (map params_of cs) (map keys_of (all_calls statements)) (params_of k.0) (in_map params_of cs k.0 k.1.0))) f k.1.1))))
-        | inr c ↦ (let k = in_flat_map (call_faults cs) (all_calls statements) f c in of_call k.0 k.1.0 f k.1.1)
-      ]
-    ]
-  ]
-
-  last : (call : Called) → In (all_calls statements) call → (f : Fault) → In (call_faults cs call) f → In (name_faults statements table) f
-  last call stands f h = in_right in_said after_said f (in_right (repeats [] (class_names cs)) after_classes f (in_right in_params in_calls f (flat_map_in (call_faults cs) (all_calls statements) call f stands h)))
-
-  again_here : (names : List Name) → In (once statements) names → (f : Fault) → In (repeats [] names) f → In (name_faults statements table) f
-  again_here names among f h = elim among [
-    | inl e ↦ in_right in_said after_said f (in_left (repeats [] (class_names cs)) after_classes f (subst (λ ns. In (repeats [] ns) f) (sym e) h))
-    | inr a ↦ elim (in_append (map params_of cs) (map keys_of (all_calls statements)) names a) [
-      | inl p ↦ (let k = map_in params_of cs names p in
-          in_right in_said after_said f (in_right (repeats [] (class_names cs)) after_classes f (in_left in_params in_calls f
-          (flat_map_in param_faults cs k.0 f k.1.0 (subst (λ ns. In (repeats [] ns) f) (sym k.1.1) h)))))
-      | inr c ↦ (let k = map_in keys_of (all_calls statements) names c in
-          last k.0 k.1.0 f (in_left (repeats [] (keys_of k.0)) (class_faults (option_map asked_by (class_named cs k.0.name.text)) k.0) f (subst (λ ns. In (repeats [] ns) f) (sym k.1.1) h)))
-    ]
-  ]
-
   -- what is wrong with a use by what its class asks
-  in_class : (call : Called) → In (all_calls statements) call → (o : Option ClassDef) → class_named cs call.name.text ≡ o → (f : Fault) → In (class_faults (option_map asked_by o) call) f → In (name_faults statements table) f
-  in_class call stands o is f h =
-      last call stands f (in_right (repeats [] (keys call.args)) (class_faults (option_map asked_by (class_named cs call.name.text)) call) f (subst (λ p. In (class_faults (option_map asked_by p) call) f) (sym is) h))
+  abbrev by_class : Called → List Fault
+  by_class call = class_faults (option_map asked_by (class_named cs call.name.text)) call
 
-  left_here : (f : Fault) → IsLeftOut statements f → In (name_faults statements table) f
+  abbrev ClassOffends : Fault → Type 0
+  ClassOffends f = IsUnknown causes.UnknownName (texts (class_names cs)) (used_classes statements) f ⊎ (IsUnknownParam statements f ⊎ IsLeftOut statements f)
+
+  all_params : (c : ClassDef) (call : Called) → AllOf (flat_map (foreign (asked_by c).has) (keys call.args)) (IsUnknown causes.WrongParams (texts (params_of c)) (keys call.args))
+  all_params c call = all_unknown causes.WrongParams (asked_by c).has (texts (params_of c)) (same_known (params_of c)) (keys call.args)
+
+  of_class : (call : Called) → In (all_calls statements) call → (o : Option ClassDef) → class_named cs call.name.text ≡ o → (f : Fault) → In (class_faults (option_map asked_by o) call) f → ClassOffends f
+  of_class call stands None is f h = elim h [
+    | inl e ↦ inl (record { name = call.name; used = map_in (λ (one : Called). one.name) (all_calls statements) call stands; missing = λ a. named_among cs call.name.text a is; fault = sym e })
+    | inr k ↦ absurd k
+  ]
+  of_class call stands (Some c) is f h = elim (in_append (flat_map (foreign (asked_by c).has) (keys call.args)) (left_out (different (keys call.args)) (asked_by c).needs call.name.span.start) f h) [
+    | inl u ↦ inr (inl (record { call = call; stands = stands; class = c; defined = is; unknown = (all_params c call).sound f u }))
+    | inr l ↦ (let e = in_when (lacks (different (keys call.args)) (asked_by c).needs) (fault_at causes.WrongParams call.name.span.start) f l in
+        let r = lacks_sound (different (keys call.args)) (asked_by c).needs e.0 in
+        let p = bare_found c.params r.0 (of_different (bare_names c.params) r.0 r.1.0) in
+        inr (inr (record {
+          call = call;
+          stands = stands;
+          class = c;
+          defined = is;
+          param = p.param;
+          has = p.has;
+          bare = p.none;
+          missing = λ a. missing (keys call.args) r.0 r.1.1 (subst (In (texts (keys call.args))) p.text a);
+          fault = sym e.1;
+        })))
+  ]
+
+  in_class : (call : Called) → In (all_calls statements) call → (o : Option ClassDef) → class_named cs call.name.text ≡ o → (f : Fault) → In (class_faults (option_map asked_by o) call) f → In (flat_map by_class (all_calls statements)) f
+  in_class call stands o is f h = flat_map_in by_class (all_calls statements) call f stands (subst (λ p. In (class_faults (option_map asked_by p) call) f) (sym is) h)
+
+  left_here : (f : Fault) → IsLeftOut statements f → In (flat_map by_class (all_calls statements)) f
   left_here f u =
       let given = different (keys u.call.args) in
       let needs = (asked_by u.class).needs in
       in_class u.call u.stands (Some u.class) u.defined f
-      (in_right (flat_map (unknown_param (asked_by u.class).has) (keys u.call.args)) (left_out given needs u.call.name.span.start) f
+      (in_right (flat_map (foreign (asked_by u.class).has) (keys u.call.args)) (left_out given needs u.call.name.span.start) f
       (when_in (lacks given needs) (fault_at causes.WrongParams u.call.name.span.start) f
       (lacks_complete given needs u.param.name.text (to_different (bare_names u.class.params) u.param.name.text (bare_among u.class.params u.param u.has u.bare)) (not_there (keys u.call.args) u.param.name.text u.missing))
       (sym u.fault)))
 
-  pub complete : (f : Fault) → NameOffends statements table f → In (name_faults statements table) f
-  complete f h = elim h [
-    | inl u ↦ in_left in_said after_said f
-        (flat_map_in (said_faults dims) (all_records statements) u.said f u.stands
-        (unless_in (has_text dims u.said.dim.text) (fault_at causes.UnknownName u.said.dim.span.start) f
-        (false_from_ne_true (has_text dims u.said.dim.text) (λ e. u.missing (has_among dims u.said.dim.text e))) (sym u.fault)))
-    | inr h₁ ↦ elim h₁ [
-      | inl u ↦ in_class u.call u.stands None (named_missing cs u.call.name.text u.missing) f (inl (sym u.fault))
-      | inr h₂ ↦ elim h₂ [
-        | inl r ↦ again_here r.names r.among f (subst (λ ns. In (repeats [] ns) f) (sym r.parts) (again_complete r.before r.name r.after [] f (inr r.earlier) (sym r.fault)))
-        | inr h₃ ↦ elim h₃ [
-          | inl u ↦ in_class u.call u.stands (Some u.class) u.defined f
-              (in_left (flat_map (unknown_param (asked_by u.class).has) (keys u.call.args)) (left_out (different (keys u.call.args)) (asked_by u.class).needs u.call.name.span.start) f
-              (flat_map_in (unknown_param (asked_by u.class).has) (keys u.call.args) u.key f u.given
-              (unless_in (has_text (asked_by u.class).has u.key.text) (fault_at causes.WrongParams u.key.span.start) f (not_there (param_names u.class.params) u.key.text u.missing) (sym u.fault))))
-          | inr u ↦ left_here f u
-        ]
+  all_classes : AllOf (flat_map by_class (all_calls statements)) ClassOffends
+  all_classes = record {
+    sound = λ f h. (let k = in_flat_map by_class (all_calls statements) f h in of_class k.0 k.1.0 (class_named cs k.0.name.text) refl f k.1.1);
+    complete = λ f h. elim h [
+      | inl u ↦ (let k = in_map (λ (one : Called). one.name) (all_calls statements) u.name u.used in
+          in_class k.0 k.1.0 None (named_missing cs k.0.name.text (λ a. u.missing (subst (λ (n : Name). In (texts (class_names cs)) n.text) k.1.1 a))) f
+          (inl (ap (λ (n : Name). fault_at causes.UnknownName n.span.start) k.1.1 ∙ sym u.fault)))
+      | inr h ↦ elim h [
+        | inl u ↦ in_class u.call u.stands (Some u.class) u.defined f
+            (in_left (flat_map (foreign (asked_by u.class).has) (keys u.call.args)) (left_out (different (keys u.call.args)) (asked_by u.class).needs u.call.name.span.start) f
+            ((all_params u.class u.call).complete f u.unknown))
+        | inr u ↦ left_here f u
       ]
-    ]
-  ]
+    ];
+  }
+
+  pub all_names : AllOf (name_faults statements table) (NameOffends statements table)
+  all_names =
+      joined (mapped (unknown (dim_texts table)) (λ said. said.dim) (all_records statements) (all_unknown causes.UnknownName (dim_texts table) (dim_texts table) (λ t. refl) (said_dims statements)))
+      (swapped (more_lists (all_of_one (class_names cs)) (more_lists (mapped (repeats []) params_of cs (all_twice (map params_of cs)))
+      (joined_each (λ call. repeats [] (keys_of call)) by_class (all_calls statements) (mapped (repeats []) keys_of (all_calls statements) (all_twice (map keys_of (all_calls statements)))) all_classes))))
 
   -- the first of the list is the first offence
   pub names_tell : Tells (NameOffends statements table) (first (name_faults statements table))
-  names_tell = tells_as (In (name_faults statements table)) (NameOffends statements table) sound complete (first (name_faults statements table)) (first-tells (name_faults statements table))
-
--- where no name is given twice, the names of each list in which a name may stand once differ
-pub no_repeat : (statements : List Statement) → None_of (IsTwice statements) → (names : List Name) → In (once statements) names → Differ (texts names)
-no_repeat statements none names among = differ_by names (λ f k.
-    none f (record { names = names; among = among; before = k.before; name = k.name; after = k.after; parts = k.parts; earlier = k.earlier; fault = k.fault }))
+  names_tell = all_tell all_names

@@ -14,15 +14,16 @@ use Rattle.xdg_types.specs.Answers.{None_of}
 use Rattle.xdg_types.specs.Graph.{use_of}
 use Rattle.xdg_types.specs.NameFaults.{with_all}
 use Rattle.xdg_types.specs.Parts.{Statement}
+use Rattle.xdg_types.specs.Misnamed.{IsTwice}
 use Rattle.xdg_types.proofs.Distinct.{all_differ}
+use Rattle.xdg_types.proofs.NamesAgain.{once_differ}
 use Rattle.xdg_classes.specs.declared.definitions.ClassDef.{ClassDef as LentClass}
 use Rattle.xdg_classes.specs.Bodies.{Called, body, calls}
 use Rattle.xdg_classes.specs.Definitions.{ClassDef, classes, class_names}
-use Rattle.xdg_classes.specs.Names.{IsTwice}
+use Rattle.xdg_classes.specs.Names as sites
 use Rattle.xdg_classes.specs.Graph.{class_uses, class_graph}
 use Rattle.xdg_classes.specs.Ordered.{OrdersClasses}
 use Rattle.xdg_classes.specs.Lent.{class_def}
-use Rattle.xdg_classes.proofs.NameLaw.{no_repeat}
 use Rattle.xdg_facts.specs.Membership.{In}
 use Rattle.xdg_facts.proofs.In.{in_flat_map}
 use Rattle.xdg_types.proofs.InUse.{in_use}
@@ -61,10 +62,10 @@ module _ (statements : List Statement) where
       let long : length known ≡ length cs = texts_long cs in
       omega (arith, at, long, graph_long)
 
-  module _ (once : None_of (IsTwice statements)) (lent : List LentClass) (are : map class_def lent ≡ cs) (seen names : List (List ℕ)) (empty : seen ≡ []) (all : names ≡ with_all seen (class_names (map class_def lent)))
+  module _ (once : None_of (IsTwice (sites.once statements))) (lent : List LentClass) (are : map class_def lent ≡ cs) (seen names : List (List ℕ)) (empty : seen ≡ []) (all : names ≡ with_all seen (class_names (map class_def lent)))
       (graph : List (List Use)) (made : graph ≡ map (class_uses names) (map class_def lent)) where
     pub names_are : names ≡ known
-    names_are = all ∙ ap (λ s. with_all s (class_names (map class_def lent))) empty ∙ ap (λ ds. with_all [] (class_names ds)) are ∙ all_differ (class_names cs) (no_repeat statements once (class_names cs) (inl refl))
+    names_are = all ∙ ap (λ s. with_all s (class_names (map class_def lent))) empty ∙ ap (λ ds. with_all [] (class_names ds)) are ∙ all_differ (class_names cs) (once_differ (sites.once statements) once (class_names cs) (inl refl))
 
     pub graph_is : graph ≡ g
     graph_is = made ∙ ap (map (class_uses names)) are ∙ ap (λ ns. map (class_uses ns) cs) names_are

@@ -1,15 +1,13 @@
 -- What is collected of a class is what is wanted of its parameters.
-use Rattle.std.proofs.Common.{◌≡◌, inl, inr, ℕ, zero, suc, ◌+◌, ◌<◌, Bool, true, false, List, [], ◌∷◌, ◌++◌, length, map, slice_set, Option, Some, None, refl, sym, ap, ◌∙◌, subst, arith}
+use Rattle.std.proofs.Common.{◌≡◌, inl, inr, ℕ, zero, suc, ◌+◌, ◌<◌, Bool, true, false, List, [], ◌∷◌, length, map, slice_set, Option, Some, None, refl, sym, ap, ◌∙◌, subst, arith}
 use Rattle.std.specs.Prelude.{◌↔◌, bytes_eq, if◌then◌else◌, option_map, slice_get, slice_index_or}
 use Rattle.std.specs.List.{flat_map}
 use Rattle.std.proofs.lemmas.Bool.{true≢false, cases_eq, or_left, or_right}
 use Rattle.std.proofs.lemmas.List.{length-map}
 use Rattle.std.proofs.lemmas.Option.{slice_get-map, slice_get_within, get_or_from_slice_get}
 use Rattle.std.proofs.lemmas.Slice.Eq.{bytes_eq-Decides}
-use Rattle.xdg_base.specs.Faults.{fault_at}
 use Rattle.xdg_ast.specs.declared.names.Name.{Name}
 use Rattle.xdg_ast.specs.declared.names.Pair.{Pair}
-use Rattle.xdg_base.specs.declared.faults.Cause.TheVariants as causes
 use Rattle.xdg_names.specs.Texts.{has_text, place_of}
 use Rattle.xdg_names.proofs.Texts.{place_of-Some, place_of-None}
 use Rattle.xdg_domain.specs.Shapes.{Shape}
@@ -18,14 +16,17 @@ use Rattle.xdg_names.specs.declared.graph.Use.{Use}
 use Rattle.xdg_terms.specs.Wanted.{params_in}
 use Rattle.xdg_types.specs.Answers.{None_of}
 use Rattle.xdg_types.specs.Graph.{use_of, use_at}
+use Rattle.xdg_types.specs.Misnamed.{IsTwice}
 use Rattle.xdg_types.specs.Parts.{Statement}
 use Rattle.xdg_types.specs.Table.{Table, dim_named}
 use Rattle.xdg_types.specs.declared.table.DimType.{DimType}
+use Rattle.xdg_types.proofs.Elements.{in_texts}
+use Rattle.xdg_types.proofs.NamesAgain.{once_differ}
 use Rattle.xdg_classes.specs.Bodies.{Term, Body, body, Said, Called, records, calls}
 use Rattle.xdg_classes.specs.Definitions.{ClassDef, classes, class_names, param_names}
 use Rattle.xdg_classes.specs.Graph.{class_graph, class_uses}
 use Rattle.xdg_classes.specs.Lent.{class_def}
-use Rattle.xdg_classes.specs.Names.{IsTwice}
+use Rattle.xdg_classes.specs.Names.{once}
 use Rattle.xdg_classes.specs.declared.definitions.ClassDef.{ClassDef as LentClass}
 use Rattle.xdg_classes.specs.declared.lookup.Classes.{Classes}
 use Rattle.xdg_classes.specs.declared.features.Features.{Features}
@@ -34,7 +35,7 @@ use Rattle.xdg_classes.specs.Given.{given, given_in, at_place, told}
 use Rattle.xdg_classes.specs.Wants.{NamedBody, named, named_bodies, feature_in, feature_shape, Wants, at_feature, at_argument}
 use Rattle.xdg_classes.specs.Collected.{feature_of, dim_at, wants_at, pair_wants, record_wants, arg_wants, call_wants, body_wants}
 use Rattle.xdg_classes.specs.KnownWants.{Fits, IsRightAt, AreRightUpTo, IsKnown}
-use Rattle.xdg_facts.specs.Membership.{In}
+use Rattle.xdg_facts.specs.Membership.{In, Differ}
 use Rattle.xdg_facts.proofs.In.{in_append, in_left, in_right, in_at, in_index, in_flat_map, flat_map_in, in_map, map_in}
 use Rattle.xdg_ast.specs.Texts.{texts}
 
@@ -59,33 +60,18 @@ same_features table features d n dim name =
 
 -- ---- no two classes with one name
 
-splits : {A : Type 0} (xs : List A) (x : A) → In xs x → (ys : List A) × ((zs : List A) × (xs ≡ ys ++ x ∷ zs))
-splits [] x h = absurd h
-splits (y ∷ xs) x h = elim h [ inl e ↦ ([], (xs, ap (λ z. z ∷ xs) e)) | inr k ↦ (let r = splits xs x k in (y ∷ r.0, (r.1.0, ap (λ l. y ∷ l) r.1.1))) ]
-
-abbrev NoneAgain : List Name → Type 0
-NoneAgain names = (before : List Name) (name : Name) (after : List Name) → names ≡ before ++ name ∷ after → In (texts before) name.text → ⊥
-
-names_split : (cs ds : List ClassDef) (c : ClassDef) → class_names (cs ++ c ∷ ds) ≡ class_names cs ++ c.name ∷ class_names ds
-names_split [] ds c = refl
-names_split (x ∷ cs) ds c = ap (λ l. x.name ∷ l) (names_split cs ds c)
-
-apart : (x : ClassDef) (xs : List ClassDef) (c : ClassDef) → NoneAgain (class_names (x ∷ xs)) → In xs c → x.name.text ≡ c.name.text → ⊥
-apart x xs c none h e = let r = splits xs c h in none (x.name ∷ class_names r.0) c.name (class_names r.1.0) (ap class_names (ap (λ l. x ∷ l) r.1.1) ∙ names_split (x ∷ r.0) r.1.0 c) (inl e)
-
-one_class : (cs : List ClassDef) → NoneAgain (class_names cs) → (c d : ClassDef) → In cs c → In cs d → c.name.text ≡ d.name.text → c ≡ d
-one_class [] none c d h k e = absurd h
-one_class (x ∷ xs) none c d h k e = elim h [
-  | inl a ↦ elim k [ inl b ↦ sym a ∙ b | inr b ↦ absurd (apart x xs d none b (ap (λ (z : ClassDef). z.name.text) a ∙ e)) ]
-  | inr a ↦ elim k [
-    | inl b ↦ absurd (apart x xs c none a (ap (λ (z : ClassDef). z.name.text) b ∙ sym e))
-    | inr b ↦ one_class xs (λ before name after s among. none (x.name ∷ before) name after (ap (λ l. x.name ∷ l) s) (inr among)) c d a b e
-  ]
+one_class : (cs : List ClassDef) → Differ (texts (class_names cs)) → (c d : ClassDef) → In cs c → In cs d → c.name.text ≡ d.name.text → c ≡ d
+one_class [] differ c d h k e = absurd h
+one_class (x ∷ xs) differ c d h k e = elim h [
+  | inl a ↦ elim k [ inl b ↦ sym a ∙ b | inr b ↦ absurd (other d b (ap (λ (z : ClassDef). z.name.text) a ∙ e)) ]
+  | inr a ↦ elim k [ inl b ↦ absurd (other c a (ap (λ (z : ClassDef). z.name.text) b ∙ sym e)) | inr b ↦ one_class xs differ.1 c d a b e ]
 ]
+  where
+    other : (z : ClassDef) → In xs z → x.name.text ≡ z.name.text → ⊥
+    other z i same = differ.0 (subst (In (texts (class_names xs))) (sym same) (in_texts (class_names xs) z.name (map_in (λ (y : ClassDef). y.name) xs z i)))
 
-pub unique : (statements : List Statement) → None_of (IsTwice statements) → (c d : ClassDef) → In (classes statements) c → In (classes statements) d → c.name.text ≡ d.name.text → c ≡ d
-unique statements none =
-    one_class (classes statements) (λ before name after parts among. none (fault_at causes.Twice name.span.start) (record { names = class_names (classes statements); among = inl refl; before = before; name = name; after = after; parts = parts; earlier = among; fault = refl }))
+pub unique : (statements : List Statement) → None_of (IsTwice (once statements)) → (c d : ClassDef) → In (classes statements) c → In (classes statements) d → c.name.text ≡ d.name.text → c ≡ d
+unique statements none = one_class (classes statements) (once_differ (once statements) none (class_names (classes statements)) (inl refl))
 
 -- ---- a list with one element changed
 
@@ -108,7 +94,7 @@ pub wants_of_some : (table : Table) (cs : List NamedBody) (class param : List �
 wants_of_some table cs class param s (at_feature c said pair t p u h r a f w) = (c, (h, refl))
 wants_of_some table cs class param s (at_argument c call pair t p u h k a w v) = (c, (h, refl))
 
-module _ (statements : List Statement) (table : Table) (none : None_of (IsTwice statements)) (look : List ℕ → List ℕ → Option Shape) (same : (dim name : List ℕ) → look dim name ≡ feature_shape table dim name)
+module _ (statements : List Statement) (table : Table) (none : None_of (IsTwice (once statements))) (look : List ℕ → List ℕ → Option Shape) (same : (dim name : List ℕ) → look dim name ≡ feature_shape table dim name)
     (tell : List ℕ → List ℕ → List Shape) (c : ClassDef) (here : In (classes statements) c) where
   abbrev cs : List NamedBody
   cs = named_bodies statements

@@ -5,18 +5,18 @@ use Rattle.std.specs.Prelude.{option_map}
 use Rattle.xdg_base.specs.declared.faults.Fault.{Fault}
 use Rattle.xdg_names.specs.First.{first, earlier}
 use Rattle.xdg_names.proofs.First.{first_append}
-use Rattle.xdg_types.specs.NameFaults.{repeats, with_all, different}
+use Rattle.xdg_types.specs.NameFaults.{foreign, repeats, with_all, different}
 use Rattle.xdg_classes.specs.Bodies.{Called}
 use Rattle.xdg_classes.specs.Definitions.{ClassDef, class_named}
 use Rattle.xdg_types.specs.Parts.{keys}
-use Rattle.xdg_classes.specs.NameFaults.{Asked, asked_by, unknown_param, left_out, class_faults, call_faults}
+use Rattle.xdg_classes.specs.NameFaults.{Asked, asked_by, left_out, class_faults, call_faults}
 
 -- of a use of a class that asks this
 pub class_told : (o : Option Asked) (a : Asked) (call : Called) (given : List (List ℕ)) (unknown left found : Option Fault) → o ≡ Some a → given ≡ different (keys call.args)
-    → unknown ≡ first (flat_map (unknown_param a.has) (keys call.args)) → left ≡ first (left_out given a.needs call.name.span.start) → found ≡ earlier unknown left → found ≡ first (class_faults o call)
+    → unknown ≡ first (flat_map (foreign a.has) (keys call.args)) → left ≡ first (left_out given a.needs call.name.span.start) → found ≡ earlier unknown left → found ≡ first (class_faults o call)
 class_told o a call given unknown left found is known no_such out sum =
     sum ∙ ap₂ earlier no_such (out ∙ ap (λ g. first (left_out g a.needs call.name.span.start)) known)
-    ∙ sym (first_append (flat_map (unknown_param a.has) (keys call.args)) (left_out (different (keys call.args)) a.needs call.name.span.start))
+    ∙ sym (first_append (flat_map (foreign a.has) (keys call.args)) (left_out (different (keys call.args)) a.needs call.name.span.start))
     ∙ sym (ap (λ p. first (class_faults p call)) is)
 
 -- of a use

@@ -8,28 +8,18 @@ use Rattle.xdg_ast.specs.declared.grammar.StatementKind.{StatementKind}
 use Rattle.xdg_ast.specs.declared.grammar.StatementKind.TheVariants as s
 use Rattle.xdg_base.specs.declared.faults.Fault.{Fault}
 use Rattle.xdg_domain.specs.Shapes.{Shape}
-use Rattle.xdg_names.specs.First.{Tells, first}
-use Rattle.xdg_names.proofs.First.{tells_as, first-tells}
-use Rattle.xdg_types.specs.NameFaults.{repeats}
+use Rattle.xdg_names.specs.First.{Tells}
+use Rattle.xdg_names.proofs.First.{tells_as}
 use Rattle.xdg_types.specs.Parts.{Statement}
 use Rattle.xdg_types.specs.Table.{Table}
-use Rattle.xdg_types.proofs.NamesAgain.{again_sound, again_complete}
 use Rattle.xdg_classes.specs.Bodies.{Term, Expr, body, Said, Called, records, calls}
 use Rattle.xdg_classes.specs.Definitions.{ClassDef, EntryDef, Scoped, class, classes, entry_at, scoped, bodies, param_names}
 use Rattle.xdg_classes.specs.Wants.{feature_shape, named_bodies, Wants}
-use Rattle.xdg_classes.specs.Wrong.{SomeOf, IsAgain, FeatureWrong, RecordWrong, CallWrong, BodyWrong, GivenWrong, PresetWrong, ClassWrong, ScopedWrong, StatementWrong}
+use Rattle.xdg_classes.specs.Wrong.{SomeOf, FeatureWrong, RecordWrong, CallWrong, BodyWrong, GivenWrong, PresetWrong, ClassWrong, ScopedWrong, StatementWrong}
 use Rattle.xdg_classes.specs.Offences.{ValueOffends}
 use Rattle.xdg_facts.specs.Membership.{In}
 use Rattle.xdg_facts.proofs.In.{in_flat_map, flat_map_in}
 use Rattle.xdg_ast.specs.Texts.{texts}
-
--- ---- keys
-
-pub keys_law : (names : List Name) (found : Option Fault) → found ≡ first (repeats [] names) → Tells (IsAgain names) found
-keys_law names found is = subst (Tells (IsAgain names)) (sym is) (tells_as (In (repeats [] names)) (IsAgain names)
-    (λ f h. let a = again_sound [] names [] (λ t k. k) f h in record { before = a.before; name = a.name; after = a.after; parts = a.parts; earlier = a.earlier; fault = a.fault })
-    (λ f r. subst (λ xs. In (repeats [] xs) f) (sym r.parts) (again_complete r.before r.name r.after [] f (inr r.earlier) (sym r.fault)))
-    (first (repeats [] names)) (first-tells (repeats [] names)))
 
 -- ---- statements
 
@@ -74,7 +64,7 @@ module _ (statements : List Statement) (table : Table) (look : List ℕ → List
 
   of_record : (sc : Scoped) → In (bodies statements) sc → (said : Said) → In (records sc.body) said → RecordWrong look sc.params said f → ValueOffends statements table f
   of_record sc among said stands h = elim h [
-    | inl a ↦ inr (inl (record { scoped = sc; among = among; said = said; stands = stands; before = a.before; name = a.name; after = a.after; parts = a.parts; earlier = a.earlier; fault = a.fault }))
+    | inl a ↦ inr (inl (record { scoped = sc; among = among; said = said; stands = stands; again = a }))
     | inr p ↦ elim p.1.1 [
       | inl w ↦ of_feature sc among said stands p.0 p.1.0 (feature_shape table said.dim.text p.0.key.text) refl (subst (λ o. FeatureWrong o sc.params p.0 f) (same said.dim.text p.0.key.text) w)
       | inr w ↦ inr (inr (inr (inr (inr (inl (record { scoped = sc; among = among; said = said; stands = stands; pair = p.0; has = p.1.0; offends = w }))))))
@@ -115,7 +105,7 @@ module _ (statements : List Statement) (table : Table) (look : List ℕ → List
   complete h = elim h [
     | inl r ↦ from_body r.scoped r.among (inl (r.said, (r.stands, inr (r.pair, (r.has, inl (subst (λ o. FeatureWrong o r.scoped.params r.pair f) (sym (same r.said.dim.text r.pair.key.text ∙ r.missing)) r.fault))))))
     | inr h ↦ elim h [
-      | inl r ↦ from_body r.scoped r.among (inl (r.said, (r.stands, inl (record { before = r.before; name = r.name; after = r.after; parts = r.parts; earlier = r.earlier; fault = r.fault }))))
+      | inl r ↦ from_body r.scoped r.among (inl (r.said, (r.stands, inl r.again)))
       | inr h ↦ elim h [
         | inl r ↦ from_body r.scoped r.among (inl (r.said, (r.stands, inr (r.pair, (r.has, inl (subst (λ o. FeatureWrong o r.scoped.params r.pair f) (sym (same r.said.dim.text r.pair.key.text ∙ r.feature)) r.offends))))))
         | inr h ↦ elim h [

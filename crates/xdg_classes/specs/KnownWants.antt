@@ -3,9 +3,10 @@ use Rattle.std.specs.Prelude.{◌≡◌, ℕ, ◌<◌, ◌↔◌, List, [], map,
 use Rattle.xdg_domain.specs.Shapes.{Shape}
 use Rattle.xdg_names.specs.Leads.{number}
 use Rattle.xdg_types.specs.Answers.{None_of}
+use Rattle.xdg_types.specs.Misnamed.{IsTwice}
 use Rattle.xdg_types.specs.Parts.{Statement}
 use Rattle.xdg_types.specs.Table.{Table}
-use Rattle.xdg_classes.specs.Names.{IsTwice}
+use Rattle.xdg_classes.specs.Names as sites
 use Rattle.xdg_classes.specs.Ordered.{OrdersClasses}
 use Rattle.xdg_classes.specs.declared.lookup.Classes.{Classes}
 use Rattle.xdg_classes.specs.declared.features.Features.{Features}
@@ -19,7 +20,7 @@ pub record Fits (statements : List Statement) (table : Table) (features : Featur
   pub dims : features.dims.now ≡ table.dims
   pub names : features.names ≡ map (λ dim. dim.name) table.dims
   pub orders : OrdersClasses statements classes
-  pub once : None_of (IsTwice statements)
+  pub once : None_of (IsTwice (sites.once statements))
 
 -- of the class at a place exactly the wanted types are known
 abbrev pub IsRightAt : List Statement → Table → List (List ℕ) → List WantedTypes → ℕ → Type 0

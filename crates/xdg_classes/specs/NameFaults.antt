@@ -6,7 +6,7 @@ use Rattle.xdg_ast.specs.declared.grammar.ClassParam.{ClassParam}
 use Rattle.xdg_base.specs.declared.faults.Cause.TheVariants as causes
 use Rattle.xdg_base.specs.declared.faults.Fault.{Fault}
 use Rattle.xdg_names.specs.Texts.{has_text}
-use Rattle.xdg_types.specs.NameFaults.{unknown, repeats, different}
+use Rattle.xdg_types.specs.NameFaults.{unknown, foreign, repeats, different}
 use Rattle.xdg_types.specs.Parts.{Statement, keys}
 use Rattle.xdg_types.specs.Table.{Table}
 use Rattle.xdg_classes.specs.Bodies.{Term, Said, Called}
@@ -39,10 +39,6 @@ asked_by c = asked c.params
 
 -- ---- uses of classes
 
--- a parameter that isn't among those of the class
-abbrev pub unknown_param : List (List ℕ) → Name → List Fault
-unknown_param has key = if has_text has key.text then [] else fault_at causes.WrongParams key.span.start ∷ []
-
 -- whether one of the texts that are needed isn't given
 abbrev pub lacks : List (List ℕ) → List (List ℕ) → Bool
 lacks given [] = false
@@ -54,7 +50,7 @@ left_out given needed at = if lacks given needed then fault_at causes.WrongParam
 -- a use of a class that asks this, if there is one
 abbrev pub class_faults : Option Asked → Called → List Fault
 class_faults None call = fault_at causes.UnknownName call.name.span.start ∷ []
-class_faults (Some a) call = flat_map (unknown_param a.has) (keys call.args) ++ left_out (different (keys call.args)) a.needs call.name.span.start
+class_faults (Some a) call = flat_map (foreign a.has) (keys call.args) ++ left_out (different (keys call.args)) a.needs call.name.span.start
 
 abbrev pub call_faults : List ClassDef → Called → List Fault
 call_faults cs call = repeats [] (keys call.args) ++ class_faults (option_map asked_by (class_named cs call.name.text)) call

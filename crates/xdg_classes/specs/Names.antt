@@ -5,6 +5,7 @@ use Rattle.xdg_ast.specs.declared.names.Name.{Name}
 use Rattle.xdg_ast.specs.declared.grammar.ClassParam.{ClassParam}
 use Rattle.xdg_base.specs.declared.faults.Cause.TheVariants as causes
 use Rattle.xdg_base.specs.declared.faults.Fault.{Fault}
+use Rattle.xdg_types.specs.Misnamed.{IsUnknown, IsTwice}
 use Rattle.xdg_types.specs.Parts.{Statement, keys}
 use Rattle.xdg_types.specs.Table.{Table}
 use Rattle.xdg_classes.specs.Bodies.{Said, Called, records, calls}
@@ -24,19 +25,13 @@ all_records statements = flat_map (λ scoped. records scoped.body) (bodies state
 abbrev pub all_calls : List Statement → List Called
 all_calls statements = flat_map (λ scoped. calls scoped.body) (bodies statements)
 
--- something is said of a dimension that isn't defined
-pub record IsUnknownDimension (statements : List Statement) (table : Table) (f : Fault) : Type 0 where
-  pub said : Said
-  pub stands : In (all_records statements) said
-  pub missing : In (dim_texts table) said.dim.text → ⊥
-  pub fault : f ≡ fault_at causes.UnknownName said.dim.span.start
+-- the dimensions of which something is said
+abbrev pub said_dims : List Statement → List Name
+said_dims statements = map (λ said. said.dim) (all_records statements)
 
--- a class is used that isn't defined
-pub record IsUnknownClass (statements : List Statement) (f : Fault) : Type 0 where
-  pub call : Called
-  pub stands : In (all_calls statements) call
-  pub missing : In (texts (class_names (classes statements))) call.name.text → ⊥
-  pub fault : f ≡ fault_at causes.UnknownName call.name.span.start
+-- the classes that are used
+abbrev pub used_classes : List Statement → List Name
+used_classes statements = map (λ call. call.name) (all_calls statements)
 
 -- The lists of names in each of which a name may stand once: the classes, the parameters of each class, and the
 -- parameters that each use gives.
@@ -45,27 +40,13 @@ once statements =
     class_names (classes statements)
     ∷ (map (λ c. param_names c.params) (classes statements) ++ map (λ call. keys call.args) (all_calls statements))
 
--- a class, a parameter of a class, or a parameter in a use is given twice
-pub record IsTwice (statements : List Statement) (f : Fault) : Type 0 where
-  pub names : List Name
-  pub among : In (once statements) names
-  pub before : List Name
-  pub name : Name
-  pub after : List Name
-  pub parts : names ≡ before ++ name ∷ after
-  pub earlier : In (texts before) name.text
-  pub fault : f ≡ fault_at causes.Twice name.span.start
-
 -- a use gives a parameter that the class hasn't; of two classes with one name the first counts
 pub record IsUnknownParam (statements : List Statement) (f : Fault) : Type 0 where
   pub call : Called
   pub stands : In (all_calls statements) call
   pub class : ClassDef
   pub defined : class_named (classes statements) call.name.text ≡ Some class
-  pub key : Name
-  pub given : In (keys call.args) key
-  pub missing : In (texts (param_names class.params)) key.text → ⊥
-  pub fault : f ≡ fault_at causes.WrongParams key.span.start
+  pub unknown : IsUnknown causes.WrongParams (texts (param_names class.params)) (keys call.args) f
 
 -- a use leaves out a parameter that has no default
 pub record IsLeftOut (statements : List Statement) (f : Fault) : Type 0 where
@@ -79,8 +60,10 @@ pub record IsLeftOut (statements : List Statement) (f : Fault) : Type 0 where
   pub missing : In (texts (keys call.args)) param.name.text → ⊥
   pub fault : f ≡ fault_at causes.WrongParams call.name.span.start
 
--- what is wrong with the names in bodies, where these are the dimensions
+-- What is wrong with the names in bodies, where these are the dimensions: something is said of a dimension, or a class is
+-- used, that isn't defined, a name stands again where it may stand once, or a use gives too many or too few parameters.
 abbrev pub NameOffends : List Statement → Table → Fault → Type 0
 NameOffends statements table f =
-    IsUnknownDimension statements table f
-    ⊎ (IsUnknownClass statements f ⊎ (IsTwice statements f ⊎ (IsUnknownParam statements f ⊎ IsLeftOut statements f)))
+    IsUnknown causes.UnknownName (dim_texts table) (said_dims statements) f
+    ⊎ (IsUnknown causes.UnknownName (texts (class_names (classes statements))) (used_classes statements) f
+    ⊎ (IsTwice (once statements) f ⊎ (IsUnknownParam statements f ⊎ IsLeftOut statements f)))

@@ -1,7 +1,6 @@
 -- What is wrong with the values in the bodies of classes and entries: one record for each rule.
-use Rattle.std.specs.Prelude.{◌≡◌, ◌⊎◌, List, [], ◌∷◌, ◌++◌, None, Some}
+use Rattle.std.specs.Prelude.{◌≡◌, ◌⊎◌, List, [], None, Some}
 use Rattle.xdg_base.specs.Faults.{fault_at}
-use Rattle.xdg_ast.specs.declared.names.Name.{Name}
 use Rattle.xdg_ast.specs.declared.names.Pair.{Pair}
 use Rattle.xdg_ast.specs.declared.grammar.ClassParam.{ClassParam}
 use Rattle.xdg_base.specs.declared.faults.Cause.TheVariants as causes
@@ -9,13 +8,13 @@ use Rattle.xdg_base.specs.declared.faults.Fault.{Fault}
 use Rattle.xdg_domain.specs.Shapes.{Shape}
 use Rattle.xdg_terms.specs.Offences.{OpenOffends}
 use Rattle.xdg_terms.specs.Stray.{IsStrayParam}
+use Rattle.xdg_types.specs.Misnamed.{IsAgain}
 use Rattle.xdg_types.specs.Parts.{Statement, keys}
 use Rattle.xdg_types.specs.Table.{Table}
 use Rattle.xdg_classes.specs.Bodies.{Term, Said, Called, records, calls}
 use Rattle.xdg_classes.specs.Definitions.{ClassDef, Scoped, bodies, classes}
 use Rattle.xdg_classes.specs.Wants.{feature_shape, named_bodies, Wants}
 use Rattle.xdg_facts.specs.Membership.{In}
-use Rattle.xdg_ast.specs.Texts.{texts}
 
 -- something is said of a feature that the dimension hasn't; its term isn't looked at
 pub record IsUnknownFeature (statements : List Statement) (table : Table) (f : Fault) : Type 0 where
@@ -34,12 +33,7 @@ pub record IsFeatureTwice (statements : List Statement) (f : Fault) : Type 0 whe
   pub among : In (bodies statements) scoped
   pub said : Said
   pub stands : In (records scoped.body) said
-  pub before : List Name
-  pub name : Name
-  pub after : List Name
-  pub parts : keys said.pairs ≡ before ++ name ∷ after
-  pub earlier : In (texts before) name.text
-  pub fault : f ≡ fault_at causes.Twice name.span.start
+  pub again : IsAgain (keys said.pairs) f
 
 -- the term of a feature is wrong at the type of the feature, where the parameters of the class are open
 pub record IsWrongFeature (statements : List Statement) (table : Table) (f : Fault) : Type 0 where

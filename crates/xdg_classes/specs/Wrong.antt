@@ -1,8 +1,7 @@
 -- What is wrong with the values in bodies, part by part, as the code goes through them, where it is known which types
 -- features have and which types are wanted of the parameters of classes.
-use Rattle.std.specs.Prelude.{◌≡◌, ◌⊎◌, ℕ, List, [], ◌∷◌, ◌++◌, Option, None, Some}
+use Rattle.std.specs.Prelude.{◌≡◌, ◌⊎◌, ℕ, List, [], Option, None, Some}
 use Rattle.xdg_base.specs.Faults.{fault_at}
-use Rattle.xdg_ast.specs.declared.names.Name.{Name}
 use Rattle.xdg_ast.specs.declared.names.Pair.{Pair}
 use Rattle.xdg_ast.specs.declared.grammar.ClassParam.{ClassParam}
 use Rattle.xdg_base.specs.declared.faults.Cause.TheVariants as causes
@@ -10,24 +9,15 @@ use Rattle.xdg_base.specs.declared.faults.Fault.{Fault}
 use Rattle.xdg_domain.specs.Shapes.{Shape}
 use Rattle.xdg_terms.specs.Offences.{OpenOffends}
 use Rattle.xdg_terms.specs.Stray.{IsStrayParam}
+use Rattle.xdg_types.specs.Misnamed.{IsAgain}
 use Rattle.xdg_types.specs.Parts.{Statement, keys}
 use Rattle.xdg_classes.specs.Bodies.{Term, Body, Said, Called, records, calls}
 use Rattle.xdg_classes.specs.Definitions.{ClassDef, Scoped, class, scoped}
 use Rattle.xdg_facts.specs.Membership.{In}
-use Rattle.xdg_ast.specs.Texts.{texts}
 
 -- it is wrong with one of these
 abbrev pub SomeOf : {A : Type 0} → List A → (A → Fault → Type 0) → Fault → Type 0
 SomeOf {A = A} xs P f = (x : A) × (In xs x × P x f)
-
--- a name stands there that an earlier one has too
-pub record IsAgain (names : List Name) (f : Fault) : Type 0 where
-  pub before : List Name
-  pub name : Name
-  pub after : List Name
-  pub parts : names ≡ before ++ name ∷ after
-  pub earlier : In (texts before) name.text
-  pub fault : f ≡ fault_at causes.Twice name.span.start
 
 -- a term at each of these types
 abbrev pub TypesWrong : List Shape → List (List ℕ) → Term → Fault → Type 0

@@ -1,7 +1,8 @@
 //! Putting the classes of a grammar into an order in which each comes after those that it uses.
 
 ghost use Rattle.xdg_types.specs.Answers.{None_of};
-ghost use Rattle.xdg_classes.specs.Names.{IsTwice};
+ghost use Rattle.xdg_types.specs.Misnamed.{IsTwice};
+ghost use Rattle.xdg_classes.specs.Names.{once};
 ghost use Rattle.xdg_classes.specs.Ordered.{TellsClasses};
 
 use crate::definitions::definitions;
@@ -24,7 +25,7 @@ use xdg_names::{Index, closing, components};
 ///
 /// The time is linear in the length of the text, and a chain of classes takes no depth of the stack.
 pub fn classes<'a>(alloc: Global, statements: &'a [Statement]) -> Result<Classes<'a>, Stop>
-    requires { None_of (IsTwice statements.now) }
+    requires { None_of (IsTwice (once statements.now)) }
     ensures { TellsClasses statements.now result }
 {
     let definitions = definitions(alloc, statements)?;

@@ -3,7 +3,7 @@
 ghost use Rattle.std.specs.Prelude.{◌≡◌, List, map, flat_map, option_map, IfOk};
 ghost use Rattle.std.specs.Option.{option_copied};
 ghost use Rattle.xdg_names.specs.First.{first};
-ghost use Rattle.xdg_types.specs.NameFaults.{different};
+ghost use Rattle.xdg_types.specs.NameFaults.{foreign, different};
 ghost use Rattle.xdg_classes.specs.Definitions.{ClassDef, class_named};
 ghost use Rattle.xdg_types.specs.Parts.{keys};
 ghost use Rattle.xdg_classes.specs.NameFaults as spec;
@@ -20,7 +20,7 @@ use xdg_types::keys_seen;
 
 /// The fault of a parameter that isn't among those of the class.
 fn unknown_param(known: &Index, key: &Name) -> Option<Fault>
-    ensures { result ≡ first (spec.unknown_param known.now key.now) }
+    ensures { result ≡ first (foreign known.now key.now) }
 {
     if known.contains(key.text.as_str()) {
         return None;
@@ -30,7 +30,7 @@ fn unknown_param(known: &Index, key: &Name) -> Option<Fault>
 
 /// The first key that isn't among the parameters of the class.
 fn unknown_params(known: &Index, pairs: &[Pair<Term>]) -> Option<Fault>
-    ensures { result ≡ first (flat_map (spec.unknown_param known.now) (keys pairs.now)) }
+    ensures { result ≡ first (flat_map (foreign known.now) (keys pairs.now)) }
 {
     let mut found = None;
     for pair in pairs {

@@ -1,5 +1,5 @@
 -- The offences of arguments that the pass lists are those of the rows.
-use Rattle.std.proofs.Common.{◌≡◌, inl, inr, false, List, [], ◌++◌, Option, None, Some, refl, sym, subst}
+use Rattle.std.proofs.Common.{◌≡◌, inl, inr, false, ℕ, List, [], ◌++◌, Option, None, Some, refl, sym, subst}
 use Rattle.std.specs.List.{flat_map}
 use Rattle.std.specs.Prelude.{Result, Ok, Err, IfOk}
 use Rattle.xdg_base.specs.Faults.{fault_at}
@@ -10,13 +10,15 @@ use Rattle.xdg_domain.specs.Shapes.{shape}
 use Rattle.xdg_domain.specs.declared.types.Ty.{Ty}
 use Rattle.xdg_names.specs.First.{Tells, first}
 use Rattle.xdg_names.proofs.First.{tells_as, first-tells}
-use Rattle.xdg_names.specs.Texts.{has_text}
 use Rattle.xdg_terms.specs.Forms.{Term}
 use Rattle.xdg_types.specs.NameFaults.{repeats}
 use Rattle.xdg_types.specs.Parts.{Statement}
 use Rattle.xdg_types.specs.Table.{Table}
 use Rattle.xdg_types.specs.declared.table.DimType.{DimType}
-use Rattle.xdg_types.proofs.NamesAgain.{again_sound, again_complete}
+use Rattle.xdg_types.specs.Misnamed.{IsUnknown}
+use Rattle.xdg_types.proofs.AllOf.{AllOf}
+use Rattle.xdg_types.proofs.NamesAgain.{all_again}
+use Rattle.xdg_types.proofs.NamesKnown.{all_unknown}
 use Rattle.xdg_problem.specs.declared.forms.Parameter.{Parameter}
 use Rattle.xdg_problem.specs.declared.forms.Sort.{Sort}
 use Rattle.xdg_problem.specs.declared.forms.Which.{Which}
@@ -31,7 +33,6 @@ use Rattle.xdg_principles.specs.Settings.{Setting, Argument, Called, setting_of,
 use Rattle.xdg_principles.specs.Wanted.{is_wanted}
 use Rattle.xdg_principles.specs.Arguments.{OneOffends, ArgumentOffends, has_form, truths}
 use Rattle.xdg_principles.specs.ArgumentFaults.{form_faults, type_faults, member_faults, outside, inner_faults, one_faults, setting_faults, known_faults, use_faults, argument_faults}
-use Rattle.xdg_principles.proofs.Tests.{not_among, no_text}
 use Rattle.xdg_principles.proofs.WantedLaw.{wanted_false, true_wanted}
 use Rattle.xdg_principles.proofs.MemberPlaces.{no_type, type_there}
 use Rattle.xdg_facts.specs.Membership.{In}
@@ -66,27 +67,19 @@ module _ (x : Argument) where
   of_called sort which typing wanted None e f h = absurd h
   of_called sort which typing wanted (Some called) e f h = of_type sort which typing wanted called e (member_type s sort which called.text) refl f h
 
-  of_truth : p.wanted ≡ a.Truth → (given : Option Name) → constant_in s p ≡ given → (f : Fault) → In (flat_map (outside truths) (told given)) f → OneOffends x f
-  of_truth wanted None e f h = absurd h
-  of_truth wanted (Some name) e f h = elim (in_append (outside truths name) [] f h) [
-    | inl o ↦ (let k = in_unless (has_text truths name.text) (fault_at causes.NotMember name.span.start) f o in
-        inr (inr (inr (inl (record { wanted = wanted; name = name; given = e; missing = not_among truths name.text k.0; fault = sym k.1 })))))
-    | inr z ↦ absurd z
-  ]
+  all_outside : (known : List (List ℕ)) (names : List Name) → AllOf (flat_map (outside known) names) (IsUnknown causes.NotMember known names)
+  all_outside known = all_unknown causes.NotMember known known (λ t. refl)
 
   of_labels : (which : Which) → p.wanted ≡ a.Labels which → (f : Fault) → In (flat_map (outside (labels s which)) (listed_in s p) ++ repeats [] (listed_in s p)) f → OneOffends x f
   of_labels which wanted f h = elim (in_append (flat_map (outside (labels s which)) (listed_in s p)) (repeats [] (listed_in s p)) f h) [
-    | inl o ↦ (let k = in_flat_map (outside (labels s which)) (listed_in s p) f o in
-        let e = in_unless (has_text (labels s which) k.0.text) (fault_at causes.NotMember k.0.span.start) f k.1.1 in
-        inr (inr (inr (inr (inl (record { which = which; wanted = wanted; name = k.0; given = k.1.0; missing = not_among (labels s which) k.0.text e.0; fault = sym e.1 }))))))
-    | inr r ↦ (let k = again_sound [] (listed_in s p) [] (λ t b. b) f r in
-        inr (inr (inr (inr (inr (record { which = which; wanted = wanted; before = k.before; name = k.name; after = k.after; parts = k.parts; earlier = k.earlier; fault = k.fault }))))))
+    | inl o ↦ inr (inr (inr (inr (inl (record { which = which; wanted = wanted; unknown = (all_outside (labels s which) (listed_in s p)).sound f o })))))
+    | inr r ↦ inr (inr (inr (inr (inr (record { which = which; wanted = wanted; again = (all_again (listed_in s p)).sound f r })))))
   ]
 
   of_inner : (wanted : Wanted) → p.wanted ≡ wanted → (f : Fault) → In (inner_faults s p wanted) f → OneOffends x f
   of_inner (a.Member sort which typing) e f h = of_called sort which typing e (called_in s p) refl f h
   of_inner (a.Labels which) e f h = of_labels which e f h
-  of_inner a.Truth e f h = of_truth e (constant_in s p) refl f h
+  of_inner a.Truth e f h = inr (inr (inr (inl (record { wanted = e; unknown = (all_outside truths (told (constant_in s p))).sound f h }))))
 
   pub of_one : (f : Fault) → In (one_faults s p) f → OneOffends x f
   of_one f h = elim (in_append (form_faults p.wanted (term_in s p)) (inner_faults s p p.wanted) f h) [
@@ -116,14 +109,12 @@ module _ (x : Argument) where
         | inl w ↦ to_type w.sort w.which w.typing w.wanted w.called w.given (Some w.type) w.has f
             (unless_in (is_wanted s w.typing (shape w.type)) (fault_at causes.WrongKind w.called.at) f (true_wanted s w.typing (shape w.type) w.wrong) (sym w.fault))
         | inr h₃ ↦ elim h₃ [
-          | inl n ↦ inner a.Truth n.wanted f (subst (λ (o : Option Name). In (flat_map (outside truths) (told o)) f) (sym n.given)
-              (in_left (outside truths n.name) [] f (unless_in (has_text truths n.name.text) (fault_at causes.NotMember n.name.span.start) f (no_text truths n.name.text n.missing) (sym n.fault))))
+          | inl n ↦ inner a.Truth n.wanted f ((all_outside truths (told (constant_in s p))).complete f n.unknown)
           | inr h₄ ↦ elim h₄ [
-            | inl n ↦ inner (a.Labels n.which) n.wanted f (in_left (flat_map (outside (labels s n.which)) (listed_in s p)) (repeats [] (listed_in s p)) f
-                (flat_map_in (outside (labels s n.which)) (listed_in s p) n.name f n.given
-                (unless_in (has_text (labels s n.which) n.name.text) (fault_at causes.NotMember n.name.span.start) f (no_text (labels s n.which) n.name.text n.missing) (sym n.fault))))
-            | inr r ↦ inner (a.Labels r.which) r.wanted f (in_right (flat_map (outside (labels s r.which)) (listed_in s p)) (repeats [] (listed_in s p)) f
-                (subst (λ ns. In (repeats [] ns) f) (sym r.parts) (again_complete r.before r.name r.after [] f (inr r.earlier) (sym r.fault))))
+            | inl n ↦ inner (a.Labels n.which) n.wanted f
+                (in_left (flat_map (outside (labels s n.which)) (listed_in s p)) (repeats [] (listed_in s p)) f ((all_outside (labels s n.which) (listed_in s p)).complete f n.unknown))
+            | inr r ↦ inner (a.Labels r.which) r.wanted f
+                (in_right (flat_map (outside (labels s r.which)) (listed_in s p)) (repeats [] (listed_in s p)) f ((all_again (listed_in s p)).complete f r.again))
           ]
         ]
       ]

@@ -8,7 +8,6 @@ pub mod NameLaw
 pub mod OneUse
 pub mod Rows
 pub mod Tables
-pub mod Tests
 pub mod TypedArgs
 pub mod TypedLaw
 pub mod TypedPlaces

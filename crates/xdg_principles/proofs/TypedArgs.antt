@@ -15,7 +15,7 @@ use Rattle.xdg_terms.specs.Forms.{Term, constant_of}
 use Rattle.xdg_types.specs.Kinds.{is_small}
 use Rattle.xdg_types.specs.Table as types
 use Rattle.xdg_types.specs.Table.{Table, typed, firsts}
-use Rattle.xdg_types.proofs.Elements.{differ_unless}
+use Rattle.xdg_types.proofs.NamesAgain.{again_differ}
 use Rattle.xdg_principles.specs.declared.building.Arg.{Arg}
 use Rattle.xdg_principles.specs.declared.building.Arg.TheVariants as g
 use Rattle.xdg_principles.specs.declared.building.PrincipleUse.{PrincipleUse}
@@ -181,9 +181,7 @@ module _ (setting : Setting) (parameter : Parameter) (right : (f : Fault) → On
     typed_labels which wanted has ks None e h = absurd h
     typed_labels which wanted has ks (Some term) e h =
         let listed : listed_in setting parameter ≡ h.0 = ap list_at e ∙ ap names_at h.1.0 in
-        let apart : Differ (texts (listed_in setting parameter)) = differ_unless (listed_in setting parameter) (λ before name after parts earlier. right (fault_at causes.Twice name.span.start)
-        (inr (inr (inr (inr (inr (record { which = which; wanted = wanted; before = before; name = name; after = after; parts = parts; earlier = earlier; fault = refl })))))))
-        in
+        let apart = again_differ (listed_in setting parameter) (λ f t. right f (inr (inr (inr (inr (inr (record { which = which; wanted = wanted; again = t }))))))) in
         subst (λ ls. types.ArePlaces (length ls) ks) (same_labels which has) (label_places (labels setting which) h.0 ks h.1.1 (subst (λ ns. Differ (texts ns)) listed apart))
 
     -- the argument is of the wanted kind

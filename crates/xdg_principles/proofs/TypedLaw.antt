@@ -1,9 +1,7 @@
 -- Where nothing is wrong, the uses of principles are typed.
 use Rattle.std.proofs.Common.{◌≡◌, inl, inr, ℕ, List, [], ◌∷◌, ◌++◌, map, Option, Some, Result, Ok, Err, refl, sym, ap, subst}
 use Rattle.std.specs.Prelude.{IfOk}
-use Rattle.xdg_base.specs.Faults.{fault_at}
 use Rattle.xdg_ast.specs.declared.names.Name.{Name}
-use Rattle.xdg_base.specs.declared.faults.Cause.TheVariants as causes
 use Rattle.xdg_base.specs.declared.faults.Fault.{Fault}
 use Rattle.xdg_domain.specs.Shapes.{Shape}
 use Rattle.xdg_names.specs.Texts.{place_of}
@@ -11,7 +9,7 @@ use Rattle.xdg_types.specs.declared.table.DimType.{DimType}
 use Rattle.xdg_types.specs.Answers.{HasTable, None_of}
 use Rattle.xdg_types.specs.Parts.{Statement, used_names}
 use Rattle.xdg_types.specs.Table.{Table, IsTable}
-use Rattle.xdg_types.proofs.Elements.{among_or_not}
+use Rattle.xdg_types.proofs.NamesKnown.{each_known}
 use Rattle.xdg_principles.specs.declared.building.Arg.{Arg}
 use Rattle.xdg_principles.specs.declared.building.PrincipleUse.{PrincipleUse}
 use Rattle.xdg_problem.specs.declared.forms.Parameter.{Parameter}
@@ -92,11 +90,8 @@ module _ (statements : List Statement) (table : Table) (has : HasTable statement
     used_too at k i =
         let name = named_dim k i in
         let within : In (texts (used_names statements)) one.within.text = used_text table.dims (used_names statements) table.used has.table.used u.home one.within.text at is.home in
-        elim (among_or_not (texts (used_names statements)) name.0.text) [
-          | inl among ↦ used_place table.dims (used_names statements) table.used types.names has.table.used k name.0.text among name.1.1
-          | inr missing ↦ absurd (named (fault_at causes.UnknownName name.0.span.start)
-              (inr (inr (inr (inl (record { one = one; stands = stands; used = within; name = name.0; named = name.1.0; missing = missing; fault = refl }))))))
-        ]
+        let among = each_known (texts (used_names statements)) (values one.dims) (λ f h. named f (inr (inr (inl (record { one = one; stands = stands; used = within; unknown = h }))))) name.0 name.1.0 in
+        used_place table.dims (used_names statements) table.used types.names has.table.used k name.0.text among name.1.1
 
     typed_use : IsTypedUse table u
     typed_use = record {

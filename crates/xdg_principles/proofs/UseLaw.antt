@@ -19,6 +19,7 @@ use Rattle.xdg_types.specs.Answers.{None_of}
 use Rattle.xdg_types.specs.Parts.{DimPart, Statement, Dimension, dimensions, dim_names, keys}
 use Rattle.xdg_types.specs.Table.{Table, firsts}
 use Rattle.xdg_types.proofs.Elements.{among_or_not, in_texts}
+use Rattle.xdg_types.proofs.NamesKnown.{each_known}
 use Rattle.xdg_problem.specs.declared.forms.Form.{Form}
 use Rattle.xdg_problem.specs.declared.forms.Parameter.{Parameter}
 use Rattle.xdg_problem.specs.declared.forms.Preset.{Preset}
@@ -30,12 +31,12 @@ use Rattle.xdg_problem.specs.declared.forms.Typing.{Typing}
 use Rattle.xdg_problem.specs.declared.forms.Wanted.{Wanted}
 use Rattle.xdg_problem.specs.declared.forms.Wanted.TheVariants as a
 use Rattle.xdg_problem.specs.declared.parts.Principle.{Principle}
-use Rattle.xdg_problem.specs.Forms.{dim_key, dims_in, form_of, key_text, parameters, preset_feature}
+use Rattle.xdg_problem.specs.Forms.{dim_key, dims_in, form_of, key_text, parameters, preset_feature, told as at_most_one}
 use Rattle.xdg_problem.specs.Names.{named}
-use Rattle.xdg_principles.specs.Names.{PrincipleNameOffends, key_if_required, required_key}
+use Rattle.xdg_principles.specs.Names.{PrincipleNameOffends, given_dims, key_if_required, required_key}
 use Rattle.xdg_principles.specs.Uses.{Use, use_in, uses_in, principle_uses, values, under}
 use Rattle.xdg_principles.specs.Settings.{Setting, Called, setting_of, setting_if, setting, arguments_in, arguments, dim_texts, dim_place, place_named, labels, members}
-use Rattle.xdg_principles.specs.Settings.{term_in, constant_at, list_of, list_at, listed_in, called_in, called_or, called_at, called_by, names_at}
+use Rattle.xdg_principles.specs.Settings.{term_in, constant_in, constant_at, list_of, list_at, listed_in, called_in, called_or, called_at, called_by, names_at}
 use Rattle.xdg_principles.specs.Arguments.{OneOffends, ArgumentOffends, has_form, truths}
 use Rattle.xdg_principles.specs.Made.{HasDims, IsMember, AreLabels, IsLabelList, IsTruth, IsArg, AreArgs, ArePlaces, IsUse, AreUses, ArePrincipleUses, or_zero, place_called, member_number, label_number, truth_of, arg, args, built_with, built}
 use Rattle.xdg_principles.proofs.Rows.{IsDefaulted, sound_parameter}
@@ -148,10 +149,8 @@ module _ (setting : Setting) (parameter : Parameter) (right : (f : Fault) → On
   truth_is wanted None e = refl
   truth_is wanted (Some term) e =
       let k = told (constant_of term) (subst (λ w. has_form w term ≡ true) wanted (formed term e)) in
-      let said : In truths k.0.text = elim (among_or_not truths k.0.text) [
-        | inl h ↦ h
-        | inr h ↦ absurd (right (fault_at causes.NotMember k.0.span.start) (inr (inr (inr (inl (record { wanted = wanted; name = k.0; given = ap constant_at e ∙ k.1; missing = h; fault = refl }))))))
-      ] in
+      let among : In (at_most_one (constant_in setting parameter)) k.0 = subst (λ (o : Option Name). In (at_most_one o) k.0) (sym (ap constant_at e ∙ k.1)) (inl refl) in
+      let said = each_known truths (at_most_one (constant_in setting parameter)) (λ f h. right f (inr (inr (inr (inl (record { wanted = wanted; unknown = h })))))) k.0 among in
       (k.0, (k.1, truth_said k.0.text said ∙ sym (ap (λ (o : Option Name). truth_text (truth_of o)) k.1)))
 
   list_is : (which : Which) → parameter.wanted ≡ a.Labels which → (o : Option Term) → term_in setting parameter ≡ o → IsLabelList (labels setting which) o (map (label_number (labels setting which)) (list_at o))
@@ -164,11 +163,8 @@ module _ (setting : Setting) (parameter : Parameter) (right : (f : Fault) → On
           k.1,
           subst (λ (o : Option (List Name)). AreLabels (labels setting which) k.0 (map (label_number (labels setting which)) (names_at o))) (sym k.1)
               (labels_are (labels setting which) k.0
-              (λ n h. elim (among_or_not (labels setting which) n.text) [
-                | inl m ↦ m
-                | inr m ↦ absurd (right (fault_at causes.NotMember n.span.start)
-                    (inr (inr (inr (inr (inl (record { which = which; wanted = wanted; name = n; given = subst (λ (ns : List Name). In ns n) (sym listed) h; missing = m; fault = refl })))))))
-              ])),
+              (λ n h. each_known (labels setting which) (listed_in setting parameter) (λ f m. right f (inr (inr (inr (inr (inl (record { which = which; wanted = wanted; unknown = m })))))))
+              n (subst (λ (ns : List Name). In ns n) (sym listed) h))),
         ),
       )
 
@@ -215,9 +211,7 @@ module _ (statements : List Statement) (table : Table) (has : HasDims statements
             stands = stands;
             principle = principle;
             known = known;
-            key = key_text x.key;
-            missing = inr (required_in (parameters form) x h e, none_under one.args (key_text x.key) none);
-            fault = refl;
+            missing = inr (record { key = key_text x.key; asked = required_in (parameters form) x h e; missing = none_under one.args (key_text x.key) none; fault = refl });
           }))))))
 
       each_arg : (x : Parameter) → In (parameters form) x → IsArg here x x.wanted (arg here x x.wanted)
@@ -231,15 +225,11 @@ module _ (statements : List Statement) (table : Table) (has : HasDims statements
             stands = stands;
             principle = principle;
             known = known;
-            key = dim_key form.dims w;
-            missing = inl (map_in (dim_key form.dims) (dims_in form.dims) w h, none_under one.dims (dim_key form.dims w) e);
-            fault = refl;
+            missing = inl (record { key = dim_key form.dims w; asked = map_in (dim_key form.dims) (dims_in form.dims) w h; missing = none_under one.dims (dim_key form.dims w) e; fault = refl });
           })))))))
-      dim_there w h (Some name) e = elim (among_or_not (texts (dim_names statements)) name.text) [
-        | inl k ↦ place_there (dim_texts table.dims) name.text (subst (λ ts. In ts name.text) (sym has) k)
-        | inr k ↦ absurd (names_right (fault_at causes.UnknownName name.span.start)
-            (inr (inr (inl (record { one = one; stands = stands; name = name; named = value_under one.dims (dim_key form.dims w) name e; missing = k; fault = refl })))))
-      ]
+      dim_there w h (Some name) e = place_there (dim_texts table.dims) name.text (subst (λ ts. In ts name.text) (sym has)
+          (each_known (texts (dim_names statements)) (given_dims statements) (λ f k. names_right f (inr (inl k))) name
+          (flat_map_in (λ (x : Use). values x.dims) (principle_uses statements) one name stands (value_under one.dims (dim_key form.dims w) name e))))
 
       is_use : IsUse table.dims one (built_with table.dims one (Some principle))
       is_use = record {
@@ -251,7 +241,7 @@ module _ (statements : List Statement) (table : Table) (has : HasDims statements
       }
 
     use_by : (o : Option Principle) → named one.name.text ≡ o → IsUse table.dims one (built_with table.dims one o)
-    use_by None e = absurd (names_right (fault_at causes.UnknownPrinciple one.name.span.start) (inl (record { one = one; stands = stands; missing = e; fault = refl })))
+    use_by None e = absurd (names_right (fault_at causes.UnknownPrinciple one.name.span.start) (inr (inr (inr (inl (record { one = one; stands = stands; missing = e; fault = refl }))))))
     use_by (Some principle) e = is_use principle e
 
   all_uses : (uses : List Use) → ((one : Use) → In uses one → IsUse table.dims one (built table.dims one)) → AreUses table.dims uses (map (built table.dims) uses)

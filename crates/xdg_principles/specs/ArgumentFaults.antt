@@ -6,10 +6,9 @@ use Rattle.xdg_base.specs.declared.faults.Cause.TheVariants as causes
 use Rattle.xdg_base.specs.declared.faults.Fault.{Fault}
 use Rattle.xdg_domain.specs.Shapes.{shape}
 use Rattle.xdg_domain.specs.declared.types.Ty.{Ty}
-use Rattle.xdg_names.specs.Texts.{has_text}
 use Rattle.xdg_terms.specs.Forms.{Term}
 use Rattle.xdg_types.specs.declared.table.DimType.{DimType}
-use Rattle.xdg_types.specs.NameFaults.{repeats}
+use Rattle.xdg_types.specs.NameFaults.{unknown_as, repeats}
 use Rattle.xdg_types.specs.Parts.{Statement}
 use Rattle.xdg_problem.specs.declared.forms.Which.{Which}
 use Rattle.xdg_problem.specs.declared.forms.Typing.{Typing}
@@ -39,7 +38,7 @@ member_faults setting sort which typing (Some called) = type_faults setting typi
 
 -- a constant that isn't among these
 abbrev pub outside : List (List ℕ) → Name → List Fault
-outside known name = if has_text known name.text then [] else fault_at causes.NotMember name.span.start ∷ []
+outside = unknown_as causes.NotMember
 
 abbrev pub inner_faults : Setting → Parameter → Wanted → List Fault
 inner_faults setting parameter (a.Member sort which typing) = member_faults setting sort which typing (called_in setting parameter)

@@ -1,13 +1,13 @@
 -- What is wrong with the arguments in the uses of principles.
-use Rattle.std.specs.Prelude.{◌≡◌, ◌⊎◌, ℕ, Bool, false, List, [], ◌∷◌, ◌++◌, Some, codes}
+use Rattle.std.specs.Prelude.{◌≡◌, ◌⊎◌, ℕ, Bool, false, List, [], ◌∷◌, Some, codes}
 use Rattle.xdg_base.specs.Faults.{fault_at}
-use Rattle.xdg_ast.specs.declared.names.Name.{Name}
 use Rattle.xdg_base.specs.declared.faults.Cause.TheVariants as causes
 use Rattle.xdg_base.specs.declared.faults.Fault.{Fault}
 use Rattle.xdg_domain.specs.Shapes.{shape}
 use Rattle.xdg_domain.specs.declared.types.Ty.{Ty}
 use Rattle.xdg_terms.specs.Forms.{Term, constant_of}
 use Rattle.xdg_terms.specs.Offences.{is_some}
+use Rattle.xdg_types.specs.Misnamed.{IsUnknown, IsAgain}
 use Rattle.xdg_types.specs.Parts.{Statement}
 use Rattle.xdg_types.specs.Table.{Table, firsts}
 use Rattle.xdg_problem.specs.declared.forms.Which.{Which}
@@ -15,10 +15,10 @@ use Rattle.xdg_problem.specs.declared.forms.Typing.{Typing}
 use Rattle.xdg_problem.specs.declared.forms.Sort.{Sort}
 use Rattle.xdg_problem.specs.declared.forms.Wanted.{Wanted}
 use Rattle.xdg_problem.specs.declared.forms.Wanted.TheVariants as a
+use Rattle.xdg_problem.specs.Forms.{told}
 use Rattle.xdg_principles.specs.Settings.{Argument, Called, arguments, labels, members, member_type, term_in, constant_in, listed_in, list_of, called_in}
 use Rattle.xdg_principles.specs.Wanted.{IsWanted}
 use Rattle.xdg_facts.specs.Membership.{In}
-use Rattle.xdg_ast.specs.Texts.{texts}
 
 -- a feature, an attribute and a truth value are given by a constant, labels by square brackets
 abbrev pub has_form : Wanted → Term → Bool
@@ -65,30 +65,19 @@ pub record HasWrongType (x : Argument) (f : Fault) : Type 0 where
 -- a constant is neither `true` nor `false` where a truth value is wanted
 pub record IsNoTruth (x : Argument) (f : Fault) : Type 0 where
   pub wanted : x.parameter.wanted ≡ a.Truth
-  pub name : Name
-  pub given : constant_in x.setting x.parameter ≡ Some name
-  pub missing : In truths name.text → ⊥
-  pub fault : f ≡ fault_at causes.NotMember name.span.start
+  pub unknown : IsUnknown causes.NotMember truths (told (constant_in x.setting x.parameter)) f
 
 -- a constant is no label of the dimension
 pub record IsNoLabel (x : Argument) (f : Fault) : Type 0 where
   pub which : Which
   pub wanted : x.parameter.wanted ≡ a.Labels which
-  pub name : Name
-  pub given : In (listed_in x.setting x.parameter) name
-  pub missing : In (labels x.setting which) name.text → ⊥
-  pub fault : f ≡ fault_at causes.NotMember name.span.start
+  pub unknown : IsUnknown causes.NotMember (labels x.setting which) (listed_in x.setting x.parameter) f
 
 -- a label stands twice
 pub record IsLabelTwice (x : Argument) (f : Fault) : Type 0 where
   pub which : Which
   pub wanted : x.parameter.wanted ≡ a.Labels which
-  pub before : List Name
-  pub name : Name
-  pub after : List Name
-  pub parts : listed_in x.setting x.parameter ≡ before ++ name ∷ after
-  pub earlier : In (texts before) name.text
-  pub fault : f ≡ fault_at causes.Twice name.span.start
+  pub again : IsAgain (listed_in x.setting x.parameter) f
 
 abbrev pub OneOffends : Argument → Fault → Type 0
 OneOffends x f =

@@ -5,7 +5,7 @@ use Rattle.xdg_ast.specs.declared.names.Name.{Name}
 use Rattle.xdg_base.specs.declared.faults.Cause.TheVariants as causes
 use Rattle.xdg_base.specs.declared.faults.Fault.{Fault}
 use Rattle.xdg_names.specs.Texts.{has_text}
-use Rattle.xdg_types.specs.NameFaults.{unknown, repeats, different}
+use Rattle.xdg_types.specs.NameFaults.{unknown, foreign, repeats, different}
 use Rattle.xdg_types.specs.Parts.{Statement, dim_names, used_names, keys}
 use Rattle.xdg_problem.specs.declared.forms.Form.{Form}
 use Rattle.xdg_principles.specs.Names.{dim_keys, arg_keys, required_keys}
@@ -13,10 +13,6 @@ use Rattle.xdg_problem.specs.declared.parts.Principle.{Principle}
 use Rattle.xdg_problem.specs.Forms.{form_of}
 use Rattle.xdg_principles.specs.Uses.{Use, principle_uses, values, with_principle}
 use Rattle.xdg_ast.specs.Texts.{texts}
-
--- a name that isn't one of these keys
-abbrev pub foreign : List (List ℕ) → Name → List Fault
-foreign known name = if has_text known name.text then [] else fault_at causes.WrongParams name.span.start ∷ []
 
 -- a key that isn't among these names
 abbrev pub lacking : ℕ → List Name → List ℕ → List Fault

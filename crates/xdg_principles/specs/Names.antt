@@ -1,9 +1,10 @@
 -- What is wrong with the names in the uses of principles.
-use Rattle.std.specs.Prelude.{◌≡◌, ◌⊎◌, ℕ, List, [], ◌∷◌, ◌++◌, map, flat_map, None, Some}
+use Rattle.std.specs.Prelude.{◌≡◌, ◌⊎◌, ℕ, List, [], ◌∷◌, map, flat_map, None, Some}
 use Rattle.xdg_base.specs.Faults.{fault_at}
 use Rattle.xdg_ast.specs.declared.names.Name.{Name}
 use Rattle.xdg_base.specs.declared.faults.Cause.TheVariants as causes
 use Rattle.xdg_base.specs.declared.faults.Fault.{Fault}
+use Rattle.xdg_types.specs.Misnamed.{IsUnknown, IsTwice}
 use Rattle.xdg_types.specs.Parts.{Statement, dim_names, used_names, keys}
 use Rattle.xdg_problem.specs.declared.forms.Form.{Form}
 use Rattle.xdg_problem.specs.declared.forms.Parameter.{Parameter}
@@ -50,41 +51,16 @@ pub record IsUnknownPrinciple (statements : List Statement) (f : Fault) : Type 0
 abbrev pub once : Use → List (List Name)
 once one = keys one.dims ∷ keys one.args ∷ []
 
--- a dimension or an argument is given twice, whether or not there is such a principle
-pub record IsTwice (statements : List Statement) (f : Fault) : Type 0 where
-  pub one : Use
-  pub stands : In (principle_uses statements) one
-  pub names : List Name
-  pub among : In (once one) names
-  pub before : List Name
-  pub name : Name
-  pub after : List Name
-  pub parts : names ≡ before ++ name ∷ after
-  pub earlier : In (texts before) name.text
-  pub fault : f ≡ fault_at causes.Twice name.span.start
+-- the dimensions that are given to principles
+abbrev pub given_dims : List Statement → List Name
+given_dims statements = flat_map (λ one. values one.dims) (principle_uses statements)
 
--- a dimension is named that isn't defined, whether or not there is such a principle
-pub record IsUnknownDimension (statements : List Statement) (f : Fault) : Type 0 where
-  pub one : Use
-  pub stands : In (principle_uses statements) one
-  pub name : Name
-  pub named : In (values one.dims) name
-  pub missing : In (texts (dim_names statements)) name.text → ⊥
-  pub fault : f ≡ fault_at causes.UnknownName name.span.start
-
--- in a dimension that is used, one is named that isn't used
+-- in a dimension that is used, one is given that isn't used
 pub record IsUnusedDimension (statements : List Statement) (f : Fault) : Type 0 where
   pub one : Use
   pub stands : In (principle_uses statements) one
   pub used : In (texts (used_names statements)) one.within.text
-  pub name : Name
-  pub named : In (values one.dims) name
-  pub missing : In (texts (used_names statements)) name.text → ⊥
-  pub fault : f ≡ fault_at causes.UnknownName name.span.start
-
--- a name that isn't one of these keys
-abbrev pub IsForeign : List (List ℕ) → List Name → Name → Type 0
-IsForeign known names name = In names name × (In known name.text → ⊥)
+  pub unknown : IsUnknown causes.UnknownName (texts (used_names statements)) (values one.dims) f
 
 -- a dimension or an argument is given that the principle hasn't
 pub record IsUnknownKey (statements : List Statement) (f : Fault) : Type 0 where
@@ -92,13 +68,15 @@ pub record IsUnknownKey (statements : List Statement) (f : Fault) : Type 0 where
   pub stands : In (principle_uses statements) one
   pub principle : Principle
   pub known : named one.name.text ≡ Some principle
-  pub name : Name
-  pub foreign : IsForeign (dim_keys (form_of principle)) (keys one.dims) name ⊎ IsForeign (arg_keys (form_of principle)) (keys one.args) name
-  pub fault : f ≡ fault_at causes.WrongParams name.span.start
+  pub unknown : IsUnknown causes.WrongParams (dim_keys (form_of principle)) (keys one.dims) f
+      ⊎ IsUnknown causes.WrongParams (arg_keys (form_of principle)) (keys one.args) f
 
--- one of these keys that no name is
-abbrev pub IsMissing : List (List ℕ) → List Name → List ℕ → Type 0
-IsMissing wanted names key = In wanted key × (In (texts names) key → ⊥)
+-- one of these keys is the text of no name, which is told at a place
+pub record IsMissing (wanted : List (List ℕ)) (names : List Name) (at : ℕ) (f : Fault) : Type 0 where
+  pub key : List ℕ
+  pub asked : In wanted key
+  pub missing : In (texts names) key → ⊥
+  pub fault : f ≡ fault_at causes.MissingArg at
 
 -- a dimension of the principle is left out, or an argument that has no default
 pub record IsLeftOut (statements : List Statement) (f : Fault) : Type 0 where
@@ -106,12 +84,14 @@ pub record IsLeftOut (statements : List Statement) (f : Fault) : Type 0 where
   pub stands : In (principle_uses statements) one
   pub principle : Principle
   pub known : named one.name.text ≡ Some principle
-  pub key : List ℕ
-  pub missing : IsMissing (dim_keys (form_of principle)) (keys one.dims) key ⊎ IsMissing (required_keys (form_of principle)) (keys one.args) key
-  pub fault : f ≡ fault_at causes.MissingArg one.name.span.start
+  pub missing : IsMissing (dim_keys (form_of principle)) (keys one.dims) one.name.span.start f
+      ⊎ IsMissing (required_keys (form_of principle)) (keys one.args) one.name.span.start f
 
--- what is wrong with the names in the uses of principles, in dimensions that are used and in others
+-- What is wrong with the names in the uses of principles, in dimensions that are used and in others: a dimension or an
+-- argument is given twice, or a dimension that isn't defined, whether or not there is such a principle, or one that isn't
+-- used, there is no such principle, or it has no such dimension or argument, or lacks one.
 abbrev pub PrincipleNameOffends : List Statement → Fault → Type 0
 PrincipleNameOffends statements f =
-    IsUnknownPrinciple statements f
-    ⊎ (IsTwice statements f ⊎ (IsUnknownDimension statements f ⊎ (IsUnusedDimension statements f ⊎ (IsUnknownKey statements f ⊎ IsLeftOut statements f))))
+    IsTwice (flat_map once (principle_uses statements)) f
+    ⊎ (IsUnknown causes.UnknownName (texts (dim_names statements)) (given_dims statements) f
+    ⊎ (IsUnusedDimension statements f ⊎ (IsUnknownPrinciple statements f ⊎ (IsUnknownKey statements f ⊎ IsLeftOut statements f))))

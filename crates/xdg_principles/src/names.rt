@@ -172,7 +172,7 @@ fn foreign_keys<'a>(form: Form, one: &UseRef<'a>) -> Option<Fault>
 
 /// The first of these keys that is no dimension's.
 fn foreign_dims(form: Form, pairs: &[Pair<Name>]) -> Option<Fault>
-    ensures { result ≡ first (flat_map (spec.foreign (dim_keys form)) (keys pairs.now)) }
+    ensures { result ≡ first (flat_map (names.foreign (dim_keys form)) (keys pairs.now)) }
 {
     let mut found = None;
     for pair in pairs {
@@ -186,7 +186,7 @@ fn foreign_dims(form: Form, pairs: &[Pair<Name>]) -> Option<Fault>
 
 /// The first of these keys that is no argument's.
 fn foreign_args(form: Form, pairs: &[Pair<Term>]) -> Option<Fault>
-    ensures { result ≡ first (flat_map (spec.foreign (arg_keys form)) (keys pairs.now)) }
+    ensures { result ≡ first (flat_map (names.foreign (arg_keys form)) (keys pairs.now)) }
 {
     let mut found = None;
     for pair in pairs {

@@ -1,8 +1,10 @@
 pub mod Again
+pub mod AllOf
 pub mod Distinct
 pub mod Elements
 pub mod Made
 pub mod NamesAgain
+pub mod NamesKnown
 pub mod NameTurns
 pub mod Treed
 pub mod InUse

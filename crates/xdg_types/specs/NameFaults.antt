@@ -1,6 +1,7 @@
 -- The offences of names as a list, in the order in which the code comes to them.
 use Rattle.std.specs.Prelude.{ℕ, if◌then◌else◌, List, [], ◌∷◌, ◌++◌, map}
 use Rattle.xdg_base.specs.Faults.{fault_at}
+use Rattle.xdg_base.specs.declared.faults.Cause.{Cause}
 use Rattle.xdg_base.specs.declared.faults.Cause.TheVariants as causes
 use Rattle.xdg_base.specs.declared.faults.Fault.{Fault}
 use Rattle.xdg_ast.specs.declared.names.Name.{Name}
@@ -10,9 +11,17 @@ use Rattle.xdg_types.specs.Parts.{dimension}
 
 -- ---- names
 
--- a name that isn't among these
+-- a name that isn't among these, told with a cause
+abbrev pub unknown_as : Cause → List (List ℕ) → Name → List Fault
+unknown_as cause known name = if has_text known name.text then [] else fault_at cause name.span.start ∷ []
+
+-- a name that stands for nothing
 abbrev pub unknown : List (List ℕ) → Name → List Fault
-unknown known name = if has_text known name.text then [] else fault_at causes.UnknownName name.span.start ∷ []
+unknown = unknown_as causes.UnknownName
+
+-- a key that nobody asks for
+abbrev pub foreign : List (List ℕ) → Name → List Fault
+foreign = unknown_as causes.WrongParams
 
 -- a name that an earlier one has
 abbrev pub repeated : List (List ℕ) → Name → List Fault

@@ -8,12 +8,12 @@ use Rattle.xdg_names.specs.Leads.{IsGraph, AreComponents}
 use Rattle.xdg_names.specs.Closing.{IsClosing}
 use Rattle.xdg_types.specs.Written.{tree}
 use Rattle.xdg_types.specs.Parts.{TypeTerm, Statement, Definition, definitions, defined_names}
-use Rattle.xdg_types.specs.Names.{NameOffends}
+use Rattle.xdg_types.specs.Names.{NameOffends, once}
 use Rattle.xdg_types.specs.Graph.{uses_in, type_graph}
 use Rattle.xdg_typing.specs.Heads.{Agrees, Knows, NamesFirst, RightBefore}
 use Rattle.xdg_types.specs.Answers.{None_of}
 use Rattle.xdg_typing.specs.Answers.{IsResolved}
-use Rattle.xdg_types.proofs.NamesAgain.{no_repeat}
+use Rattle.xdg_types.proofs.NamesAgain.{once_differ}
 use Rattle.xdg_types.specs.Meaning.{Resolves}
 use Rattle.xdg_typing.specs.Weights.{Weighs, UsesFirst, WeighedBefore}
 use Rattle.xdg_typing.proofs.Ordered.{is_graph, in_order, names_first, uses_first, knows, weighs, agrees, rank, ranks}
@@ -42,7 +42,7 @@ module _ (statements : List Statement) (named : None_of (NameOffends statements)
 
   -- no type is defined twice
   pub apart : Differ known
-  apart = no_repeat statements named (defined_names statements) (inr (inr (inl refl)))
+  apart = once_differ (once statements) (λ f h. named f (inr (inr (inl h)))) (defined_names statements) (inr (inr (inl refl)))
 
   module _ (told : List (List ℕ)) (same : Differ known → told ≡ known) (bodies : List (Bor TypeTerm)) (are : map at bodies ≡ map (λ d. d.body) ds)
       (graph : List (List Use)) (made : graph ≡ map (λ b. uses_in told (tree b.now.kind)) bodies) where

@@ -15,14 +15,14 @@ use Rattle.xdg_names.specs.Texts.{place_of, AllDiffer}
 use Rattle.xdg_names.proofs.Texts.{place_of-at}
 use Rattle.xdg_types.specs.declared.table.DimType.{DimType}
 use Rattle.xdg_types.specs.Parts.{Statement, Dimension, dimensions, dim_names, used_names}
-use Rattle.xdg_types.specs.Names.{NameOffends}
+use Rattle.xdg_types.specs.Names.{NameOffends, once}
 use Rattle.xdg_types.specs.Kinds.{KindOffends}
 use Rattle.xdg_types.specs.Table.{Table, IsDim, AreDims, AreUsed, IsTableOf}
 use Rattle.xdg_types.specs.Answers.{CycleOffends, HasTable, Refuses, Tells}
 use Rattle.xdg_types.specs.Answers.{IsAnswer}
 use Rattle.xdg_base.specs.Told.{Gives}
 use Rattle.xdg_types.proofs.Made.{names_in}
-use Rattle.xdg_types.proofs.NamesAgain.{no_repeat}
+use Rattle.xdg_types.proofs.NamesAgain.{once_differ}
 use Rattle.xdg_typing.proofs.OneShape.{one_typed}
 use Rattle.xdg_types.proofs.Elements.{all_differ}
 use Rattle.xdg_types.proofs.Made.{names_made}
@@ -88,7 +88,7 @@ module _ (statements : List Statement) where
   one_table : (a b : Table) → HasTable statements a → HasTable statements b → a ≡ b
   one_table a b h k =
       let means : k.names ≡ h.names = fun_ext (h.only k.names k.resolves) in
-      one_made h.names a b (no_repeat statements h.named (dim_names statements) (inl refl)) h.table (subst (λ n. IsTableOf n statements b) means k.table)
+      one_made h.names a b (once_differ (once statements) (λ f k. h.named f (inr (inr (inl k)))) (dim_names statements) (inl refl)) h.table (subst (λ n. IsTableOf n statements b) means k.table)
 
   -- ---- the fault
 

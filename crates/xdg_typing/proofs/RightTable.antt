@@ -22,8 +22,9 @@ use Rattle.xdg_types.specs.Table.{Typed, typed, typed_fields, fields_in, first_m
 use Rattle.xdg_typing.specs.Used.{found, places}
 use Rattle.xdg_typing.specs.Branches.{Naming}
 use Rattle.xdg_typing.specs.Right.{AreRight}
-use Rattle.xdg_types.proofs.Elements.{not_more, among_or_not, part_at}
+use Rattle.xdg_types.proofs.Elements.{not_more, part_at}
 use Rattle.xdg_types.proofs.Made.{names_in, names_made}
+use Rattle.xdg_types.proofs.NamesKnown.{each_known}
 use Rattle.xdg_typing.proofs.RightTypes.{IsFine, AreFine, AllOnce, HaveTypes, as_type, domain_of, attribute_of, kind_of, right_type, right_attributes}
 use Rattle.xdg_typing.proofs.RightText.{Stands, type_stands, site_fine, differ_once, lists_once, uses_right}
 use Rattle.xdg_facts.specs.Membership.{In, Differ}
@@ -303,10 +304,7 @@ module _ (statements : List Statement) (names : Naming) (right : AreRight statem
   names_differ dims are = subst Differ (sym (names_made names (dimensions statements) dims are)) (differ_once statements names right (dim_names statements) (inl refl))
 
   used_is_defined : (name : Name) → In (used_names statements) name → In (texts (dim_names statements)) name.text
-  used_is_defined name i = elim (among_or_not (texts (dim_names statements)) name.text) [
-    | inl a ↦ a
-    | inr n ↦ absurd (right.once (fault_at causes.UnknownName name.span.start) (inl (record { name = name; used = i; missing = n; fault = refl })))
-  ]
+  used_is_defined = each_known (texts (dim_names statements)) (used_names statements) (λ f h. right.once f (inl h))
 
   few_used : length (used_names statements) ≤ 8
   few_used = not_more 8 (length (used_names statements)) (λ h.

@@ -1,8 +1,6 @@
 -- What a text whose types are right tells of each type in it.
 use Rattle.std.proofs.Common.{◌≡◌, inl, inr, ℕ, zero, suc, ◌<◌, List, [], ◌∷◌, map, ap, sym, refl, subst, arith}
 use Rattle.std.specs.List.{flat_map}
-use Rattle.xdg_base.specs.Faults.{fault_at}
-use Rattle.xdg_base.specs.declared.faults.Cause.TheVariants as causes
 use Rattle.xdg_ast.specs.declared.names.Name.{Name}
 use Rattle.xdg_ast.specs.declared.grammar.DimPartKind.{DimPartKind}
 use Rattle.xdg_ast.specs.declared.grammar.DimPartKind.TheVariants as p
@@ -10,10 +8,11 @@ use Rattle.xdg_domain.specs.Shapes.{IsType}
 use Rattle.xdg_types.specs.Written.{tree, uses, lists}
 use Rattle.xdg_types.specs.Parts.{TypeTerm, DimPart, Statement, Dimension, Definition, dimensions, definition, definitions_in, definitions, defined_names, type_in, in_parts, types}
 use Rattle.xdg_types.specs.Kinds.{anything, part_sites}
-use Rattle.xdg_types.specs.Names.{once}
+use Rattle.xdg_types.specs.Names.{once, type_names}
 use Rattle.xdg_typing.specs.Branches.{Naming}
 use Rattle.xdg_typing.specs.Right.{AreRight}
-use Rattle.xdg_types.proofs.Elements.{differ_unless, among_or_not}
+use Rattle.xdg_types.proofs.NamesAgain.{once_differ}
+use Rattle.xdg_types.proofs.NamesKnown.{each_known}
 use Rattle.xdg_typing.proofs.RightTypes.{AreFine, HaveTypes, AllOnce, right_type}
 use Rattle.xdg_facts.specs.Membership.{In, Differ}
 use Rattle.xdg_facts.proofs.In.{in_flat_map, flat_map_in}
@@ -60,17 +59,14 @@ module _ (statements : List Statement) (names : Naming) (right : AreRight statem
 
   -- each list of names in which a name may stand once has different names
   pub differ_once : (ns : List Name) → In (once statements) ns → Differ (texts ns)
-  differ_once ns h = differ_unless ns (λ before name after e a. right.once (fault_at causes.Twice name.span.start) (inr (inr (inl (record { names = ns; among = h; before = before; name = name; after = after; parts = e; earlier = a; fault = refl })))))
+  differ_once = once_differ (once statements) (λ f h. right.once f (inr (inr (inl h))))
 
   pub lists_once : (type : TypeTerm) → In (types statements) type → AllOnce names (lists (tree type.kind))
   lists_once type h ns i = differ_once ns (inr (inr (inr (flat_map_in (λ (t : TypeTerm). lists (tree t.kind)) (types statements) type ns h i))))
 
   -- each name that stands in a type is defined
   pub is_defined : (type : TypeTerm) → In (types statements) type → (u : Name) → In (uses (tree type.kind)) u → In (texts (defined_names statements)) u.text
-  is_defined type h u i = elim (among_or_not (texts (defined_names statements)) u.text) [
-    | inl a ↦ a
-    | inr n ↦ absurd (right.once (fault_at causes.UnknownName u.span.start) (inr (inl (record { type = type; stands = h; name = u; used = i; missing = n; fault = refl }))))
-  ]
+  is_defined type h u i = each_known (texts (defined_names statements)) (type_names statements) (λ f k. right.once f (inr (inl k))) u (flat_map_in (λ (t : TypeTerm). uses (tree t.kind)) (types statements) type u h i)
 
   -- where a definition stands
   definition_stands : (d : Definition) → In (definitions statements) d → Stands (p.DefType d.name d.body)

@@ -7,13 +7,13 @@ use Rattle.xdg_names.specs.First.{first}
 use Rattle.xdg_names.proofs.First.{first_turn}
 use Rattle.xdg_names.specs.Texts.{has_text}
 use Rattle.xdg_principles.specs.Names.{arg_keys}
-use Rattle.xdg_principles.specs.NameFaults as spec
+use Rattle.xdg_types.specs.NameFaults.{foreign}
 use Rattle.xdg_types.specs.Parts.{keys}
 use Rattle.xdg_principles.proofs.names.foreign_args.Goals as goal
 
 pub loop-pair-preserved : goal.loop-pair-preserved
 loop-pair-preserved c =
-    let u = spec.foreign (arg_keys c.args.form) in
+    let u = foreign (arg_keys c.args.form) in
     let item = c.pair-item.result in
     first_turn (λ xs. flat_map u (keys xs)) (u item.key) item (λ xs. refl)
     _ _ _ _ _ _ c.loop-pair-test.true c.pair-item.is
