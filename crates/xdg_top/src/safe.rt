@@ -10,6 +10,8 @@ use xdg_io::{NullSink, SafeShelf, SafeSource};
 
 /// Runs the command that the words after the program's name are, over files and an input in memory, and drops what it writes. Whatever
 /// the command, its status says neither that a read failed nor that a write did.
+///
+/// Called by no program: it states a law of `run`.
 #[tactic(auto, using(crate::proofs::Safely::no_read, crate::proofs::Safely::no_write))]
 pub fn run_safely<R: Threads + Sync>(
     rt: &R,
