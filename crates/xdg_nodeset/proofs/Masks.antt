@@ -1,6 +1,6 @@
 -- What an operation on bits does to the members.
 use Rattle.std.proofs.Common.{◌≡◌, ℕ, ◌<◌, ◌≤◌, ◌+◌, ◌-◌, ◌*◌, ◌/◌, ◌%◌, ◌^◌, zero, suc, [], ◌∷◌, ◌++◌, length, refl, ap, ap₂, sym, ◌∙◌, arith, inl, inr, bit_and, bit_or}
-use Rattle.std.specs.Prelude.{true, not, ◌&&◌, ◌||◌, ◌==◌, filter, nat_lt, nat_eq}
+use Rattle.std.specs.Prelude.{Bool, true, not, ◌&&◌, ◌||◌, ◌==◌, filter, nat_lt, nat_eq}
 use Rattle.std.specs.List.{range_with_len}
 use Rattle.std.specs.Int.{bit_at, bit_not, w128, trailing_zeros, leading_zeros}
 use Rattle.std.specs.Int.RustNames.{count_ones}
@@ -33,23 +33,21 @@ members_are_nodes b = record {
 pub empty_bits : members 0 ≡ []
 empty_bits = none_of 128 (is_set 0) (λ k. ap (λ z. z == 1) (bit_at-zero k))
 
+-- where each bit is made of those of two numbers, so is each member of theirs
+by_bits : (made : ℕ → ℕ → ℕ) (says : Bool → Bool → Bool) → ((x y : ℕ) → x < 2 → y < 2 → (made x y == 1) ≡ says (x == 1) (y == 1))
+    → (a b c : ℕ) → ((n : ℕ) → n < 128 → bit_at c n ≡ made (bit_at a n) (bit_at b n)) → members c ≡ nodes (λ n. says (has (members a) n) (has (members b) n))
+by_bits made says same a b c are = numbers_agree 128 (is_set c) (λ n. says (has (members a) n) (has (members b) n)) (λ n below.
+    ap (λ z. z == 1) (are n below) ∙ same (bit_at a n) (bit_at b n) (bit_at-lt a n) (bit_at-lt b n) ∙ sym (ap₂ says (has_members a n below) (has_members b n below)))
+
 pub union_bits : (a b : ℕ) → members (bit_or a b) ≡ union (members a) (members b)
-union_bits a b = numbers_agree 128 (is_set (bit_or a b)) (λ n. has (members a) n || has (members b) n) (λ n below.
-    ap (λ z. z == 1) (bit_at_or a b n)
-    ∙ at_bits (λ x y. max x y == 1) (λ x y. (x == 1) || (y == 1)) refl refl refl refl (bit_at a n) (bit_at b n) (bit_at-lt a n) (bit_at-lt b n)
-    ∙ sym (ap₂ (λ x y. x || y) (has_members a n below) (has_members b n below)))
+union_bits a b = by_bits max (λ x y. x || y) (at_bits (λ x y. max x y == 1) (λ x y. (x == 1) || (y == 1)) refl refl refl refl) a b (bit_or a b) (λ n below. bit_at_or a b n)
 
 pub meet_bits : (a b : ℕ) → members (bit_and a b) ≡ meet (members a) (members b)
-meet_bits a b = numbers_agree 128 (is_set (bit_and a b)) (λ n. has (members a) n && has (members b) n) (λ n below.
-    ap (λ z. z == 1) (bit_at_and a b n)
-    ∙ at_bits (λ x y. min x y == 1) (λ x y. (x == 1) && (y == 1)) refl refl refl refl (bit_at a n) (bit_at b n) (bit_at-lt a n) (bit_at-lt b n)
-    ∙ sym (ap₂ (λ x y. x && y) (has_members a n below) (has_members b n below)))
+meet_bits a b = by_bits min (λ x y. x && y) (at_bits (λ x y. min x y == 1) (λ x y. (x == 1) && (y == 1)) refl refl refl refl) a b (bit_and a b) (λ n below. bit_at_and a b n)
 
 pub minus_bits : (a b : ℕ) → b < 2 ^ 128 → members (bit_and a (bit_not w128 b)) ≡ minus (members a) (members b)
-minus_bits a b within = numbers_agree 128 (is_set (bit_and a (bit_not w128 b))) (λ n. has (members a) n && not (has (members b) n)) (λ n below.
-    ap (λ z. z == 1) (bit_at_and a (bit_not w128 b) n ∙ ap (λ z. min (bit_at a n) z) (bit_at_not w128 b n within below))
-    ∙ at_bits (λ x y. min x (1 - y) == 1) (λ x y. (x == 1) && not (y == 1)) refl refl refl refl (bit_at a n) (bit_at b n) (bit_at-lt a n) (bit_at-lt b n)
-    ∙ sym (ap₂ (λ x y. x && not y) (has_members a n below) (has_members b n below)))
+minus_bits a b within = by_bits (λ x y. min x (1 - y)) (λ x y. x && not y) (at_bits (λ x y. min x (1 - y) == 1) (λ x y. (x == 1) && not (y == 1)) refl refl refl refl) a b (bit_and a (bit_not w128 b))
+    (λ n below. bit_at_and a (bit_not w128 b) n ∙ ap (λ z. min (bit_at a n) z) (bit_at_not w128 b n within below))
 
 pub with_bits : (b n : ℕ) → n < 128 → members (bit_or b (1 * 2 ^ n % 2 ^ 128)) ≡ with_node (members b) n
 with_bits b n within = numbers_agree 128 (is_set (bit_or b (1 * 2 ^ n % 2 ^ 128))) (λ m. (m == n) || has (members b) m) (λ m below. elim (cases_eq m n) [
