@@ -1,5 +1,4 @@
 pub mod Leasts
-pub mod OutCounted
 pub mod Summed
 pub mod Freed
 pub mod Bounded

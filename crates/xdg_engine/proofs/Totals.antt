@@ -16,14 +16,15 @@ use Rattle.xdg_problem.specs.Problems.{IsProblem}
 use Rattle.xdg_problem.proofs.FilterFacts.{filter_contained}
 use Rattle.xdg_problem.proofs.PlaceOrder.{is_place}
 use Rattle.xdg_problem.proofs.PlacePlans.{dim_within}
+use Rattle.xdg_graph.specs.declared.which.Which.TheVariants as whichs
 use Rattle.xdg_graph.specs.Edges.{edge_labels}
 use Rattle.xdg_graph.proofs.Labelled.{label_below}
 use Rattle.xdg_rules.specs.Bounds.{sum_below, least_below, or_nothing, node_cost, edge_cost, must_places}
 use Rattle.xdg_rules.specs.Rules.{has, must_edges}
 use Rattle.xdg_rules.proofs.Summing.{below_same}
+use Rattle.xdg_pgraph.proofs.Ends.{out_counted}
 use Rattle.xdg_engine.specs.CostRows.{AreLabelCosts, entry_row, entry_rows}
 use Rattle.xdg_engine.proofs.Leasts.{row_node, sum_more}
-use Rattle.xdg_engine.proofs.OutCounted.{out_counted}
 use Rattle.xdg_engine.proofs.Summed.{at_dim, at_label, at_mother, by_dims, counted_out}
 use Rattle.xdg_engine.proofs.Swept.{labels_most}
 
@@ -77,7 +78,7 @@ module _ (parts : Parts) (box : List (List Bool)) where
 
   pub label_more : (dim m l : ℕ) (row : List ℕ) (total : ℕ) (set : List ℕ) → sets.IsNodes set → ((x : ℕ) → IsTrue (sets_has set x) ↔ IsDaughterBy (must_edges parts box dim) m l x)
       → total ≡ sum_below (label_sum row dim m) l → total + slice_index row l * length set ≡ sum_below (label_sum row dim m) (l + 1)
-  label_more dim m l row total set are exact so_far = sum_next (label_sum row dim m) l total (slice_index row l * length set) so_far (ap (λ n. slice_index row l * n) (out_counted parts box dim m l set are exact))
+  label_more dim m l row total set are exact so_far = sum_next (label_sum row dim m) l total (slice_index row l * length set) so_far (ap (λ n. slice_index row l * n) (out_counted whichs.Must parts box dim m l set are exact))
 
   pub label_free : (dim m l : ℕ) (row : List ℕ) (total : ℕ) → slice_index row l ≡ 0 → total ≡ sum_below (label_sum row dim m) l → total ≡ sum_below (label_sum row dim m) (l + 1)
   label_free dim m l row total free so_far = sum_nothing (label_sum row dim m) l total so_far (ap (λ cost. cost * edges_out_of (must_edges parts box dim) m l) free ∙ grind arith)
