@@ -1,12 +1,14 @@
 -- What an escaped text is made of.
-use Rattle.std.proofs.Common.{◌≡◌, ◌<◌, ◌∙◌, ℕ, suc, List, true, false, [], ◌∷◌, ◌++◌, length, get_or, ap, sym, refl, arith, append_assoc, append-nil}
+use Rattle.std.proofs.Common.{◌≡◌, ◌<◌, ◌∙◌, ℕ, List, true, false, [], ◌∷◌, ◌++◌, length, get_or, ap, sym, arith, append_assoc, append-nil}
 use Rattle.std.specs.Char.{encode_utf8}
 use Rattle.std.specs.List.{flat_map}
 use Rattle.std.proofs.lemmas.Bool.{true≢false, false_from_ne_true}
+use Rattle.std.proofs.lemmas.List.Folds.{list_any_none}
 use Rattle.std.proofs.lemmas.Grind.{flat_map-append}
 use Rattle.std.proofs.lemmas.Str.{inside_one}
 use Rattle.xdg_base.specs.Spelling.{is_escaped, escaped}
-use Rattle.xdg_base.proofs.Names.{escaped_is, unescaped}
+use Rattle.xdg_base.proofs.Names.{escaped_is, unescaped, nothing_escaped}
+use Rattle.xdg_facts.proofs.Lists.{any_default}
 
 -- a text with a backslash before each quotation mark and each backslash
 abbrev pub escape : List ℕ → List ℕ
@@ -27,13 +29,9 @@ no_escape_inside c i e within =
     let same : c ≡ get_or (encode_utf8 c) i 0 = inside_one c [] (encode_utf8 c) i (sym (append-nil (encode_utf8 c))) within (escapable_low (get_or (encode_utf8 c) i 0) t) in
     true≢false (sym t ∙ ap is_escaped (sym same) ∙ e))
 
-bytes_kept : (bs : List ℕ) → ((i : ℕ) → i < length bs → is_escaped (get_or bs i 0) ≡ false) → escape bs ≡ bs
-bytes_kept [] none = refl
-bytes_kept (b ∷ bs) none = escape_left b bs (none 0 (omega arith)) ∙ ap (λ l. b ∷ l) (bytes_kept bs (λ i within. none (suc i) (omega (arith, within))))
-
 -- a character that is neither a quotation mark nor a backslash stands as it is
 pub character_kept : (c : ℕ) → is_escaped c ≡ false → escape (encode_utf8 c) ≡ encode_utf8 c
-character_kept c e = bytes_kept (encode_utf8 c) (λ i within. no_escape_inside c i e within)
+character_kept c e = nothing_escaped (encode_utf8 c) (list_any_none is_escaped (encode_utf8 c) (λ i d within. (let same = any_default (encode_utf8 c) i d 0 within in ap is_escaped same ∙ no_escape_inside c i e within)))
 
 -- one more character was added
 pub next_character : (start made new text rest after : List ℕ) (c : ℕ) → new ≡ made ++ escape (encode_utf8 c) → made ++ escape rest ≡ start ++ escape text → rest ≡ encode_utf8 c ++ after → new ++ escape after ≡ start ++ escape text

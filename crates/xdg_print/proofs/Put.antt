@@ -93,22 +93,16 @@ joined_by_form single words = refl
 joined_by_form conjunction words = refl
 joined_by_form disjunction words = refl
 
-joined_bracketed : (phrase : Phrase) → in_conjunction phrase ≡ bracketed (is_joined phrase) phrase.words
-joined_bracketed phrase = joined_by_form phrase.form phrase.words
-
 disjoined_by_form : (form : Form) (words : List Word) → in_disjunction (record { form = form; words = words }) ≡ bracketed (is_disjoined (record { form = form; words = words })) words
 disjoined_by_form single words = refl
 disjoined_by_form conjunction words = refl
 disjoined_by_form disjunction words = refl
 
-disjoined_bracketed : (phrase : Phrase) → in_disjunction phrase ≡ bracketed (is_disjoined phrase) phrase.words
-disjoined_bracketed phrase = disjoined_by_form phrase.form phrase.words
-
 pub by_joined : (phrase : Phrase) (brackets : Bool) → brackets ≡ is_joined phrase → in_conjunction phrase ≡ bracketed brackets phrase.words
-by_joined phrase brackets is = joined_bracketed phrase ∙ ap (λ b. bracketed b phrase.words) (sym is)
+by_joined phrase brackets is = joined_by_form phrase.form phrase.words ∙ ap (λ b. bracketed b phrase.words) (sym is)
 
 pub by_disjoined : (phrase : Phrase) (brackets : Bool) → brackets ≡ is_disjoined phrase → in_disjunction phrase ≡ bracketed brackets phrase.words
-by_disjoined phrase brackets is = disjoined_bracketed phrase ∙ ap (λ b. bracketed b phrase.words) (sym is)
+by_disjoined phrase brackets is = disjoined_by_form phrase.form phrase.words ∙ ap (λ b. bracketed b phrase.words) (sym is)
 
 -- ---- the text
 
