@@ -7,7 +7,8 @@ use Rattle.std.specs.List.Sorted.{IsStrictlyIncreasing}
 use Rattle.std.proofs.lemmas.Bool.{cases_lt}
 use Rattle.std.proofs.lemmas.List.Elements.{filter-append}
 use Rattle.xdg_domain.proofs.Sorting.{range_more}
-use Rattle.xdg_terms.specs.Built.{above, as_set}
+use Rattle.xdg_domain.specs.Joined.{above}
+use Rattle.xdg_terms.specs.Built.{as_set}
 use Rattle.xdg_facts.specs.Rises.{has, numbers_below}
 use Rattle.xdg_facts.proofs.Rising.{has_beyond, has_of}
 use Rattle.xdg_domain.proofs.Numbers.{has_beyond_above, increasing_same, numbers_increase}

@@ -11,7 +11,8 @@ use Rattle.xdg_domain.proofs.Opened.{shape_record}
 use Rattle.xdg_domain.specs.Values.{EachSaid}
 use Rattle.xdg_terms.specs.Fitting.{FitsIn, FitsField, Fits}
 use Rattle.xdg_terms.specs.Forms.{Term, Bindings, bound, keyed_elem}
-use Rattle.xdg_terms.specs.Built.{Elem, put, said_from, first_for, built, fields_from, fields_in, elems_of}
+use Rattle.xdg_domain.specs.Joined.{fields_in}
+use Rattle.xdg_terms.specs.Built.{Elem, put, said_from, first_for, built, fields_from, elems_of}
 use Rattle.xdg_facts.proofs.Lists.{from_place}
 
 pub below_skip : {V : Type 0} (s : List (ℕ × V)) (key : ℕ) → KeysBelow key s → KeysBelow (key + 1) s

@@ -7,9 +7,10 @@ use Rattle.xdg_ast.specs.declared.terms.TermKind.{TermKind, out-TermKind}
 use Rattle.xdg_ast.specs.declared.terms.ElemKind.{ElemKind, out-ElemKind}
 use Rattle.xdg_ast.specs.declared.terms.ElemKind.TheOpen.{TermKind-F, ElemKind-F}
 use Rattle.xdg_domain.specs.Cards.{cards}
+use Rattle.xdg_domain.specs.Joined.{above}
 use Rattle.xdg_domain.specs.Shapes as d
 use Rattle.xdg_domain.specs.Shapes.{Shape, domain, tuple, truth, integer, text, set, iset, card, valency, mapping, fields, Shapes, Fields, no_field, field_then}
-use Rattle.xdg_domain.specs.Shapes.{sizes, product}
+use Rattle.xdg_domain.specs.Shapes.{sizes}
 use Rattle.xdg_domain.specs.Tuples.{index, places}
 use Rattle.xdg_domain.specs.declared.types.Ty.{Ty}
 use Rattle.xdg_domain.specs.declared.values.Value.{Value}
@@ -107,11 +108,6 @@ abbrev pub listed : Shape → List Elem → List ℕ
 listed s [] = []
 listed s (elem ∷ elems) = some_before (number_of_elem s elem) (listed s elems)
 
--- a number above all of the list
-abbrev pub above : List ℕ → ℕ
-above [] = 0
-above (n ∷ ns) = (n + 1) + above ns
-
 -- the rising list of the same numbers
 unfoldable pub as_set : List ℕ → List ℕ
 as_set ns = numbers_below (above ns) (has ns)
@@ -191,8 +187,3 @@ abbrev mutual
 -- the value of the term, with its parameters bound
 abbrev pub built : Bindings → Shape → Term → Value
 built bs s t = built_in bs s (bound bs t)
-
--- the fields of a record type
-abbrev pub fields_in : List (List ℕ × Ty) → Fields
-fields_in [] = no_field
-fields_in (f ∷ fs) = field_then f.0 (d.shape f.1) (fields_in fs)

@@ -7,6 +7,7 @@ ghost use Rattle.xdg_terms.specs.Answers.{IsRight};
 ghost use Rattle.xdg_terms.specs.Fitting.{Fits, FitsField};
 ghost use Rattle.xdg_terms.specs.Forms.{keyed_elem, bound};
 ghost use Rattle.xdg_terms.specs.Means.{Means};
+ghost use Rattle.xdg_domain.specs.Joined.{fields_in};
 ghost use Rattle.xdg_terms.specs.Built as spec;
 
 use crate::forms::{Bindings, bound};
@@ -99,9 +100,9 @@ fn by_field(
     elems: &[Elem],
     bindings: &Bindings,
 ) -> Result<Fields, OutOfMemory>
-    requires { AreTypes (spec.fields_in fields.now) }
-    ensures value { IfOk result (λ made. made ≡ spec.fields_from bindings.now (spec.fields_in fields.now) elems.now 0) }
-    ensures fits { IfOk result (λ made. EachSaid (FitsField (spec.fields_in fields.now)) made) }
+    requires { AreTypes (fields_in fields.now) }
+    ensures value { IfOk result (λ made. made ≡ spec.fields_from bindings.now (fields_in fields.now) elems.now 0) }
+    ensures fits { IfOk result (λ made. EachSaid (FitsField (fields_in fields.now)) made) }
 {
     let mut made = List::new(alloc);
     for (place, field) in fields.iter().enumerate() {

@@ -1,7 +1,8 @@
 use Rattle.std.proofs.Common.{◌≡◌, rules, ap, sym, ◌∙◌, subst}
 use Rattle.xdg_domain.specs.declared.types.Ty.TheViews.{the_lemmas}
 use Rattle.xdg_terms.specs.Fitting.{FitsField}
-use Rattle.xdg_terms.specs.Built.{first_for, fields_in}
+use Rattle.xdg_domain.specs.Joined.{fields_in}
+use Rattle.xdg_terms.specs.Built.{first_for}
 use Rattle.xdg_terms.specs.Forms.{bound, keyed_elem}
 use Rattle.xdg_terms.proofs.Saying.{type_at, field_types, record_built, field_some, each_pushed, field_fits, record_fits}
 use Rattle.xdg_terms.proofs.building.+build.Goals as goal

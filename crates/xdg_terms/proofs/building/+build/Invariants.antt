@@ -3,7 +3,8 @@ use Rattle.xdg_domain.specs.Shapes.{shape}
 use Rattle.xdg_domain.specs.Values.{EachSaid}
 use Rattle.xdg_terms.specs.Fitting.{FitsField}
 use Rattle.xdg_terms.specs.Forms.{keyed_elem}
-use Rattle.xdg_terms.specs.Built.{built, said_from, first_for, fields_from, fields_in}
+use Rattle.xdg_domain.specs.Joined.{fields_in}
+use Rattle.xdg_terms.specs.Built.{built, said_from, first_for, fields_from}
 use Rattle.xdg_terms.proofs.building.+build.Given as goal
 
 abbrev pub invariant-by_key-loop-key : goal.invariant-by_key-loop-key
