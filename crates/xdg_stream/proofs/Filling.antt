@@ -11,16 +11,13 @@ use Rattle.xdg_problem.specs.Vectors.{entries_at, chosen, edges_in, first_place}
 use Rattle.xdg_problem.proofs.Continued.{chosen_whole}
 use Rattle.xdg_stream.proofs.Zipped.{Zips}
 
-abbrev no_entry : EntryNo
-no_entry = record { 0 = 0 }
-
 -- ---- entries of a vector
 
 pub entries_none : (candidates : List (List EntryNo)) → entries_at candidates [] ≡ []
 entries_none [] = refl
 entries_none (c ∷ candidates) = refl
 
-pub entries_zip : Zips (List EntryNo) ℕ EntryNo (λ c x. slice_index_or c x no_entry) entries_at
+pub entries_zip : Zips (List EntryNo) ℕ EntryNo (λ c x. slice_index_or c x (record { 0 = 0 })) entries_at
 entries_zip = record { none = entries_none; past = λ ys. refl; both = λ c candidates x ys. refl }
 
 -- ---- edges of a vector

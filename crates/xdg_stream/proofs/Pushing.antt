@@ -1,6 +1,7 @@
 -- Numbers more, or numbers less, on a front.
-use Rattle.std.proofs.Common.{◌≡◌, ◌≢◌, ℕ, ◌<◌, ◌≤◌, ◌+◌, ◌-◌, zero, suc, inl, inr, Bool, List, [], ◌∷◌, ◌++◌, Some, None, length, map, take, drop, refl, ap, ap₂, sym, ◌∙◌, arith, subst}
+use Rattle.std.proofs.Common.{◌≡◌, ◌≢◌, ℕ, ◌<◌, ◌≤◌, ◌+◌, ◌-◌, inl, inr, Bool, List, [], ◌∷◌, ◌++◌, Some, None, length, map, take, drop, refl, ap, ap₂, sym, ◌∙◌, arith, subst}
 use Rattle.std.specs.Prelude.{slice_index, slice_index_or}
+use Rattle.std.proofs.Math.Seq.{take-nil}
 use Rattle.std.proofs.lemmas.List.{append_assoc, get_or_default, get_or-take, length-take-le, take-append-drop, take_more}
 use Rattle.xdg_facts.specs.Fits.{Fits}
 use Rattle.xdg_problem.specs.declared.analysis.Edge.{Edge}
@@ -127,16 +128,9 @@ module _ {old mid : State} {edge_places : List Edge} {marks numbers : List ℕ} 
 pub none_boxed : (parts : Parts) (history : List (List (List Bool))) (edge_places : List Edge) (marks numbers : List ℕ) (mark_room number_room : ℕ) → HasFront parts history edge_places marks numbers mark_room number_room → length marks ≡ 0 → (p : List ℕ) → Boxed parts p → ⊥
 none_boxed parts history edge_places marks numbers mark_room number_room has z = none_there parts history marks numbers has.levels z
 
-abbrev empty : List ℕ
-empty = []
-
-take_none : (n : ℕ) → take n empty ≡ empty
-take_none zero = refl
-take_none (suc n) = refl
-
 cut_levels : (parts : Parts) (history : List (List (List Bool))) (marks numbers : List ℕ) (d : ℕ) → d ≤ length numbers → AreLevels parts history marks numbers → AreLevels parts history (take (d + 1) marks) (take d numbers)
 cut_levels parts history marks numbers d short (inl has) = inl (levels_cut parts history marks numbers d short has)
-cut_levels parts history marks numbers d short (inr none) = inr (ap (take (d + 1)) none.0 ∙ take_none (d + 1), ap (take d) none.1 ∙ take_none d, none.2)
+cut_levels parts history marks numbers d short (inr none) = inr (ap (take (d + 1)) none.0 ∙ take-nil (d + 1), ap (take d) none.1 ∙ take-nil d, none.2)
 
 -- the last numbers go
 cut_front : (parts : Parts) (history : List (List (List Bool))) (edge_places : List Edge) (marks numbers marks' numbers' : List ℕ) (mark_room number_room mark_room' number_room' d : ℕ)
