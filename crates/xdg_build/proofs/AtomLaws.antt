@@ -1,5 +1,5 @@
 -- What the atoms of a rule say, and the atoms of a formula that are made of them.
-use Rattle.xdg_build.proofs.Planned.{kept_at, attribute_right}
+use Rattle.xdg_build.proofs.Planned.{attribute_right}
 use Rattle.std.proofs.Common.{◌≡◌, ◌↔◌, ℕ, ◌<◌, List, [], length, get_or, sym, ap, ◌∙◌, subst, arith}
 use Rattle.std.specs.Prelude.{Any, Contains, Some, option_map, slice_get, slice_index}
 use Rattle.std.proofs.lemmas.Option.{slice_get-map}
@@ -28,7 +28,7 @@ use Rattle.xdg_build.specs.Places.{IsDimAt, IsTypeAt}
 use Rattle.xdg_build.specs.Problems.{IsFor}
 use Rattle.xdg_build.specs.Says.{Says, Agree}
 use Rattle.xdg_build.specs.Truths.{Binding, constants_of}
-use Rattle.xdg_build.proofs.Used.{among_all, is_called, one_called, below_of, dims_long, labels_are, edges_same, edges_within}
+use Rattle.xdg_build.proofs.Used.{among_all, is_called, one_called, dims_long, labels_are, edges_same, edges_within, dim_kept}
 use Rattle.xdg_build.proofs.Valued.{number_same, number_below, attr_inside, type_is, value_count_is}
 use Rattle.xdg_facts.proofs.In.{differ_once}
 use Rattle.xdg_terms.proofs.Meant.{one_place}
@@ -78,8 +78,8 @@ module _ (table : Table) (lexicon : Lexicon) (parts : Parts) (is : IsTable table
     known : d < length parts.dims
     known = (let l = at.within in omega (arith, l, dims_long table lexicon parts is for_it))
 
-    kept : (a : Analysis) → KeepsDim (dimension g k)
-    kept a = kept_at table.dims k is.dims (below_of (length table.dims) table.used k is.used (is_called table lexicon is (nodes parts) a dim.text d at).0)
+    kept : KeepsDim (dimension g k)
+    kept = dim_kept table lexicon is d at.within
 
     -- ---- paths
 
@@ -105,7 +105,7 @@ module _ (table : Table) (lexicon : Lexicon) (parts : Parts) (is : IsTable table
     label_says : (a : Analysis) → IsAnalysis parts a → (label : List ℕ) (l : ℕ) → IsAt (dimension g k).labels l label → (e : Edge) → Contains (edges_on d a.edges) e → (e.label.0 ≡ l) ↔ (label_text g k e.label.0 ≡ label)
     label_says a fits label l stands e there = (
       λ same_number. ap (λ i. get_or (dimension g k).labels i []) same_number ∙ stands.1,
-      λ same_text. one_place (dimension g k).labels e.label.0 l (kept a).labels ((edges_within table lexicon parts is for_it a fits d at.within).label e there) stands.0 (same_text ∙ sym stands.1),
+      λ same_text. one_place (dimension g k).labels e.label.0 l kept.labels ((edges_within table lexicon parts is for_it a fits d at.within).label e there) stands.0 (same_text ∙ sym stands.1),
     )
 
     pub says_edge : (mother label daughter : Name) (m l n : ℕ) → IsAt scope m mother.text → IsAt (dimension g k).labels l label.text → IsAt scope n daughter.text
@@ -147,10 +147,10 @@ module _ (table : Table) (lexicon : Lexicon) (parts : Parts) (is : IsTable table
                 λ h. (k, i, is_called table lexicon is (nodes parts) a dim.text d at, first_at (dimension g k).attrs i attribute.text type stands.stands, (ap (λ s. value_texts s (value_number g (nodes parts) a k (b node.text) i)) types ∙ ap (value_texts (shape type)) (sym read ∙ h) ∙ texts)),
                 λ h.
                     let one : h.0 ≡ k = one_called table lexicon is (nodes parts) a dim.text d at h.0 h.2 in
-                    let place : h.1 ≡ i = differ_once (firsts (dimension g k).attrs) h.1 i attribute.text (kept a).attrs (subst (λ j. slice_get (firsts (dimension g j).attrs) h.1 ≡ Some attribute.text) one h.3) (first_at (dimension g k).attrs i attribute.text type stands.stands) in
+                    let place : h.1 ≡ i = differ_once (firsts (dimension g k).attrs) h.1 i attribute.text kept.attrs (subst (λ j. slice_get (firsts (dimension g j).attrs) h.1 ≡ Some attribute.text) one h.3) (first_at (dimension g k).attrs i attribute.text type stands.stands) in
                     let value_is : value_of g (nodes parts) a k (b node.text) (Some i) ≡ constants_of value =
                     subst (λ p. value_of g (nodes parts) a k (b node.text) (Some p) ≡ constants_of value) place (subst (λ j. value_of g (nodes parts) a j (b node.text) (Some h.1) ≡ constants_of value) one h.4) in
-                    read ∙ same_number (shape type) (value_number g (nodes parts) a k (b node.text) i) n (attribute_right (typed (dimension g k).attrs) i attribute.text (shape type) (kept a).attributes typed_so).0 small within
+                    read ∙ same_number (shape type) (value_number g (nodes parts) a k (b node.text) i) n (attribute_right (typed (dimension g k).attrs) i attribute.text (shape type) kept.attributes typed_so).0 small within
                     (ap (λ s. value_texts s (value_number g (nodes parts) a k (b node.text) i)) (sym types) ∙ value_is ∙ sym texts),
               );
         }

@@ -1,6 +1,6 @@
 -- The atoms that are made of atoms with which nothing is wrong.
-use Rattle.xdg_build.proofs.Planned.{kept_at, attribute_right}
-use Rattle.std.proofs.Common.{◌≡◌, ℕ, Bool, true, List, [], length, get_or, Some, sym, ap, ◌∙◌, subst}
+use Rattle.xdg_build.proofs.Planned.{attribute_right}
+use Rattle.std.proofs.Common.{◌≡◌, ℕ, Bool, true, List, [], get_or, Some, sym, ap, ◌∙◌, subst}
 use Rattle.std.specs.Prelude.{slice_get}
 use Rattle.std.proofs.lemmas.Option.{get_or_from_slice_get}
 use Rattle.xdg_base.specs.declared.ids.AttrId.{AttrId}
@@ -34,7 +34,7 @@ use Rattle.xdg_build.proofs.AtomLaws.{typed_at, says_above, says_edge, says_attr
 use Rattle.xdg_build.proofs.FeatLaws.{says_feat}
 use Rattle.xdg_build.proofs.Standing.{dim_at}
 use Rattle.xdg_build.proofs.Rightly.{IsEdgeRight, IsAttrRight, IsFeatRight}
-use Rattle.xdg_build.proofs.Used.{among_all, used_is, below_of, is_called}
+use Rattle.xdg_build.proofs.Used.{among_all, used_is, dim_kept}
 use Rattle.xdg_names.specs.Texts.{has_text}
 use Rattle.xdg_facts.proofs.Options.{some_same}
 
@@ -49,9 +49,7 @@ module _ (table : Table) (lexicon : Lexicon) (is : IsTable table) (dim : Name) (
   type_is = there ∙ used_is table lexicon is d at.within
 
   pub type_kept : KeepsDim type
-  type_kept =
-      subst KeepsDim (sym type_is)
-      (kept_at table.dims (among_all table lexicon is d) is.dims (below_of (length table.dims) table.used (among_all table lexicon is d) is.used (is_called table lexicon is 0 (record { entries = []; attrs = []; edges = [] }) dim.text d at).0))
+  type_kept = subst KeepsDim (sym type_is) (dim_kept table lexicon is d at.within)
 
   -- what is found under its name is this dimension
   pub found_is : (found : DimType) → dim_named (used_dims table) dim.text ≡ Some found → found ≡ type

@@ -1,12 +1,14 @@
 -- The numbers of a cardinality, one by one.
-use Rattle.std.proofs.Common.{◌≡◌, ℕ, zero, suc, ◌+◌, ◌-◌, ◌<◌, ◌≤◌, Bool, true, false, cond, List, [], ◌∷◌, ◌++◌, filter, refl, sym, ap, ap₂, ◌∙◌, subst, arith}
+use Rattle.std.proofs.Common.{◌≡◌, ℕ, suc, ◌+◌, ◌-◌, ◌<◌, ◌≤◌, true, false, cond, List, [], ◌∷◌, ◌++◌, filter, refl, sym, inl, inr, ap, ◌∙◌, subst, arith}
 use Rattle.std.specs.List.{range_with_len}
 use Rattle.std.specs.List.Sorted.{IsStrictlyIncreasing}
-use Rattle.std.proofs.lemmas.Bool.{cond-false, false_from_ne_true}
+use Rattle.std.proofs.lemmas.Bool.{cases_lt, false_from_ne_true}
 use Rattle.std.proofs.lemmas.List.{append_assoc, append-nil}
 use Rattle.xdg_domain.specs.Cards.{IsCards}
-use Rattle.xdg_domain.proofs.Numbers.{numbers_increase}
-use Rattle.xdg_facts.specs.Rises.{has, numbers_below}
+use Rattle.xdg_domain.proofs.Merging.{increasing_of_rises}
+use Rattle.xdg_domain.proofs.Numbers.{from_rises, increasing_same, numbers_increase}
+use Rattle.xdg_facts.proofs.Rising.{has_between, has_not_after, has_not_before, rises_in}
+use Rattle.xdg_facts.specs.Rises.{has}
 
 -- the numbers of a cardinality from one on and below the end
 pub between : ℕ → ℕ → List ℕ → List ℕ
@@ -35,44 +37,39 @@ none_left end low s over =
 
 -- ---- all of them
 
-front : (p : ℕ → Bool) (a m n t b : ℕ) → t ≡ m + n → b ≡ a + m → ((k : ℕ) → k < b → p k ≡ false) → filter p (range_with_len a t) ≡ filter p (range_with_len b n)
-front p a zero n t b e f none = ap₂ (λ x y. filter p (range_with_len x y)) (omega (arith, f)) (omega (arith, e))
-front p a (suc m) n zero b e f none = absurd (omega (arith, e))
-front p a (suc m) n (suc t) b e f none =
-    cond-false (p a) (a ∷ filter p (range_with_len (a + 1) t)) (filter p (range_with_len (a + 1) t)) (none a (omega (arith, f)))
-    ∙ front p (a + 1) m n t b (omega (arith, e)) (omega (arith, f)) none
-
-back : (p : ℕ → Bool) (a n t : ℕ) → n ≤ t → ((k : ℕ) → a + n ≤ k → p k ≡ false) → filter p (range_with_len a t) ≡ filter p (range_with_len a n)
-back p a zero zero most none = refl
-back p a zero (suc t) most none =
-    cond-false (p a) (a ∷ filter p (range_with_len (a + 1) t)) (filter p (range_with_len (a + 1) t)) (none a (omega arith))
-    ∙ back p (a + 1) zero t (omega arith) (λ k h. none k (omega (arith, h)))
-back p a (suc n) zero most none = absurd (omega (arith, most))
-back p a (suc n) (suc t) most none = ap (λ s. cond (p a) (a ∷ s) s) (back p (a + 1) n t (omega (arith, most)) (λ k h. none k (omega (arith, h))))
-
-whole : (bound : ℕ) (s : List ℕ) (least greatest : ℕ) → s ≡ numbers_below bound (has s) → least ≤ greatest → greatest < bound → ((n : ℕ) → has s n ≡ true → least ≤ n) → ((n : ℕ) → has s n ≡ true → n ≤ greatest)
-    → between least (greatest + 1) s ≡ s
-unfolding between numbers_below
-whole bound s least greatest is order within low high = sym (
-    is
-    ∙ back (has s) 0 (greatest + 1) bound (omega (arith, within)) (λ k h. false_from_ne_true (has s k) (λ t. omega (arith, h, high k t)))
-    ∙ front (has s) 0 least (greatest + 1 - least) (greatest + 1) least (omega (arith, order)) (omega arith) (λ k h. false_from_ne_true (has s k) (λ t. omega (arith, h, low k t))))
-
--- where all numbers were passed, those that were taken are those of the cardinality
-all_taken : (s now : List ℕ) (least greatest end low : ℕ) → end ≡ greatest + 1 → IsCards s → has s least ≡ true → greatest < 128 → ((n : ℕ) → has s n ≡ true → least ≤ n) → ((n : ℕ) → has s n ≡ true → n ≤ greatest)
-    → end ≤ low → now ++ between low end s ≡ between least end s → now ≡ s
-all_taken s now least greatest end low e is some within first last over so_far =
-    sym (append-nil now) ∙ ap (λ l. now ++ l) (sym (none_left end low s over)) ∙ so_far ∙ ap (λ k. between least k s) e
-    ∙ whole 128 s least greatest is.whole (last least some) within first last
+between_rises : (low end : ℕ) (s : List ℕ) → IsStrictlyIncreasing (between low end s)
+unfolding between
+between_rises low end s =
+    let size : ℕ = end - low in
+    increasing_of_rises low (filter (has s) (range_with_len low size)) (from_rises low (low + size) (filter (has s) (range_with_len low size)) (rises_in (has s) low size))
 
 pub increases : (s : List ℕ) → IsCards s → IsStrictlyIncreasing s
 increases s is = subst IsStrictlyIncreasing (sym is.whole) (numbers_increase 128 (has s))
 
+whole : (s : List ℕ) (least greatest : ℕ) → IsCards s → least ≤ greatest → ((n : ℕ) → has s n ≡ true → least ≤ n) → ((n : ℕ) → has s n ≡ true → n ≤ greatest) → between least (greatest + 1) s ≡ s
+unfolding between
+whole s least greatest is order low high =
+    let size : ℕ = greatest + 1 - least in
+    increasing_same (filter (has s) (range_with_len least size)) s (between_rises least (greatest + 1) s) (increases s is) (λ n. elim (cases_lt n least) [
+      | inl before ↦ has_not_before (has s) least size n before ∙ sym (false_from_ne_true (has s n) (λ t. omega (arith, before, low n t)))
+      | inr after ↦ elim (cases_lt greatest n) [
+        | inl past ↦ has_not_after (has s) least size n (omega (arith, past, order)) ∙ sym (false_from_ne_true (has s n) (λ t. omega (arith, past, high n t)))
+        | inr within ↦ has_between (has s) least size n after (omega (arith, within, order))
+      ]
+    ])
+
+-- where all numbers were passed, those that were taken are those of the cardinality
+all_taken : (s now : List ℕ) (least greatest end low : ℕ) → end ≡ greatest + 1 → IsCards s → has s least ≡ true → ((n : ℕ) → has s n ≡ true → least ≤ n) → ((n : ℕ) → has s n ≡ true → n ≤ greatest)
+    → end ≤ low → now ++ between low end s ≡ between least end s → now ≡ s
+all_taken s now least greatest end low e is some first last over so_far =
+    sym (append-nil now) ∙ ap (λ l. now ++ l) (sym (none_left end low s over)) ∙ so_far ∙ ap (λ k. between least k s) e
+    ∙ whole s least greatest is (last least some) first last
+
 -- what was taken at the end
-pub taken_at_end : (s now : List ℕ) (least greatest low : ℕ) → has s least ≡ true → greatest < 128 → ((n : ℕ) → has s n ≡ true → least ≤ n) → ((n : ℕ) → has s n ≡ true → n ≤ greatest)
+pub taken_at_end : (s now : List ℕ) (least greatest low : ℕ) → has s least ≡ true → ((n : ℕ) → has s n ≡ true → least ≤ n) → ((n : ℕ) → has s n ≡ true → n ≤ greatest)
     → greatest + 1 ≤ low → (least < low → IsCards s) → now ++ between low (greatest + 1) s ≡ between least (greatest + 1) s → (now ≡ s) × IsStrictlyIncreasing now
-taken_at_end s now least greatest low some within first last over cards so_far =
+taken_at_end s now least greatest low some first last over cards so_far =
     let order : least ≤ greatest = last least some in
     let is : IsCards s = cards (omega (arith, order, over)) in
-    let all : now ≡ s = all_taken s now least greatest (greatest + 1) low refl is some within first last over so_far in
+    let all : now ≡ s = all_taken s now least greatest (greatest + 1) low refl is some first last over so_far in
     (all, subst IsStrictlyIncreasing (sym all) (increases s is))

@@ -1,5 +1,5 @@
 -- What an atom about a feature says, and the table of candidates that is made of it.
-use Rattle.xdg_build.proofs.Planned.{kept_at, feature_right}
+use Rattle.xdg_build.proofs.Planned.{feature_right}
 use Rattle.std.proofs.Common.{◌≡◌, ◌↔◌, ℕ, zero, suc, ◌<◌, true, false, Bool, List, [], ◌∷◌, length, get_or, map, refl, sym, ap, ◌∙◌, subst, arith}
 use Rattle.std.specs.Prelude.{All, Contains, MatchOption, Some, slice_get, slice_index, slice_index_or}
 use Rattle.std.proofs.lemmas.List.{get_or-map, get_or_default, length-map}
@@ -25,7 +25,6 @@ use Rattle.xdg_problem.specs.Vectors.{entry_places}
 use Rattle.xdg_problem.proofs.EntryPlaces.{entry_back, place_within}
 use Rattle.xdg_terms.specs.Means.{IsAt}
 use Rattle.xdg_types.specs.Table as tables
-use Rattle.xdg_facts.specs.Membership.{In}
 use Rattle.xdg_types.specs.Table.{Table, KeepsDim, typed, firsts}
 use Rattle.xdg_build.specs.Grammars.{Grammar}
 use Rattle.xdg_build.proofs.Said.{entry_at as entry_right_at}
@@ -38,7 +37,7 @@ use Rattle.xdg_build.specs.Problems.{IsFor}
 use Rattle.xdg_build.specs.Says.{Says}
 use Rattle.xdg_build.specs.Tables.{entry_says, table_of}
 use Rattle.xdg_build.specs.Truths.{IsOrHas, constants_of}
-use Rattle.xdg_build.proofs.Used.{among_all, used_within, is_called, one_called, below_of}
+use Rattle.xdg_build.proofs.Used.{among_all, used_within, is_called, one_called, dim_kept, among_below}
 use Rattle.xdg_build.proofs.AtomLaws.{first_at, stands_for, node_below, typed_at}
 use Rattle.xdg_build.proofs.Featured.{said_says, said_field}
 use Rattle.xdg_facts.proofs.In.{differ_once}
@@ -64,11 +63,8 @@ module _ (table : Table) (lexicon : Lexicon) (parts : Parts) (problem : IsProble
     abbrev k : ℕ
     k = among_all table lexicon is d
 
-    used_k : In table.used k
-    used_k = (is_called table lexicon is (nodes parts) (record { entries = []; attrs = []; edges = [] }) dim.text d at).0
-
     kept : KeepsDim (dimension g k)
-    kept = kept_at table.dims k is.dims (below_of (length table.dims) table.used k is.used used_k)
+    kept = dim_kept table lexicon is d at.within
 
     -- the records of entries for the dimension
     record_is : (entry : Entry) → length entry ≡ length table.used → record_for table.used entry k ≡ get_or entry d []
@@ -77,7 +73,7 @@ module _ (table : Table) (lexicon : Lexicon) (parts : Parts) (problem : IsProble
     whole_at : (e : ℕ) → e < length lexicon.entries → IsWhole (dimension g k) (get_or (get_or lexicon.entries e []) d [])
     whole_at e l =
         (entry_right_at table lexicon.entries e for_it.entries l).each d (dimension g k)
-        (k, (slice_get-get_or table.used d 0 (used_within table lexicon is d at.within), slice_get-get_or table.dims k no_dim (below_of (length table.dims) table.used k is.used used_k)))
+        (k, (slice_get-get_or table.used d 0 (used_within table lexicon is d at.within), slice_get-get_or table.dims k no_dim (among_below table lexicon is d at.within)))
 
     module _ (feature : Name) (value : Term) (i n : ℕ) (type : Ty) (of : Shape) (stands : IsTypeAt (dimension g k).fields feature.text i type) (members : member_shape (shape type) ≡ Some of) (within : n < count of) (texts : value_texts of n ≡ constants_of value) where
       abbrev made : List (List Bool)

@@ -1,7 +1,7 @@
 -- What the rows of a compiled feature say, and what the value of its type says of constants.
-use Rattle.std.proofs.Common.{◌≡◌, ℕ, zero, suc, ◌<◌, ◌≤◌, ◌+◌, ◌↔◌, List, [], ◌∷◌, length, get_or, map, refl, sym, ap, ap₂, ◌∙◌, subst, inl, inr, arith}
+use Rattle.std.proofs.Common.{◌≡◌, ℕ, zero, suc, ◌<◌, ◌≤◌, ◌+◌, ◌↔◌, List, [], ◌∷◌, length, get_or, map, refl, sym, ap, ap₂, ◌∙◌, subst, arith}
 use Rattle.std.specs.Prelude.{Contains, None, Some, slice_get}
-use Rattle.std.proofs.lemmas.Bool.{cases_eq}
+use Rattle.std.proofs.lemmas.List.Elements.{All-contains}
 use Rattle.std.proofs.lemmas.Option.{slice_get-get_or, slice_get_within, get_or_from_slice_get}
 use Rattle.xdg_domain.specs.Defaults.{IsFilledIn}
 use Rattle.xdg_domain.specs.Shapes.{Shape, domain, tuple, set, iset, valency, mapping, sizes, count, IsSmall, IsType}
@@ -10,11 +10,11 @@ use Rattle.xdg_domain.specs.Valencies.{said_at, KeysRise}
 use Rattle.xdg_domain.specs.Values.{IsIn, AllBelow}
 use Rattle.xdg_domain.specs.declared.values.Value.{Value, out-Value}
 use Rattle.xdg_domain.specs.declared.values.Value.TheOpen.{Value-F}
-use Rattle.xdg_domain.proofs.Keyed.{at_head, after_head, unsaid, said_right}
+use Rattle.xdg_domain.proofs.Keyed.{at_head, after_head, said_right}
 use Rattle.xdg_terms.specs.Means.{chosen}
 use Rattle.xdg_principles.specs.Wanted.{IsSame, IsSetOf}
 use Rattle.xdg_build.specs.Features.{members_in, rows_in}
-use Rattle.xdg_build.proofs.TypeRows.{sizes_again, sets, is_said}
+use Rattle.xdg_build.proofs.TypeRows.{sizes_again, all_below, first_key, sets, is_said}
 use Rattle.xdg_build.specs.Readings.{value_texts, IsMember, IsMemberAt, IsAllowedAt}
 use Rattle.xdg_build.proofs.Different.{same_tuple}
 use Rattle.xdg_facts.proofs.Options.{some_same}
@@ -46,10 +46,8 @@ same_texts _ _ n h = absurd h
 abbrev pub Names : Shape → List ℕ → List (List ℕ) → Type 0
 Names s row texts = (n : ℕ) × Contains row n × (value_texts s n ≡ texts)
 
-pub below_contained : (bound : ℕ) (ns : List ℕ) (n : ℕ) → AllBelow bound ns → Contains ns n → n < bound
-below_contained bound [] n h is = absurd (let within : is.0 < 0 = is.1 in omega (arith, within))
-below_contained bound (m ∷ ns) n h (zero, within, e) = subst (λ k. k < bound) e h.0
-below_contained bound (m ∷ ns) n h (suc k, within, e) = below_contained bound ns n h.1 (k, omega (arith, within), e)
+below_contained : (bound : ℕ) (ns : List ℕ) (n : ℕ) → AllBelow bound ns → Contains ns n → n < bound
+below_contained bound ns n h is = All-contains (λ k. k < bound) ns n (all_below bound ns h) is
 
 -- a row of values of a type names a value of the type exactly where it has the value's number
 pub names_number : (s : Shape) (row : List ℕ) (n : ℕ) → IsSmall s → AllBelow (count s) row → n < count s → Names s row (value_texts s n) ↔ Contains row n
@@ -73,12 +71,6 @@ names_some s row = (
 )
 
 -- ---- what is said of each key stands in its row
-
-first_key : {V : Type 0} (low bound : ℕ) (x : ℕ × V) (m : List (ℕ × V)) → KeysRise low (x ∷ m) → ((k : ℕ) → low ≤ k → k < bound → said_at (x ∷ m) k ≡ None → ⊥) → low < bound → x.0 ≡ low
-first_key low bound x m rises said within = elim (cases_eq x.0 low) [
-  | inl same ↦ same
-  | inr other ↦ absurd (said low (omega arith) within (unsaid x.0 low (x ∷ m) (omega (arith, other, rises.0)) (omega arith, rises.1)))
-]
 
 pub keyed_row : {V : Type 0} (f : V → List ℕ) (low bound : ℕ) (m : List (ℕ × V)) (i key : ℕ) → KeysRise low m → ((k : ℕ) → low ≤ k → k < bound → said_at m k ≡ None → ⊥) → key ≡ low + i → key < bound
     → (v : V) × (said_at m key ≡ Some v) × (get_or (map (λ said. f said.1) m) i [] ≡ f v)

@@ -36,6 +36,7 @@ use Rattle.xdg_formula.specs.Tables.{no_dim, used_dims}
 use Rattle.xdg_build.specs.Groups.{features_in, features_at, group_of, dims_of}
 use Rattle.xdg_build.proofs.Dimensions.{used_below, Home, home_of, has_place, is_used_home, labels-home, members-home}
 use Rattle.xdg_build.proofs.Said as reading
+use Rattle.xdg_build.proofs.Said.{entry_at as entry_right_at}
 use Rattle.xdg_build.specs.Compiled.{candidates_of, compiled}
 use Rattle.xdg_build.specs.Readings.{edges_in, value_number, dimension, type_at, record_for, entry_at, said_for, OnFeature, feature_place}
 use Rattle.xdg_build.specs.Solutions.{IsAnalysisOf}
@@ -147,7 +148,7 @@ module _ (g : Grammar) (words : List SentenceWord) (a : Analysis) (u : Principle
       attribute_right (typed (dimension g (dim_number which)).attrs) i member.name member.type (kept_dim (number_of which) within).attributes (attribute_stands which typing i within member)
 
   entry_is : (v : ℕ) → v < length words → IsEntry g.table (entry_at g a v)
-  entry_is v node = reading.entry_at g.table g.lexicon.entries (get_or a.entries v (record { 0 = 0 })).0 h.lexicon.entries (entry_within g words a h.is v node).1
+  entry_is v node = entry_right_at g.table g.lexicon.entries (get_or a.entries v (record { 0 = 0 })).0 h.lexicon.entries (entry_within g words a h.is v node).1
 
   record_is : (k v : ℕ) → v < length words → record_for g.table.used (entry_at g a v) k ≡ get_or (entry_at g a v) (used_place g.table k) []
   record_is k v node = record_same g.table.used (entry_at g a v) k (entry_is v node).count

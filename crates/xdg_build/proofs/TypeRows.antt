@@ -58,7 +58,7 @@ rises_small low bound most (n ∷ ns) same (a, b, c) = all_cons (λ number. numb
 cardinality : (ns : List ℕ) → IsCards ns → IsCardinality ns
 cardinality ns h = record { some = some_numbers ns h.some; rising = increases ns h; small = rises_small 0 128 127 ns (omega arith) h.rises }
 
-all_below : (bound : ℕ) (ns : List ℕ) → AllBelow bound ns → All (λ number. number < bound) ns
+pub all_below : (bound : ℕ) (ns : List ℕ) → AllBelow bound ns → All (λ number. number < bound) ns
 all_below bound [] h = all_none (λ number. number < bound)
 all_below bound (n ∷ ns) h = all_cons (λ number. number < bound) n ns h.0 (all_below bound ns h.1)
 
@@ -74,6 +74,13 @@ pub is_said : {V : Type 0} (Q : V → Type 0) (o : Option V) → MatchOption o �
 is_said Q None h is = h
 is_said Q (Some x) h is = absurd (cc is)
 
+-- the first key is the least
+pub first_key : {V : Type 0} (low bound : ℕ) (x : ℕ × V) (m : List (ℕ × V)) → KeysRise low (x ∷ m) → ((k : ℕ) → low ≤ k → k < bound → said_at (x ∷ m) k ≡ None → ⊥) → low < bound → x.0 ≡ low
+first_key low bound x m rises said within = elim (cases_eq x.0 low) [
+  | inl same ↦ same
+  | inr other ↦ absurd (said low (omega arith) within (unsaid x.0 low (x ∷ m) (omega (arith, other, rises.0)) (omega arith, rises.1)))
+]
+
 -- where something is said of each key below the bound and of no other, there is one row for each
 one_each : {V : Type 0} (P : ℕ → V → Type 0) (low bound : ℕ) (m : List (ℕ × V)) → low ≤ bound → ((key : ℕ) (v : V) → P key v → key < bound) → KeysRise low m → EachSaid P m
     → ((key : ℕ) → low ≤ key → key < bound → said_at m key ≡ None → ⊥) → low + length m ≡ bound
@@ -81,16 +88,12 @@ one_each P low bound [] order below rises each said = elim (cases_eq low bound) 
   | inl same ↦ omega (arith, same)
   | inr other ↦ absurd (said low (omega arith) (omega (arith, order, other)) refl)
 ]
-one_each P low bound (x ∷ m) order below rises each said = elim (cases_eq x.0 low) [
-  | inl same ↦
-      let within : x.0 < bound = below x.0 x.1 each.0 in
-      let rest : x.0 + 1 + length m ≡ bound = one_each P (x.0 + 1) bound m (omega (arith, within)) below rises.1 each.1
-      (λ key above less none. said key (omega (arith, above, same)) less (after_head x m key (λ i. omega (arith, i, above)) ∙ none)) in
-      omega (arith, rest, same)
-  | inr other ↦
-      let within : x.0 < bound = below x.0 x.1 each.0 in
-      absurd (said low (omega arith) (omega (arith, within, rises.0)) (unsaid x.0 low (x ∷ m) (omega (arith, other, rises.0)) (omega arith, rises.1)))
-]
+one_each P low bound (x ∷ m) order below rises each said =
+    let within : x.0 < bound = below x.0 x.1 each.0 in
+    let same : x.0 ≡ low = first_key low bound x m rises said (omega (arith, within, rises.0)) in
+    let rest : x.0 + 1 + length m ≡ bound = one_each P (x.0 + 1) bound m (omega (arith, within)) below rises.1 each.1
+    (λ key above less none. said key (omega (arith, above, same)) less (after_head x m key (λ i. omega (arith, i, above)) ∙ none)) in
+    omega (arith, rest, same)
 
 each_row : {V : Type 0} (P : ℕ → V → Type 0) (Q : List ℕ → Type 0) (row : V → List ℕ) (m : List (ℕ × V)) → ((key : ℕ) (v : V) → P key v → Q (row v)) → EachSaid P m → All Q (map (λ said. row said.1) m)
 each_row P Q row [] right each = all_none Q

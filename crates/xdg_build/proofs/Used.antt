@@ -17,12 +17,12 @@ use Rattle.xdg_problem.specs.declared.parts.DimPlan.{DimPlan}
 use Rattle.xdg_problem.specs.Places.{nodes}
 use Rattle.xdg_problem.proofs.PlacePlans.{dim_within, plan_read}
 use Rattle.xdg_types.specs.declared.table.DimType.{DimType}
-use Rattle.xdg_types.specs.Table.{Table, IsTable, ArePlaces, typed, dim_named}
+use Rattle.xdg_types.specs.Table.{Table, IsTable, KeepsDim, ArePlaces, typed, dim_named}
 use Rattle.xdg_build.specs.Grammars.{Grammar}
 use Rattle.xdg_build.specs.Plans.{attr_plan}
 use Rattle.xdg_build.specs.Readings.{dimension, edges_in}
 use Rattle.xdg_build.proofs.Conditions.{AreWithin}
-use Rattle.xdg_build.proofs.Planned.{places_once}
+use Rattle.xdg_build.proofs.Planned.{kept_at, places_once}
 use Rattle.xdg_facts.proofs.In.{in_get}
 use Rattle.xdg_formula.specs.Tables.{no_dim, used_dims}
 use Rattle.xdg_packed.specs.Lexicon.{Lexicon}
@@ -40,7 +40,7 @@ filter_same p q (e ∷ es) h = ap₂ (λ (b : Bool) (more : List Edge). cond b (
 
 -- ---- places of used dimensions
 
-pub below_of : (bound : ℕ) (used : List ℕ) (k : ℕ) → ArePlaces bound used → In used k → k < bound
+below_of : (bound : ℕ) (used : List ℕ) (k : ℕ) → ArePlaces bound used → In used k → k < bound
 below_of bound [] k are has = absurd has
 below_of bound (j ∷ used) k are has = elim has [ inl same ↦ subst (λ m. m < bound) same are.0.0 | inr later ↦ below_of bound used k are.1 later ]
 
@@ -71,6 +71,12 @@ module _ (table : Table) (lexicon : Lexicon) (is : IsTable table) where
   pub used_is : (d : ℕ) → d < length (used_dims table) → get_or (used_dims table) d no_dim ≡ dimension g (among_all d)
   used_is d l = get_or-map (dimension g) table.used d 0 no_dim (used_within d l)
 
+  pub among_below : (d : ℕ) → d < length (used_dims table) → among_all d < length table.dims
+  among_below d l = below_of (length table.dims) table.used (among_all d) is.used (in_get table.used d 0 (used_within d l))
+
+  pub dim_kept : (d : ℕ) → d < length (used_dims table) → KeepsDim (dimension g (among_all d))
+  dim_kept d l = kept_at table.dims (among_all d) is.dims (among_below d l)
+
   module _ (nodes : ℕ) (a : Analysis) (name : List ℕ) (d : ℕ) (at : IsDimAt (used_dims table) name d) where
     called : (dimension g (among_all d)).name ≡ name
     called = ap (λ (dim : DimType). dim.name) (sym (used_is d at.within)) ∙ dim_named_is (used_dims table) name (get_or (used_dims table) d no_dim) at.is
@@ -82,7 +88,7 @@ module _ (table : Table) (lexicon : Lexicon) (is : IsTable table) where
     pub one_called : (k : ℕ) → IsCalled table lexicon nodes a name k → k ≡ among_all d
     one_called k other =
         let here : k < length table.dims = below_of (length table.dims) table.used k is.used other.0 in
-        let there : among_all d < length table.dims = below_of (length table.dims) table.used (among_all d) is.used is_called.0 in
+        let there : among_all d < length table.dims = among_below d at.within in
         let long : length (map (λ (dim : DimType). dim.name) table.dims) ≡ length table.dims = length-map table.dims (λ (dim : DimType). dim.name) in
         one_place (map (λ (dim : DimType). dim.name) table.dims) k (among_all d) is.names (omega (arith, here, long)) (omega (arith, there, long))
         (get_or-map (λ (dim : DimType). dim.name) table.dims k no_dim [] here ∙ other.1 ∙ sym called ∙ sym (get_or-map (λ (dim : DimType). dim.name) table.dims (among_all d) no_dim [] there))

@@ -18,11 +18,11 @@ loop-number-preserved c = (
 
 pub of-requires : goal.of-requires
 of-requires c =
-    (taken_at_end c.args.cards.now c.loop-number.numbers.items c.least-least.result c.greatest-end.result c.loop-number.number c.least-least.ensures.member c.greatest-end.ensures.below
+    (taken_at_end c.args.cards.now c.loop-number.numbers.items c.least-least.result c.greatest-end.result c.loop-number.number c.least-least.ensures.member
     c.least-least.ensures.least c.greatest-end.ensures.greatest c.loop-number-test.false c.loop-number.invariant.1 c.loop-number.invariant.0).1
 
 pub returns : goal.returns
 returns c =
     c.of.ensures
-    ∙ (taken_at_end c.args.cards.now c.loop-number.numbers.items c.least-least.result c.greatest-end.result c.loop-number.number c.least-least.ensures.member c.greatest-end.ensures.below
+    ∙ (taken_at_end c.args.cards.now c.loop-number.numbers.items c.least-least.result c.greatest-end.result c.loop-number.number c.least-least.ensures.member
     c.least-least.ensures.least c.greatest-end.ensures.greatest c.loop-number-test.false c.loop-number.invariant.1 c.loop-number.invariant.0).0
