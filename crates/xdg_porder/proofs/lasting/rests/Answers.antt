@@ -5,9 +5,6 @@ use Rattle.xdg_porder.proofs.lasting.rests.Goals as goal
 pub removed_since-requires : goal.removed_since-requires
 removed_since-requires c = (c.requires.held c.in-Some.mark c.in-Some.is).within
 
-pub all_may-requires-clause-decisions : goal.all_may-requires-clause-decisions
-all_may-requires-clause-decisions c = c.removed_since.ensures.names.each
-
 pub returns-in-Some : goal.returns-in-Some
 returns-in-Some c t =
     let s = c.args.store.now in

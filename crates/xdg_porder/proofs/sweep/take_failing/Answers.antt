@@ -9,9 +9,6 @@ use Rattle.xdg_porder.proofs.sweep.take_failing.Goals as goal
 pub returns-then-not-truth_of : goal.returns-then-not-truth_of
 returns-then-not-truth_of c = sweeps_start c.args.group.now (λ box. truth_of c.args.group.now.truths 0 ≡ true → FailsTest c.args.store.now.parts c.args.group.now box → ⊥) c.args.pass.now c.args.store.now c.requires.0.known (λ along failing. false≢true (sym c.if-not-truth_of.true ∙ (c.truth_of.ensures ∙ along)))
 
-pub fails_test-requires-clause-yields : goal.fails_test-requires-clause-yields
-fails_test-requires-clause-yields c = sym c.truth_of.ensures ∙ c.if-not-truth_of.false
-
 pub returns-then-not-fails_test : goal.returns-then-not-fails_test
 returns-then-not-fails_test c = sweeps_start c.args.group.now (λ box. truth_of c.args.group.now.truths 0 ≡ true → FailsTest c.args.store.now.parts c.args.group.now box → ⊥) c.args.pass.now c.args.store.now c.requires.0.known (λ along failing. false≢true (sym c.if-not-fails_test.true ∙ c.fails_test.ensures.1 failing))
 
