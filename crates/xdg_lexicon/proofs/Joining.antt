@@ -17,15 +17,11 @@ one_of dims (q ∷ ps) (suc k) p within is h = one_of dims ps k p (omega (arith,
 
 -- ---- one with each
 
-each_clash : (dims : List DimType) (m n : Partial) (ns js : List Partial) → JoinsEach dims m ns js → PartialsClash dims m n → JoinsEach dims m (ns ++ n ∷ []) js
-each_clash dims m n _ _ no_other h = clashes n [] [] h no_other
-each_clash dims m n _ _ (clashes a rest js c d) h = clashes a (rest ++ n ∷ []) js c (each_clash dims m n rest js d h)
-each_clash dims m n _ _ (joins a j rest js c d) h = joins a j (rest ++ n ∷ []) js c (each_clash dims m n rest js d h)
-
-each_join : (dims : List DimType) (m n k : Partial) (ns js : List Partial) → JoinsEach dims m ns js → PartialsJoin dims m n k → JoinsEach dims m (ns ++ n ∷ []) (js ++ k ∷ [])
-each_join dims m n k _ _ no_other h = joins n k [] [] h no_other
-each_join dims m n k _ _ (clashes a rest js c d) h = clashes a (rest ++ n ∷ []) (js ++ k ∷ []) c (each_join dims m n k rest js d h)
-each_join dims m n k _ _ (joins a j rest js c d) h = joins a j (rest ++ n ∷ []) (js ++ k ∷ []) c (each_join dims m n k rest js d h)
+-- with one more at the end the joins are those with it besides
+each_more : (dims : List DimType) (m n : Partial) (ns js ks : List Partial) → JoinsEach dims m ns js → JoinsEach dims m (n ∷ []) ks → JoinsEach dims m (ns ++ n ∷ []) (js ++ ks)
+each_more dims m n _ _ ks no_other h = h
+each_more dims m n _ _ ks (clashes a rest js c d) h = clashes a (rest ++ n ∷ []) (js ++ ks) c (each_more dims m n rest js ks d h)
+each_more dims m n _ _ ks (joins a j rest js c d) h = joins a j (rest ++ n ∷ []) (js ++ ks) c (each_more dims m n rest js ks d h)
 
 -- what stands in a list, is written for the joins so far and those that were there
 abbrev pub EachSoFar : List DimType → Partial → List Partial → List Partial → ℕ → List Partial → Type 0
@@ -35,18 +31,14 @@ module _ (dims : List DimType) (m : Partial) (ns old : List Partial) (i : ℕ) (
   pub each_begun : made ≡ old → EachSoFar dims m ns old 0 made
   each_begun is = ([], (is ∙ sym (append-nil old), (no_other, tt)))
 
-  pub each_clashes : (n : Partial) → i < length ns → n ≡ get_or ns i n → EachSoFar dims m ns old i made → PartialsClash dims m n → EachSoFar dims m ns old (i + 1) made
-  each_clashes n within is (js, (grown, (e, p))) h =
-      let longer : take (i + 1) ns ≡ take i ns ++ n ∷ [] = take_more ns i n within ∙ ap (λ x. take i ns ++ x ∷ []) (sym is) in
-      (js, (grown, (subst (λ xs. JoinsEach dims m xs js) (sym longer) (each_clash dims m n (take i ns) js e h), p)))
-
-  pub each_joins : (n k : Partial) (new : List Partial) → i < length ns → n ≡ get_or ns i n → new ≡ made ++ k ∷ [] → EachSoFar dims m ns old i made → PartialsJoin dims m n k × IsPartial dims k → EachSoFar dims m ns old (i + 1) new
-  each_joins n k new within is pushed (js, (grown, (e, p))) h =
+  pub each_further : (n : Partial) (ks new : List Partial) → i < length ns → n ≡ get_or ns i n → new ≡ made ++ ks → EachSoFar dims m ns old i made → JoinsEach dims m (n ∷ []) ks → ArePartial dims ks
+      → EachSoFar dims m ns old (i + 1) new
+  each_further n ks new within is pushed (js, (grown, (e, p))) h right =
       let longer : take (i + 1) ns ≡ take i ns ++ n ∷ [] = take_more ns i n within ∙ ap (λ x. take i ns ++ x ∷ []) (sym is) in (
-        js ++ k ∷ [],
+        js ++ ks,
         (
-          pushed ∙ ap (λ xs. xs ++ k ∷ []) grown ∙ append_assoc old js (k ∷ []),
-          (subst (λ xs. JoinsEach dims m xs (js ++ k ∷ [])) (sym longer) (each_join dims m n k (take i ns) js e h.0), are_all dims js (k ∷ []) p (h.1, tt)),
+          pushed ∙ ap (λ xs. xs ++ ks) grown ∙ append_assoc old js ks,
+          (subst (λ xs. JoinsEach dims m xs (js ++ ks)) (sym longer) (each_more dims m n (take i ns) js ks e h), are_all dims js ks p right),
         ),
       )
 

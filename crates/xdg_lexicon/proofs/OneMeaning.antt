@@ -1,7 +1,7 @@
 -- A term means one value at most where a type is wanted, and a record says one thing of each dimension.
 use Rattle.std.proofs.Common.{◌≡◌, ◌⊎◌, inl, inr, ℕ, ◌<◌, zero, suc, List, [], length, Option, Some, None, refl, sym, ap, ◌∙◌, subst, arith, codes}
 use Rattle.std.specs.Prelude.{Bool, true, false, bytes_eq, ◌&&◌}
-use Rattle.std.proofs.lemmas.Bool.{true≢false}
+use Rattle.std.proofs.lemmas.Bool.{cases_Bool, true≢false}
 use Rattle.std.proofs.lemmas.List.{ext_get_or}
 use Rattle.xdg_ast.specs.declared.names.Name.{Name}
 use Rattle.xdg_domain.specs.Shapes.{Shape, domain, tuple, truth, integer, text, set, iset, card, valency, mapping, fields, Fields, no_field, field_then, sizes, constants, constants_of, IsType, AreTypes}
@@ -88,11 +88,10 @@ mutual
 -- ---- records
 
 same_or_not : (a b : List ℕ) → (a ≡ b) ⊎ (a ≡ b → ⊥)
-same_or_not a b = by (bytes_eq a b) refl
-  where
-    by : (t : Bool) → bytes_eq a b ≡ t → (a ≡ b) ⊎ (a ≡ b → ⊥)
-    by true e = inl (same_text a b e)
-    by false e = inr (λ is. true≢false (sym (is_same a b is) ∙ e))
+same_or_not a b = elim (cases_Bool (bytes_eq a b)) [
+  | inl t ↦ inl (same_text a b t)
+  | inr f ↦ inr (λ is. true≢false (sym (is_same a b is) ∙ f))
+]
 
 one_said : (bs : Bindings) (fs : Fields) (pairs : Pairs) (m n : Record) → AreTypes fs → SaysFields bs fs pairs m → SaysFields bs fs pairs n → m ≡ n
 one_said bs fs pairs m n types h k = said_same 0 m n h.0 k.0 (λ key. one_field bs fs (written pairs) key (said_at m key) (said_at n key) types (h.1 key) (k.1 key))

@@ -210,15 +210,12 @@ module _ (parts : Parts) (defs : List EntryDef) (i : ℕ) (def : EntryDef) (with
 abbrev with_entries : List Entry → SoFar
 with_entries entries = record { uses = 0; combos = 0; entries = entries }
 
-none_few : (table : Table) → AreFewEach table []
-none_few table dim field place word = omega arith
-
 pub expanded_none : (parts : Parts) (defs : List EntryDef) (entries : List Entry) → entries ≡ [] → ExpandedSoFar parts defs 0 (with_entries entries)
 expanded_none parts defs entries none = subst (λ l. ExpandedSoFar parts defs 0 (with_entries l)) (sym none) (record {
   all = no_more nothing_yet;
   once = tt;
   few = omega arith;
-  few_each = none_few parts.types;
+  few_each = λ dim field place word. omega arith;
 })
 
 module _ (parts : Parts) (defs : List EntryDef) (i : ℕ) (so : SoFar) (same : parts.entries ≡ defs) (past : length defs ≤ i) (so_far : ExpandedSoFar parts defs i so) where
