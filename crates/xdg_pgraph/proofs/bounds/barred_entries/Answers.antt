@@ -6,9 +6,6 @@ use Rattle.xdg_pgraph.proofs.bounds.barred_entries.Goals as goal
 pub loop-class-init : goal.loop-class-init
 loop-class-init c count are = gather_start count c.args.group.now c.args.bundle c.args.classes.now are c.args.least c.args.most
 
-pub class_allows_none-requires-clause-class : goal.class_allows_none-requires-clause-class
-class_allows_none-requires-clause-class c = c.requires.classes c.loop-class.class-index _ c.loop-class-test.true
-
 pub loop-class-preserved-then-not-class_allows_none : goal.loop-class-preserved-then-not-class_allows_none
 loop-class-preserved-then-not-class_allows_none c count are = gather_skip count c.args.group.now c.args.bundle c.args.classes.now are c.args.least c.args.most c.loop-class.class-index _ c.loop-class-test.true c.loop-class.barred
     (λ none. false≢true (c.if-not-class_allows_none.ensures.1 none))

@@ -1,5 +1,4 @@
-use Rattle.std.proofs.Common.{◌∙◌, [], List, ap, arith, refl, subst, sym}
-use Rattle.std.specs.List.Sorted.{IsStrictlyIncreasing}
+use Rattle.std.proofs.Common.{◌∙◌, [], List, ap, arith, refl, sym}
 use Rattle.xdg_facts.proofs.Lookups.{read_none, read_some}
 use Rattle.xdg_problem.specs.declared.parts.Feat.{Feat}
 use Rattle.xdg_problem.proofs.RowReads.{in_features, row_feature, row_no_feature}
@@ -25,6 +24,3 @@ returns-clause-same c group is = numbers_told c.args.bundle.way group c.args.bun
     (c.as_slice.ensures.same
     ∙ (sym (row_feature c.in-Some.features.now c.argument.result c.args.bundle.label c.in-Some-get.feature.now c.in-Some-get.ensures ∙ read_some c.in-Some-get.feature.now.rows c.args.bundle.label c.in-Some-get-2.numbers.now [] c.in-Some-get-2.ensures)
     ∙ ap (λ (features : List Feat). in_features features c.argument.result c.args.bundle.label) (c.in-Some.ensures.lookup.4 (omega arith) [])))
-
-pub returns-clause-rising : goal.returns-clause-rising
-returns-clause-rising c = subst IsStrictlyIncreasing (sym c.as_slice.ensures.same) c.as_slice.ensures.rising

@@ -4,12 +4,6 @@ use Rattle.xdg_propcore.proofs.Touches.{small_decision}
 use Rattle.xdg_pgraph.proofs.MustsStay.{lost_all, lost_more}
 use Rattle.xdg_pgraph.proofs.lasting.lost_daughters.Goals as goal
 
-pub loop-decision-init : goal.loop-decision-init
-loop-decision-init c k d l = absurd (omega (arith, l))
-
-pub is_must-requires : goal.is_must-requires
-is_must-requires c = c.requires.decisions c.loop-decision.decision-index _ c.loop-decision-test.true
-
 pub with_daughter-daughters-requires : goal.with_daughter-daughters-requires
 with_daughter-daughters-requires c = small_decision c.args.store.now.parts _ c.requires.known.problem (c.requires.decisions c.loop-decision.decision-index _ c.loop-decision-test.true)
 

@@ -6,12 +6,6 @@ use Rattle.xdg_pgraph.specs.declared.allowances.Class.{Class}
 use Rattle.xdg_pgraph.specs.Bundles.{numbers_of}
 use Rattle.xdg_pgraph.proofs.allowances.Row.find.Goals as goal
 
-pub loop-at-init : goal.loop-at-init
-loop-at-init c = tt
-
-pub loop-at-preserved : goal.loop-at-preserved
-loop-at-preserved c = tt
-
 pub returns-then-eq : goal.returns-then-eq
 returns-then-eq c =
     let none : Class = record { entries = 0; allowed = record { least = 0; behind = 0 }; first = 0; whole = false } in
