@@ -13,12 +13,11 @@ use Rattle.xdg_types.specs.Answers.{None_of}
 use Rattle.xdg_types.specs.Parts.{Statement, keys}
 use Rattle.xdg_types.specs.Table.{Table}
 use Rattle.xdg_types.proofs.Elements.{among_or_not, among_name, differ_append}
-use Rattle.xdg_names.proofs.Texts.{has_among, among_has}
 use Rattle.xdg_classes.specs.Bodies.{Term, Called}
 use Rattle.xdg_classes.specs.Definitions.{ClassDef, classes, class_names, class_named, param_names}
 use Rattle.xdg_classes.specs.Names.{NameOffends, all_calls, used_classes, once}
 use Rattle.xdg_types.proofs.NamesAgain.{once_differ}
-use Rattle.xdg_types.proofs.NamesKnown.{each_known}
+use Rattle.xdg_types.proofs.NamesKnown.{each_known, not_among, no_text}
 use Rattle.xdg_check.specs.declared.checked.Class.{Class}
 use Rattle.xdg_check.specs.Completed.{left_out, preset_pair, bound_by}
 use Rattle.xdg_check.specs.Answers.{AreClassesOf}
@@ -144,14 +143,10 @@ module _ (statements : List Statement) (table : Table) (right : None_of (NameOff
   given_or_not call c h named p i = elim (among_or_not (texts (keys call.args)) p.name.text) [
     | inl a ↦ inl a
     | inr b ↦ inr (
-      absent (has_text (texts (keys call.args)) p.name.text) refl b,
+      no_text (texts (keys call.args)) p.name.text b,
       λ bare. right (fault_at causes.WrongParams call.name.span.start) (inr (inr (inr (inr (record { call = call; stands = h; class = c; defined = named; param = p; has = i; bare = bare; missing = b; fault = refl }))))),
     )
   ]
-    where
-      absent : (b : Bool) → has_text (texts (keys call.args)) p.name.text ≡ b → (In (texts (keys call.args)) p.name.text → ⊥) → b ≡ false
-      absent true e none = absurd (none (has_among (texts (keys call.args)) p.name.text e))
-      absent false e none = refl
 
   -- a completed use binds what it has to
   pub is_bound : (made : List Class) → AreClassesOf (classes statements) (classes statements) made → (call : Called) → In (all_calls statements) call → IsBound made (completed_call (classes statements) call)
@@ -171,7 +166,7 @@ module _ (statements : List Statement) (table : Table) (right : None_of (NameOff
         stands = m.1.0;
         name = m.1.1.name ∙ at.1;
         once = subst Differ (sym names) (differ_append given (texts (keys left)) (keys_differ call h) (left_differ given c.0.params (params_differ c.0 at.0))
-            (λ t a b. true≢false (sym (among_has given t a) ∙ (left_stands given c.0.params t b).1)));
+            (λ t a b. not_among given t (left_stands given c.0.params t b).1 a));
         known = λ param a. subst (λ ts. In ts param) (sym own) (elim (in_append given (texts (keys left)) param (subst (λ ts. In ts param) names a)) [
           | inl g ↦ (let n = among_name (keys call.args) param g in subst (In (texts (param_names c.0.params))) n.1.1 (key_known call c.0 h c.1 n.0 n.1.0))
           | inr l ↦ (left_stands given c.0.params param l).0

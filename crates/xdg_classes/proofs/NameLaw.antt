@@ -15,11 +15,11 @@ use Rattle.xdg_types.specs.Misnamed.{IsUnknown}
 use Rattle.xdg_types.specs.NameFaults.{unknown, foreign, repeats, different}
 use Rattle.xdg_types.specs.Parts.{Statement, keys}
 use Rattle.xdg_types.specs.Table.{Table}
-use Rattle.xdg_types.proofs.AllOf.{AllOf, all_tell, joined, joined_each, mapped, swapped}
-use Rattle.xdg_types.proofs.Distinct.{missing, not_there, same_known}
-use Rattle.xdg_names.proofs.Texts.{has_among, among_has}
+use Rattle.xdg_names.proofs.Listing.{Lists, lists_tell, lists_both}
+use Rattle.xdg_types.proofs.Listings.{joined_each, mapped, swapped}
+use Rattle.xdg_types.proofs.Distinct.{same_known, of_different, to_different}
 use Rattle.xdg_types.proofs.NamesAgain.{all_twice, all_of_one, more_lists}
-use Rattle.xdg_types.proofs.NamesKnown.{all_unknown}
+use Rattle.xdg_types.proofs.NamesKnown.{all_unknown, not_among, no_text}
 use Rattle.xdg_classes.specs.Bodies.{Term, Called}
 use Rattle.xdg_classes.specs.Definitions.{ClassDef, classes, class_names, class_named, param_names}
 use Rattle.xdg_classes.specs.Names.{dim_texts, all_records, all_calls, said_dims, used_classes, IsUnknownParam, IsLeftOut, NameOffends}
@@ -93,13 +93,6 @@ lacks_complete given (u ∷ needed) t a e = by (has_text given u) refl (λ later
     by false is rest = refl
     by true is rest = elim a [ inl same ↦ absurd (true≢false (sym is ∙ ap (has_text given) same ∙ e)) | inr later ↦ rest later ]
 
--- a text is among the different ones just if it is among all
-of_different : (names : List Name) (t : List ℕ) → In (different names) t → In (texts names) t
-of_different names t a = has_among (texts names) t (sym (same_known names t) ∙ among_has (different names) t a)
-
-to_different : (names : List Name) (t : List ℕ) → In (texts names) t → In (different names) t
-to_different names t a = has_among (different names) t (same_known names t ∙ among_has (texts names) t a)
-
 -- ---- the pass
 
 module _ (statements : List Statement) (table : Table) where
@@ -119,7 +112,7 @@ module _ (statements : List Statement) (table : Table) where
   abbrev ClassOffends : Fault → Type 0
   ClassOffends f = IsUnknown causes.UnknownName (texts (class_names cs)) (used_classes statements) f ⊎ (IsUnknownParam statements f ⊎ IsLeftOut statements f)
 
-  all_params : (c : ClassDef) (call : Called) → AllOf (flat_map (foreign (asked_by c).has) (keys call.args)) (IsUnknown causes.WrongParams (texts (params_of c)) (keys call.args))
+  all_params : (c : ClassDef) (call : Called) → Lists (flat_map (foreign (asked_by c).has) (keys call.args)) (IsUnknown causes.WrongParams (texts (params_of c)) (keys call.args))
   all_params c call = all_unknown causes.WrongParams (asked_by c).has (texts (params_of c)) (same_known (params_of c)) (keys call.args)
 
   of_class : (call : Called) → In (all_calls statements) call → (o : Option ClassDef) → class_named cs call.name.text ≡ o → (f : Fault) → In (class_faults (option_map asked_by o) call) f → ClassOffends f
@@ -140,7 +133,7 @@ module _ (statements : List Statement) (table : Table) where
           param = p.param;
           has = p.has;
           bare = p.none;
-          missing = λ a. missing (keys call.args) r.0 r.1.1 (subst (In (texts (keys call.args))) p.text a);
+          missing = λ a. not_among (different (keys call.args)) r.0 r.1.1 (to_different (keys call.args) r.0 (subst (In (texts (keys call.args))) p.text a));
           fault = sym e.1;
         })))
   ]
@@ -155,10 +148,10 @@ module _ (statements : List Statement) (table : Table) where
       in_class u.call u.stands (Some u.class) u.defined f
       (in_right (flat_map (foreign (asked_by u.class).has) (keys u.call.args)) (left_out given needs u.call.name.span.start) f
       (when_in (lacks given needs) (fault_at causes.WrongParams u.call.name.span.start) f
-      (lacks_complete given needs u.param.name.text (to_different (bare_names u.class.params) u.param.name.text (bare_among u.class.params u.param u.has u.bare)) (not_there (keys u.call.args) u.param.name.text u.missing))
+      (lacks_complete given needs u.param.name.text (to_different (bare_names u.class.params) u.param.name.text (bare_among u.class.params u.param u.has u.bare)) (same_known (keys u.call.args) u.param.name.text ∙ no_text (texts (keys u.call.args)) u.param.name.text u.missing))
       (sym u.fault)))
 
-  all_classes : AllOf (flat_map by_class (all_calls statements)) ClassOffends
+  all_classes : Lists (flat_map by_class (all_calls statements)) ClassOffends
   all_classes = record {
     sound = λ f h. (let k = in_flat_map by_class (all_calls statements) f h in of_class k.0 k.1.0 (class_named cs k.0.name.text) refl f k.1.1);
     complete = λ f h. elim h [
@@ -174,12 +167,12 @@ module _ (statements : List Statement) (table : Table) where
     ];
   }
 
-  pub all_names : AllOf (name_faults statements table) (NameOffends statements table)
+  pub all_names : Lists (name_faults statements table) (NameOffends statements table)
   all_names =
-      joined (mapped (unknown (dim_texts table)) (λ said. said.dim) (all_records statements) (all_unknown causes.UnknownName (dim_texts table) (dim_texts table) (λ t. refl) (said_dims statements)))
+      lists_both (mapped (unknown (dim_texts table)) (λ said. said.dim) (all_records statements) (all_unknown causes.UnknownName (dim_texts table) (dim_texts table) (λ t. refl) (said_dims statements)))
       (swapped (more_lists (all_of_one (class_names cs)) (more_lists (mapped (repeats []) params_of cs (all_twice (map params_of cs)))
       (joined_each (λ call. repeats [] (keys_of call)) by_class (all_calls statements) (mapped (repeats []) keys_of (all_calls statements) (all_twice (map keys_of (all_calls statements)))) all_classes))))
 
   -- the first of the list is the first offence
   pub names_tell : Tells (NameOffends statements table) (first (name_faults statements table))
-  names_tell = all_tell all_names
+  names_tell = lists_tell (name_faults statements table) all_names

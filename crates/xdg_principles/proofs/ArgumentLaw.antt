@@ -16,7 +16,7 @@ use Rattle.xdg_types.specs.Parts.{Statement}
 use Rattle.xdg_types.specs.Table.{Table}
 use Rattle.xdg_types.specs.declared.table.DimType.{DimType}
 use Rattle.xdg_types.specs.Misnamed.{IsUnknown}
-use Rattle.xdg_types.proofs.AllOf.{AllOf}
+use Rattle.xdg_names.proofs.Listing.{Lists}
 use Rattle.xdg_types.proofs.NamesAgain.{all_again}
 use Rattle.xdg_types.proofs.NamesKnown.{all_unknown}
 use Rattle.xdg_problem.specs.declared.forms.Parameter.{Parameter}
@@ -67,7 +67,7 @@ module _ (x : Argument) where
   of_called sort which typing wanted None e f h = absurd h
   of_called sort which typing wanted (Some called) e f h = of_type sort which typing wanted called e (member_type s sort which called.text) refl f h
 
-  all_outside : (known : List (List ℕ)) (names : List Name) → AllOf (flat_map (outside known) names) (IsUnknown causes.NotMember known names)
+  all_outside : (known : List (List ℕ)) (names : List Name) → Lists (flat_map (outside known) names) (IsUnknown causes.NotMember known names)
   all_outside known = all_unknown causes.NotMember known known (λ t. refl)
 
   of_labels : (which : Which) → p.wanted ≡ a.Labels which → (f : Fault) → In (flat_map (outside (labels s which)) (listed_in s p) ++ repeats [] (listed_in s p)) f → OneOffends x f

@@ -13,7 +13,8 @@ use Rattle.xdg_names.specs.Texts.{has_text}
 use Rattle.xdg_types.specs.NameFaults.{unknown, repeats, different}
 use Rattle.xdg_types.specs.Misnamed.{IsUnknown, IsTwice}
 use Rattle.xdg_types.specs.Parts.{Statement, dim_names, used_names, keys}
-use Rattle.xdg_types.proofs.AllOf.{AllOf, all_tell, joined, joined_each, nested, regrouped}
+use Rattle.xdg_names.proofs.Listing.{Lists, lists_tell, lists_both}
+use Rattle.xdg_types.proofs.Listings.{joined_each, nested, regrouped}
 use Rattle.xdg_types.proofs.Distinct.{same_known}
 use Rattle.xdg_names.proofs.Texts.{has_among, among_has}
 use Rattle.xdg_types.proofs.NamesAgain.{all_twice}
@@ -41,11 +42,11 @@ some_when false xs x e h = absurd (false≢true e)
 
 -- ---- the keys of a principle
 
-all_keys : (form : Form) (one : Use) → AllOf (key_faults form one) (λ f. IsUnknown causes.WrongParams (dim_keys form) (keys one.dims) f ⊎ IsUnknown causes.WrongParams (arg_keys form) (keys one.args) f)
+all_keys : (form : Form) (one : Use) → Lists (key_faults form one) (λ f. IsUnknown causes.WrongParams (dim_keys form) (keys one.dims) f ⊎ IsUnknown causes.WrongParams (arg_keys form) (keys one.args) f)
 all_keys form one =
-    joined (all_unknown causes.WrongParams (dim_keys form) (dim_keys form) (λ t. refl) (keys one.dims)) (all_unknown causes.WrongParams (arg_keys form) (arg_keys form) (λ t. refl) (keys one.args))
+    lists_both (all_unknown causes.WrongParams (dim_keys form) (dim_keys form) (λ t. refl) (keys one.dims)) (all_unknown causes.WrongParams (arg_keys form) (arg_keys form) (λ t. refl) (keys one.args))
 
-all_missing : (at : ℕ) (names : List Name) (wanted : List (List ℕ)) → AllOf (flat_map (lacking at names) wanted) (IsMissing wanted names at)
+all_missing : (at : ℕ) (names : List Name) (wanted : List (List ℕ)) → Lists (flat_map (lacking at names) wanted) (IsMissing wanted names at)
 all_missing at names wanted = record {
   sound = λ f h. (let k = in_flat_map (lacking at names) wanted f h in
       let e = in_unless (has_text (texts names) k.0) (fault_at causes.MissingArg at) f k.1.1 in
@@ -53,8 +54,8 @@ all_missing at names wanted = record {
   complete = λ f m. flat_map_in (lacking at names) wanted m.key f m.asked (unless_in (has_text (texts names) m.key) (fault_at causes.MissingArg at) f (no_text (texts names) m.key m.missing) (sym m.fault));
 }
 
-all_left_out : (form : Form) (one : Use) → AllOf (left_out form one) (λ f. IsMissing (dim_keys form) (keys one.dims) one.name.span.start f ⊎ IsMissing (required_keys form) (keys one.args) one.name.span.start f)
-all_left_out form one = joined (all_missing one.name.span.start (keys one.dims) (dim_keys form)) (all_missing one.name.span.start (keys one.args) (required_keys form))
+all_left_out : (form : Form) (one : Use) → Lists (left_out form one) (λ f. IsMissing (dim_keys form) (keys one.dims) one.name.span.start f ⊎ IsMissing (required_keys form) (keys one.args) one.name.span.start f)
+all_left_out form one = lists_both (all_missing one.name.span.start (keys one.dims) (dim_keys form)) (all_missing one.name.span.start (keys one.args) (required_keys form))
 
 -- ---- all uses
 
@@ -68,15 +69,15 @@ module _ (statements : List Statement) where
   abbrev used : List (List ℕ)
   used = different (used_names statements)
 
-  all_again : AllOf (flat_map again uses) (IsTwice (flat_map once uses))
+  all_again : Lists (flat_map again uses) (IsTwice (flat_map once uses))
   all_again =
       nested (repeats []) once again (λ one. ap (λ fs. repeats [] (keys one.dims) ++ fs) (sym (append-nil (repeats [] (keys one.args))))) uses (all_twice (flat_map once uses))
 
-  all_unknown_dims : AllOf (flat_map (λ one. flat_map (unknown defined) (values one.dims)) uses) (IsUnknown causes.UnknownName (texts (dim_names statements)) (given_dims statements))
+  all_unknown_dims : Lists (flat_map (λ one. flat_map (unknown defined) (values one.dims)) uses) (IsUnknown causes.UnknownName (texts (dim_names statements)) (given_dims statements))
   all_unknown_dims =
       nested (unknown defined) (λ one. values one.dims) (λ one. flat_map (unknown defined) (values one.dims)) (λ one. refl) uses (unknown_names (dim_names statements) (given_dims statements))
 
-  all_unused : AllOf (flat_map (unused used) uses) (IsUnusedDimension statements)
+  all_unused : Lists (flat_map (unused used) uses) (IsUnusedDimension statements)
   all_unused = record {
     sound = λ f h. (let k = in_flat_map (unused used) uses f h in
         let s = when_some (has_text used k.0.within.text) (flat_map (unknown used) (values k.0.dims)) f k.1.1 in
@@ -109,7 +110,7 @@ module _ (statements : List Statement) where
   in_named : (one : Use) → In uses one → (found : Option Principle) → named one.name.text ≡ found → (f : Fault) → In (principle_faults one found) f → In (flat_map by_name uses) f
   in_named one stands found is f h = flat_map_in by_name uses one f stands (subst (λ (o : Option Principle). In (principle_faults one o) f) (sym is) h)
 
-  all_by_name : AllOf (flat_map by_name uses) ByName
+  all_by_name : Lists (flat_map by_name uses) ByName
   all_by_name = record {
     sound = λ f h. (let k = in_flat_map by_name uses f h in of_named k.0 k.1.0 (named k.0.name.text) refl f k.1.1);
     complete = λ f h. elim h [
@@ -123,7 +124,7 @@ module _ (statements : List Statement) where
     ];
   }
 
-  pub all_names : AllOf (name_faults statements) (PrincipleNameOffends statements)
+  pub all_names : Lists (name_faults statements) (PrincipleNameOffends statements)
   all_names =
       joined_each again (λ one. (flat_map (unknown defined) (values one.dims) ++ unused used one) ++ by_name one) uses all_again
       (regrouped (joined_each (λ one. flat_map (unknown defined) (values one.dims) ++ unused used one) by_name uses
@@ -132,4 +133,4 @@ module _ (statements : List Statement) where
 
   -- the first of the list is the first offence
   pub names_tell : Tells (PrincipleNameOffends statements) (first (name_faults statements))
-  names_tell = all_tell all_names
+  names_tell = lists_tell (name_faults statements) all_names

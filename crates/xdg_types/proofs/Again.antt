@@ -16,6 +16,11 @@ pub with_all-append : (seen : List (List ℕ)) (xs ys : List Name) → with_all 
 with_all-append seen [] ys = refl
 with_all-append seen (x ∷ xs) ys = with_all-append (with_text seen x.text) xs ys
 
+-- What a loop has found and seen, where these names are left: with them it is what it finds and sees of all, which it began with
+-- what was seen before.
+abbrev pub SeenSoFar : Option Fault → List (List ℕ) → List Name → List (List ℕ) → List Name → Type 0
+SeenSoFar found seen left before all = (earlier found (first (repeats seen left)) ≡ first (repeats before all)) × (with_all seen left ≡ with_all before all)
+
 -- A turn of a loop over items that have these names: what it has found, and what it has seen.
 module _ {A : Type 0} (names : List A → List Name) (here : List Name) (x : A) (each : (xs : List A) → names (x ∷ xs) ≡ here ++ names xs) where
   found_turn : (seen more : List (List ℕ)) (xs : List A) (i : ℕ) (found next now total : Option Fault)
@@ -26,7 +31,7 @@ module _ {A : Type 0} (names : List A → List Name) (here : List Name) (x : A) 
       (λ ys. ap (repeats seen) (each ys) ∙ repeats-append seen here (names ys) ∙ ap (λ s. repeats seen here ++ repeats s (names ys)) (sym grown))
       xs i found next now total within is new sum so_far
 
-  seen_turn : (seen more all : List (List ℕ)) (xs : List A) (i : ℕ)
+  pub seen_turn : (seen more all : List (List ℕ)) (xs : List A) (i : ℕ)
       → i < length xs → x ≡ get_or xs i x → more ≡ with_all seen here → with_all seen (names (drop i xs)) ≡ all → with_all more (names (drop (i + 1) xs)) ≡ all
   seen_turn seen more all xs i within is grown so_far =
       let front : drop i xs ≡ x ∷ drop (i + 1) xs = rw (add-one, drop-cons xs i x) (ap (λ y. y ∷ drop (suc i) xs) (sym is)) in

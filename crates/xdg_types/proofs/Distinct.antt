@@ -74,18 +74,15 @@ all_new seen (n ∷ names) t h = elim h [
   | inr k ↦ all_new (with_text seen n.text) names t k
 ]
 
-none_left : (t : List ℕ) (names : List Name) → In [] t ⊎ In (texts names) t → In (texts names) t
-none_left t names h = elim h [ inl k ↦ absurd k | inr k ↦ k ]
+pub of_different : (names : List Name) (t : List ℕ) → In (different names) t → In (texts names) t
+of_different names t h = elim (all_splits [] names t h) [ inl k ↦ absurd k | inr k ↦ k ]
+
+pub to_different : (names : List Name) (t : List ℕ) → In (texts names) t → In (different names) t
+to_different = all_new []
 
 -- a text stands among the different ones just if it stands among all
 pub same_known : (names : List Name) (t : List ℕ) → has_text (different names) t ≡ has_text (texts names) t
-same_known names t = same_test (different names) (texts names) t (λ h. none_left t names (all_splits [] names t h)) (all_new [] names t)
-
-pub missing : (names : List Name) (t : List ℕ) → has_text (different names) t ≡ false → In (texts names) t → ⊥
-missing names t e h = true≢false (sym (among_has (different names) t (all_new [] names t h)) ∙ e)
-
-pub not_there : (names : List Name) (t : List ℕ) → (In (texts names) t → ⊥) → has_text (different names) t ≡ false
-not_there names t h = false_from_ne_true (has_text (different names) t) (λ e. h (none_left t names (all_splits [] names t (has_among (different names) t e))))
+same_known names t = same_test (different names) (texts names) t (of_different names t) (to_different names t)
 
 -- ---- texts that differ
 

@@ -1,7 +1,7 @@
 pub mod Again
-pub mod AllOf
 pub mod Distinct
 pub mod Elements
+pub mod Listings
 pub mod Made
 pub mod NamesAgain
 pub mod NamesKnown

@@ -12,7 +12,7 @@ use Rattle.xdg_names.proofs.Texts.{has_among, among_has}
 use Rattle.xdg_types.specs.Answers.{None_of}
 use Rattle.xdg_types.specs.Misnamed.{IsAgain, IsTwice}
 use Rattle.xdg_types.specs.NameFaults.{repeated, repeats, with_text}
-use Rattle.xdg_types.proofs.AllOf.{AllOf, all_tell}
+use Rattle.xdg_names.proofs.Listing.{Lists, lists_tell}
 use Rattle.xdg_types.proofs.Distinct.{with_splits, with_old, with_new, texts_left, texts_right}
 use Rattle.xdg_types.proofs.Elements.{differ_unless}
 use Rattle.xdg_facts.specs.Membership.{In, Differ}
@@ -49,7 +49,7 @@ again_complete (x ∷ before) n after seen f h e =
 
 -- ---- all of a list, and of several
 
-pub all_again : (names : List Name) → AllOf (repeats [] names) (IsAgain names)
+pub all_again : (names : List Name) → Lists (repeats [] names) (IsAgain names)
 all_again names = record {
   sound = again_sound names [] names refl [] (λ t a. a);
   complete = λ f a. subst (λ ns. In (repeats [] ns) f) (sym a.parts) (again_complete a.before a.name a.after [] f (inr a.earlier) (sym a.fault));
@@ -57,19 +57,19 @@ all_again names = record {
 
 -- the first of the list is the first offence
 pub again_tells : (names : List Name) → Tells (IsAgain names) (first (repeats [] names))
-again_tells names = all_tell (all_again names)
+again_tells names = lists_tell (repeats [] names) (all_again names)
 
-pub all_twice : (lists : List (List Name)) → AllOf (flat_map (repeats []) lists) (IsTwice lists)
+pub all_twice : (lists : List (List Name)) → Lists (flat_map (repeats []) lists) (IsTwice lists)
 all_twice lists = record {
   sound = λ f h. (let k = in_flat_map (repeats []) lists f h in record { names = k.0; among = k.1.0; again = (all_again k.0).sound f k.1.1 });
   complete = λ f t. flat_map_in (repeats []) lists t.names f t.among ((all_again t.names).complete f t.again);
 }
 
-pub all_of_one : (names : List Name) → AllOf (repeats [] names) (IsTwice (names ∷ []))
-all_of_one names = subst (λ fs. AllOf fs (IsTwice (names ∷ []))) (append-nil (repeats [] names)) (all_twice (names ∷ []))
+pub all_of_one : (names : List Name) → Lists (repeats [] names) (IsTwice (names ∷ []))
+all_of_one names = subst (λ fs. Lists fs (IsTwice (names ∷ []))) (append-nil (repeats [] names)) (all_twice (names ∷ []))
 
 -- more lists before these
-pub more_lists : {xs ys : List Fault} {lists more : List (List Name)} {P : Fault → Type 0} → AllOf xs (IsTwice lists) → AllOf ys (λ f. IsTwice more f ⊎ P f) → AllOf (xs ++ ys) (λ f. IsTwice (lists ++ more) f ⊎ P f)
+pub more_lists : {xs ys : List Fault} {lists more : List (List Name)} {P : Fault → Type 0} → Lists xs (IsTwice lists) → Lists ys (λ f. IsTwice more f ⊎ P f) → Lists (xs ++ ys) (λ f. IsTwice (lists ++ more) f ⊎ P f)
 more_lists {xs = xs} {ys = ys} {lists = lists} {more = more} a b = record {
   sound = λ f h. elim (in_append xs ys f h) [
     | inl l ↦ (let t = a.sound f l in inl (record { names = t.names; among = in_left lists more t.names t.among; again = t.again }))

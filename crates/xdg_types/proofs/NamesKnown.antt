@@ -11,7 +11,7 @@ use Rattle.xdg_names.proofs.Texts.{has_among, among_has}
 use Rattle.xdg_types.specs.Answers.{None_of}
 use Rattle.xdg_types.specs.Misnamed.{IsUnknown}
 use Rattle.xdg_types.specs.NameFaults.{unknown_as, unknown, different}
-use Rattle.xdg_types.proofs.AllOf.{AllOf}
+use Rattle.xdg_names.proofs.Listing.{Lists}
 use Rattle.xdg_types.proofs.Distinct.{same_known}
 use Rattle.xdg_types.proofs.Elements.{among_or_not}
 use Rattle.xdg_ast.specs.Texts.{texts}
@@ -25,7 +25,7 @@ pub no_text : (known : List (List ℕ)) (t : List ℕ) → (In known t → ⊥) 
 no_text known t h = false_from_ne_true (has_text known t) (λ e. h (has_among known t e))
 
 -- those that are looked for among texts in which the same are found
-pub all_unknown : (cause : Cause) (seen known : List (List ℕ)) → ((t : List ℕ) → has_text seen t ≡ has_text known t) → (names : List Name) → AllOf (flat_map (unknown_as cause seen) names) (IsUnknown cause known names)
+pub all_unknown : (cause : Cause) (seen known : List (List ℕ)) → ((t : List ℕ) → has_text seen t ≡ has_text known t) → (names : List Name) → Lists (flat_map (unknown_as cause seen) names) (IsUnknown cause known names)
 all_unknown cause seen known same names = record {
   sound = λ f h. (let k = in_flat_map (unknown_as cause seen) names f h in
       let e = in_unless (has_text seen k.0.text) (fault_at cause k.0.span.start) f k.1.1 in
@@ -35,7 +35,7 @@ all_unknown cause seen known same names = record {
 }
 
 -- the same of names that stand for nothing, looked for among the different names that the code has found
-pub unknown_names : (known names : List Name) → AllOf (flat_map (unknown (different known)) names) (IsUnknown causes.UnknownName (texts known) names)
+pub unknown_names : (known names : List Name) → Lists (flat_map (unknown (different known)) names) (IsUnknown causes.UnknownName (texts known) names)
 unknown_names known = all_unknown causes.UnknownName (different known) (texts known) (same_known known)
 
 -- where none stands for nothing, each is known

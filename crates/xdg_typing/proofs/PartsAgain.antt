@@ -8,7 +8,7 @@ use Rattle.xdg_base.specs.declared.faults.Fault.{Fault}
 use Rattle.xdg_typing.specs.declared.singles.Stood.{Stood}
 use Rattle.xdg_types.specs.Parts.{DimPart, Statement, Dimension, dimensions}
 use Rattle.xdg_types.specs.Names.{Single, the_labels, the_attributes, the_features, single, IsPartTwice}
-use Rattle.xdg_types.proofs.AllOf.{AllOf}
+use Rattle.xdg_names.proofs.Listing.{Lists}
 use Rattle.xdg_typing.specs.Listed.{has_stood, with_part, none_stood, part_again, parts_again}
 use Rattle.xdg_facts.specs.Membership.{In}
 use Rattle.xdg_facts.proofs.In.{in_append, in_left, in_right, in_when, when_in, in_flat_map, flat_map_in}
@@ -80,7 +80,7 @@ parts_complete (x ∷ before) p after stood what f is h e =
     e)
 
 -- in all dimensions
-pub all_parts : (statements : List Statement) → AllOf (flat_map (λ dim. parts_again none_stood dim.1) (dimensions statements)) (IsPartTwice statements)
+pub all_parts : (statements : List Statement) → Lists (flat_map (λ dim. parts_again none_stood dim.1) (dimensions statements)) (IsPartTwice statements)
 all_parts statements = record {
   sound = λ f h. (let k = in_flat_map (λ (dim : Dimension). parts_again none_stood dim.1) (dimensions statements) f h in
       parts_sound statements k.0 k.1.0 [] k.0.1 refl none_stood (λ what a. absurd (none_yet what a)) f k.1.1);

@@ -1,7 +1,7 @@
 use Rattle.std.proofs.Common.{refl}
 use Rattle.xdg_classes.specs.NameFaults as spec
 use Rattle.xdg_classes.proofs.params.needed.Goals as goal
-use Rattle.xdg_types.proofs.NameTurns.{seen_turn}
+use Rattle.xdg_types.proofs.Again.{seen_turn}
 
 pub loop-param-preserved : goal.loop-param-preserved
 loop-param-preserved c = (

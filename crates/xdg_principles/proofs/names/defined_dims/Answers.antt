@@ -1,7 +1,8 @@
 use Rattle.xdg_types.specs.NameFaults.{dim_name}
 use Rattle.xdg_types.specs.Parts.{dim_names}
 use Rattle.xdg_principles.proofs.names.defined_dims.Goals as goal
-use Rattle.xdg_types.proofs.NameTurns.{seen_turn, each_dim}
+use Rattle.xdg_types.proofs.Again.{seen_turn}
+use Rattle.xdg_types.proofs.NameTurns.{each_dim}
 
 pub loop-statement-preserved : goal.loop-statement-preserved
 loop-statement-preserved c =

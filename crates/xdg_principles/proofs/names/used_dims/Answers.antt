@@ -1,7 +1,7 @@
 use Rattle.std.proofs.Common.{refl}
 use Rattle.xdg_types.specs.Parts.{used_name, used_names}
 use Rattle.xdg_principles.proofs.names.used_dims.Goals as goal
-use Rattle.xdg_types.proofs.NameTurns.{seen_turn}
+use Rattle.xdg_types.proofs.Again.{seen_turn}
 
 pub loop-statement-preserved : goal.loop-statement-preserved
 loop-statement-preserved c =

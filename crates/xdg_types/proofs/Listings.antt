@@ -1,32 +1,14 @@
--- Lists that hold all faults of which something is true, and no others.
+-- Lists of faults put together otherwise than by one kind behind another.
 use Rattle.std.proofs.Common.{◌≡◌, ◌⊎◌, inl, inr, List, [], ◌∷◌, ◌++◌, map, refl, sym, ap, ◌∙◌, subst}
 use Rattle.std.specs.List.{flat_map}
 use Rattle.std.proofs.lemmas.Grind.{flat_map-append}
 use Rattle.xdg_base.specs.declared.faults.Fault.{Fault}
-use Rattle.xdg_names.specs.First.{Tells, first}
-use Rattle.xdg_names.proofs.First.{tells_as, first-tells}
-use Rattle.xdg_facts.specs.Membership.{In}
+use Rattle.xdg_names.proofs.Listing.{Lists}
 use Rattle.xdg_facts.proofs.In.{in_append, in_left, in_right, in_flat_map, flat_map_in}
-
-pub record AllOf (faults : List Fault) (P : Fault → Type 0) : Type 0 where
-  pub sound : (f : Fault) → In faults f → P f
-  pub complete : (f : Fault) → P f → In faults f
-
--- the first of the list is the first offence
-pub all_tell : {faults : List Fault} {P : Fault → Type 0} → AllOf faults P → Tells P (first faults)
-all_tell {faults = faults} {P = P} a = tells_as (In faults) P a.sound a.complete (first faults) (first-tells faults)
-
--- ---- lists in a row
-
-pub joined : {xs ys : List Fault} {P Q : Fault → Type 0} → AllOf xs P → AllOf ys Q → AllOf (xs ++ ys) (λ f. P f ⊎ Q f)
-joined {xs = xs} {ys = ys} a b = record {
-  sound = λ f h. elim (in_append xs ys f h) [ inl l ↦ inl (a.sound f l) | inr r ↦ inr (b.sound f r) ];
-  complete = λ f h. elim h [ inl p ↦ in_left xs ys f (a.complete f p) | inr q ↦ in_right xs ys f (b.complete f q) ];
-}
 
 -- in each item a list of the one kind and then one of the other
 pub joined_each : {A : Type 0} (g h : A → List Fault) (xs : List A) {P Q : Fault → Type 0}
-    → AllOf (flat_map g xs) P → AllOf (flat_map h xs) Q → AllOf (flat_map (λ x. g x ++ h x) xs) (λ f. P f ⊎ Q f)
+    → Lists (flat_map g xs) P → Lists (flat_map h xs) Q → Lists (flat_map (λ x. g x ++ h x) xs) (λ f. P f ⊎ Q f)
 joined_each g h xs a b = record {
   sound = λ f k. (let w = in_flat_map (λ x. g x ++ h x) xs f k in elim (in_append (g w.0) (h w.0) f w.1.1) [
     | inl l ↦ inl (a.sound f (flat_map_in g xs w.0 f w.1.0 l))
@@ -45,26 +27,26 @@ nest u g h same [] = refl
 nest u g h same (x ∷ xs) = flat_map-append u (g x) (flat_map g xs) ∙ ap (λ fs. flat_map u (g x) ++ fs) (nest u g h same xs) ∙ ap (λ fs. fs ++ flat_map h xs) (sym (same x))
 
 pub nested : {A B : Type 0} (u : B → List Fault) (g : A → List B) (h : A → List Fault) → ((x : A) → h x ≡ flat_map u (g x)) → (xs : List A) {P : Fault → Type 0}
-    → AllOf (flat_map u (flat_map g xs)) P → AllOf (flat_map h xs) P
-nested u g h same xs {P = P} = subst (λ fs. AllOf fs P) (nest u g h same xs)
+    → Lists (flat_map u (flat_map g xs)) P → Lists (flat_map h xs) P
+nested u g h same xs {P = P} = subst (λ fs. Lists fs P) (nest u g h same xs)
 
 one_each : {A B : Type 0} (u : B → List Fault) (g : A → B) (xs : List A) → flat_map u (map g xs) ≡ flat_map (λ x. u (g x)) xs
 one_each u g [] = refl
 one_each u g (x ∷ xs) = ap (λ fs. u (g x) ++ fs) (one_each u g xs)
 
-pub mapped : {A B : Type 0} (u : B → List Fault) (g : A → B) (xs : List A) {P : Fault → Type 0} → AllOf (flat_map u (map g xs)) P → AllOf (flat_map (λ x. u (g x)) xs) P
-mapped u g xs {P = P} = subst (λ fs. AllOf fs P) (one_each u g xs)
+pub mapped : {A B : Type 0} (u : B → List Fault) (g : A → B) (xs : List A) {P : Fault → Type 0} → Lists (flat_map u (map g xs)) P → Lists (flat_map (λ x. u (g x)) xs) P
+mapped u g xs {P = P} = subst (λ fs. Lists fs P) (one_each u g xs)
 
 -- ---- kinds in another order
 
 module _ {xs : List Fault} {P Q R : Fault → Type 0} where
-  pub regrouped : AllOf xs (λ f. (P f ⊎ Q f) ⊎ R f) → AllOf xs (λ f. P f ⊎ (Q f ⊎ R f))
+  pub regrouped : Lists xs (λ f. (P f ⊎ Q f) ⊎ R f) → Lists xs (λ f. P f ⊎ (Q f ⊎ R f))
   regrouped a = record {
     sound = λ f h. elim (a.sound f h) [ inl k ↦ elim k [ inl p ↦ inl p | inr q ↦ inr (inl q) ] | inr r ↦ inr (inr r) ];
     complete = λ f h. a.complete f (elim h [ inl p ↦ inl (inl p) | inr k ↦ elim k [ inl q ↦ inl (inr q) | inr r ↦ inr r ] ]);
   }
 
-  pub swapped : AllOf xs (λ f. P f ⊎ (Q f ⊎ R f)) → AllOf xs (λ f. Q f ⊎ (P f ⊎ R f))
+  pub swapped : Lists xs (λ f. P f ⊎ (Q f ⊎ R f)) → Lists xs (λ f. Q f ⊎ (P f ⊎ R f))
   swapped a = record {
     sound = λ f h. elim (a.sound f h) [ inl p ↦ inr (inl p) | inr k ↦ elim k [ inl q ↦ inl q | inr r ↦ inr (inr r) ] ];
     complete = λ f h. a.complete f (elim h [ inl q ↦ inr (inl q) | inr k ↦ elim k [ inl p ↦ inl p | inr r ↦ inr (inr r) ] ]);
