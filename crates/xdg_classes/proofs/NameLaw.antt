@@ -138,17 +138,19 @@ module _ (statements : List Statement) (table : Table) where
         })))
   ]
 
-  in_class : (call : Called) → In (all_calls statements) call → (o : Option ClassDef) → class_named cs call.name.text ≡ o → (f : Fault) → In (class_faults (option_map asked_by o) call) f → In (flat_map by_class (all_calls statements)) f
+  in_class : (call : Called) → In (all_calls statements) call → (o : Option ClassDef) → class_named cs call.name.text ≡ o → (f : Fault)
+      → In (class_faults (option_map asked_by o) call) f → In (flat_map by_class (all_calls statements)) f
   in_class call stands o is f h = flat_map_in by_class (all_calls statements) call f stands (subst (λ p. In (class_faults (option_map asked_by p) call) f) (sym is) h)
 
   left_here : (f : Fault) → IsLeftOut statements f → In (flat_map by_class (all_calls statements)) f
   left_here f u =
       let given = different (keys u.call.args) in
       let needs = (asked_by u.class).needs in
+      let unmet = same_known (keys u.call.args) u.param.name.text ∙ no_text (texts (keys u.call.args)) u.param.name.text u.missing in
       in_class u.call u.stands (Some u.class) u.defined f
       (in_right (flat_map (foreign (asked_by u.class).has) (keys u.call.args)) (left_out given needs u.call.name.span.start) f
       (when_in (lacks given needs) (fault_at causes.WrongParams u.call.name.span.start) f
-      (lacks_complete given needs u.param.name.text (to_different (bare_names u.class.params) u.param.name.text (bare_among u.class.params u.param u.has u.bare)) (same_known (keys u.call.args) u.param.name.text ∙ no_text (texts (keys u.call.args)) u.param.name.text u.missing))
+      (lacks_complete given needs u.param.name.text (to_different (bare_names u.class.params) u.param.name.text (bare_among u.class.params u.param u.has u.bare)) unmet)
       (sym u.fault)))
 
   all_classes : Lists (flat_map by_class (all_calls statements)) ClassOffends
