@@ -6,9 +6,6 @@ use Rattle.xdg_propcore.proofs.Holding.{all_held}
 use Rattle.xdg_propcore.proofs.Settling.{kinds_in, on_within, others_sleep}
 use Rattle.xdg_propcore.proofs.agenda.settle_since.Goals as goal
 
-pub wake-requires : goal.wake-requires
-wake-requires g c = ap length c.as_slice.ensures.value ∙ sym (c.sleep_all.ensures.length ∙ c.agenda.invariant.0)
-
 pub run-requires-clause-awake : goal.run-requires-clause-awake
 run-requires-clause-awake g c =
     let n : length c.agenda.inside.wakes.items ≡ length c.args.props.now = sym (length-map c.agenda.inside.wakes.items (λ (w : Wake). w.0)) ∙ ap length (c.agenda.view_is ∙ c.requires.agenda) ∙ length-map c.args.props.now g.P.Propagator.kinds in

@@ -5,9 +5,6 @@ use Rattle.xdg_propcore.specs.Flags.{IsOn, HoldsFlags, flags_of}
 use Rattle.xdg_propcore.proofs.Flags.{small_place, lowest_within, lowest_on, none_in_word, none_on}
 use Rattle.xdg_propcore.proofs.awake.Awake.first.Goals as goal
 
-pub loop-place-init : goal.loop-place-init
-loop-place-init c = record { words = c.type_inv.word-items; none = λ b l e. omega (arith, l) }
-
 pub overflow_mul-result : goal.overflow_mul-result
 overflow_mul-result c =
     let holds = subst (λ w. HoldsFlags w c.self.inside.count) (sym c.deref-word-items.ensures.value) c.self.invariant in

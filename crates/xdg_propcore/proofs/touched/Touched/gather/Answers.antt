@@ -2,9 +2,6 @@ use Rattle.std.proofs.Common.{arith}
 use Rattle.xdg_propcore.proofs.Touches.{small_decision, touched_all}
 use Rattle.xdg_propcore.proofs.touched.Touched.gather.Goals as goal
 
-pub loop-decision-init : goal.loop-decision-init
-loop-decision-init c k d l = absurd (omega (arith, l))
-
 pub add-requires : goal.add-requires
 add-requires c = small_decision c.args.store.now.parts _ c.removed_since-removed.ensures.known.problem (c.removed_since-removed.ensures.names.each c.loop-decision.decision-index _ c.loop-decision-test.true)
 

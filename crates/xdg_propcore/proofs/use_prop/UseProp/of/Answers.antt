@@ -1,5 +1,4 @@
 use Rattle.std.proofs.Common.{refl, sym, subst}
-use Rattle.xdg_problem.specs.declared.parts.Group.{Group}
 use Rattle.xdg_problem.specs.Problems.{IsGroup}
 use Rattle.xdg_propcore.specs.UseKinds.{AreSmall, HasKinds}
 use Rattle.xdg_propcore.specs.Uses.{no_use, use_at}
@@ -11,9 +10,6 @@ kinds_of-wakes-requires g c = subst AreSmall (sym c.use_of-found.ensures.is) (sm
 
 pub of-requires-clause-group : goal.of-requires-clause-group
 of-requires-clause-group g c = subst (IsGroup c.args.problem.now) (sym c.use_of-found.ensures.is) (c.use_of-found.ensures.problem.groups c.args.group no_use c.requires.within)
-
-pub of-requires-clause-family : goal.of-requires-clause-family
-of-requires-clause-family g c = subst (λ (it : Group). g.F.Family.holds it.principle) (sym c.use_of-found.ensures.is) c.requires.family
 
 pub returns : goal.returns
 returns g c = (

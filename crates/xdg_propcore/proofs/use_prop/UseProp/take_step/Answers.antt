@@ -7,9 +7,6 @@ use Rattle.xdg_propcore.proofs.use_prop.UseProp.take_step.Goals as goal
 pub use_of-group-requires : goal.use_of-group-requires
 use_of-group-requires g c = number_within (StandsAt g.F.Family.holds (g.F.Family.fits c.args.self.now.family) c.args.self.now.number c.args.self.now.wakes.0) c.args.self.now.number _ c.args.store.now c.turn.new.self (λ k h. h.number_is) c.requires.stands c.turn.ensures.turns c.turn.ensures.known c.problem.result.now c.problem.ensures.parts
 
-pub sweep-requires-clause-known : goal.sweep-requires-clause-known
-sweep-requires-clause-known g c = c.turn.ensures.known
-
 pub sweep-requires-clause-group : goal.sweep-requires-clause-group
 sweep-requires-clause-group g c = group_known (StandsAt g.F.Family.holds (g.F.Family.fits c.args.self.now.family) c.args.self.now.number c.args.self.now.wakes.0) c.args.self.now.number _ c.args.store.now c.turn.new.self (λ k h. h.number_is) c.requires.stands c.turn.ensures.turns c.turn.ensures.known c.problem.result.now c.problem.ensures.parts c.use_of-group.result.now c.use_of-group.ensures.is
 
@@ -36,6 +33,3 @@ returns-clause-moves g c = moved_so (StandsAt g.F.Family.holds (g.F.Family.fits 
 
 pub returns-clause-turns : goal.returns-clause-turns
 returns-clause-turns g c = turns_so (StandsAt g.F.Family.holds (g.F.Family.fits c.args.self.now.family) c.args.self.now.number c.args.self.now.wakes.0) c.args.self.now.number _ c.args.store.now c.turn.new.self (λ k h. h.number_is) c.requires.stands c.turn.ensures.turns c.turn.ensures.known c.problem.result.now c.problem.ensures.parts c.use_of-group.result.now c.use_of-group.ensures.is c.start-pass.result c.sweep.new.pass c.sweep.new.store c.start-pass.ensures c.sweep.ensures
-
-pub returns-clause-known : goal.returns-clause-known
-returns-clause-known g c = c.sweep.ensures.known
