@@ -32,9 +32,6 @@ module _ (parts : Parts) (is : IsProblem parts) (start : List ℕ) (budget : ℕ
       let stands = each_member (λ x. Fits (shape parts) x × Boxed parts x) _ (vector parts a) f.counted.each (middle f.before (vector parts a) f.behind) in
       subst (IsSolution parts) (one.forth a f.fits) (((boxed_laws parts is).whole (vector parts a) stands.0 (one.whole a f.fits)).0 stands.1)
 
-  pub find_after : (a : Analysis) (k : ℕ) → Finds parts start budget a k → Less start (vector parts a)
-  find_after a k f = rises_above start (vector parts a) _ f.counted.rises (middle f.before (vector parts a) f.behind)
-
   -- no solution stands between the start and the find
   pub find_first : (a : Analysis) (k : ℕ) → Finds parts start budget a k → (other : Analysis) → IsSolution parts other → Less start (vector parts other) → Less (vector parts other) (vector parts a) → ⊥
   find_first a k f other solution after before =

@@ -4,7 +4,7 @@ use Rattle.std.specs.Prelude.{◌↔◌, true, IsTrue, if◌then◌else◌}
 use Rattle.std.specs.List.{sum_by}
 use Rattle.std.proofs.Math.Seq.{take-suc}
 use Rattle.std.proofs.lemmas.List.{take_all}
-use Rattle.std.proofs.lemmas.List.Sums.{sum_by-cons, sum_by_push, sum_by-take-le}
+use Rattle.std.proofs.lemmas.List.Sums.{sum_by-cons, sum_by_push}
 use Rattle.xdg_ast.specs.declared.grammar.ClassParam.{ClassParam}
 use Rattle.xdg_names.specs.Texts.{has_text}
 use Rattle.xdg_types.specs.NameFaults.{different}
@@ -38,10 +38,6 @@ module _ {A : Type 0} (f : A → ℕ) (xs : List A) (i : ℕ) where
 
   pub count_end : (all counted : ℕ) → length xs ≤ i → IsCountOf counted (all + sum_by f (take i xs)) → IsCountOf counted (all + sum_by f xs)
   count_end all counted past so_far = subst (λ ys. IsCountOf counted (all + sum_by f ys)) (take_all i xs past) so_far
-
-  -- once above the bound, always above it
-  pub count_over : (all counted : ℕ) → most_bytes < counted → IsCountOf counted (all + sum_by f (take i xs)) → IsCountOf counted (all + sum_by f xs)
-  count_over all counted over so_far = let less = sum_by-take-le f xs i in omega (arith, over, so_far, less)
 
 -- a sum that stops far above the bound
 pub count_more : (all before next more : ℕ) → next ≡ min (before + more) (2 ^ 64 - 1) → IsCountOf before all → IsCountOf next (all + more)

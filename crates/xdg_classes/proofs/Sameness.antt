@@ -25,9 +25,6 @@ module _ {A B : Type 0} (f : A → B) where
   one_more : (xs : List A) (i : ℕ) (x : A) → i < length xs → x ≡ get_or xs i x → map f (take (i + 1) xs) ≡ map f (take i xs) ++ f x ∷ []
   one_more xs i x within is = rw (add-one, take-suc xs i x) (map-append f (take i xs) (get_or xs i x ∷ []) ∙ ap (λ z. map f (take i xs) ++ f z ∷ []) (sym is))
 
-  pub same_turn : (xs ys : List A) (i : ℕ) (x y : A) → i < length xs → i < length ys → x ≡ get_or xs i x → y ≡ get_or ys i y → f x ≡ f y → map f (take i xs) ≡ map f (take i ys) → map f (take (i + 1) xs) ≡ map f (take (i + 1) ys)
-  same_turn xs ys i x y within below is at same so_far = one_more xs i x within is ∙ ap₂ (λ (s : List B) (t : B). s ++ t ∷ []) so_far same ∙ sym (one_more ys i y below at)
-
 -- record types whose fields have the same shapes
 pub same_records : (one other : Ty) (xs ys ps qs : List (List ℕ × Ty)) → one ≡ y.Rec xs → other ≡ y.Rec ys → ps ≡ xs → qs ≡ ys → fields_in ps ≡ fields_in qs → shape one ≡ shape other
 same_records one other xs ys ps qs is at p q same =

@@ -26,9 +26,6 @@ zeros (suc count) (suc name) = zeros count name
 pub doubled_only : (q p : ℕ) → q * (p * 2) ≡ (q * 2 + 0) * p
 doubled_only q p = grind arith
 
-pub plus_one : (n m : ℕ) → n + 1 + m ≡ n + suc m
-plus_one n m = omega arith
-
 pub alone : (so_far most : ℕ) → so_far ≤ most → so_far ≡ min (so_far * 1) most
 alone so_far most within = omega (arith, within)
 

@@ -13,7 +13,7 @@ use Rattle.xdg_types.specs.Table.{typed, AreFeatures, KeepsDim, KeepDims}
 use Rattle.xdg_types.specs.declared.table.DimType.{DimType}
 use Rattle.xdg_terms.specs.Forms.{Bindings}
 use Rattle.xdg_classes.specs.Bodies.{Pairs}
-use Rattle.xdg_lexicon.specs.Partial.{Record, Partial, features, IsDim, said_of, IsRecord, IsPartial, nothing, PartialsJoin, SaysRecord, ReadsDim}
+use Rattle.xdg_lexicon.specs.Partial.{Record, Partial, features, IsDim, said_of, IsRecord, IsPartial, nothing, PartialsJoin, ReadsDim}
 
 -- ---- lists made one by one
 
@@ -103,9 +103,3 @@ module _ (dims : List DimType) (bound : ℕ) (made : Partial) (low : length dims
   module _ (bs : Bindings) (name : List ℕ) (pairs : Pairs) (s : SoFar (ReadsAt dims bs name pairs) bound made) where
     reads : (k : ℕ) (dim : DimType) → IsDim dims k dim → ReadsDim dim bs name pairs (said_of made k)
     reads k dim at = at_dim (ReadsAt dims bs name pairs) s k dim at dim at
-
-    pub read_says : SaysRecord dims bs name pairs made
-    read_says = record { count = long (ReadsAt dims bs name pairs) s; said = λ k dim at. (reads k dim at).said; unsaid = λ k dim at. (reads k dim at).unsaid }
-
-    pub read_right : IsPartial dims made
-    read_right = record { count = long (ReadsAt dims bs name pairs) s; each = λ k dim at. (reads k dim at).right }

@@ -5,7 +5,7 @@ use Rattle.xdg_ast.specs.declared.names.Name.{Name}
 use Rattle.xdg_ast.specs.declared.expressions.ExprKind.{ExprKind}
 use Rattle.xdg_ast.specs.declared.expressions.ExprKind.TheVariants as v
 use Rattle.std.specs.Prelude.{Option}
-use Rattle.xdg_classes.specs.Bodies.{Pairs, Expr, Body, either, both, calling, given, body}
+use Rattle.xdg_classes.specs.Bodies.{Pairs, Expr, either, both, calling, given, body}
 use Rattle.xdg_classes.proofs.Bodied.{trees, body_or, body_and}
 use Rattle.xdg_check.specs.Checked.{Parts}
 use Rattle.xdg_check.specs.Counts.{Counting}
@@ -14,10 +14,6 @@ use Rattle.xdg_lexicon.specs.declared.frames.Frame.TheVariants as frame
 use Rattle.xdg_lexicon.specs.Weights.{heavy, weigh, weigh_in}
 use Rattle.xdg_lexicon.proofs.Denoted.{of_use}
 use Rattle.xdg_facts.proofs.Lists.{from_place}
-
-pub weighs_some : (names : Counting) (b : Body) → 0 < weigh names b
-weighs_some names (either bs) = omega arith
-weighs_some names b = omega arith
 
 weigh_both : (names : Counting) (xs ys : List Expr) → weigh_in names (trees (xs ++ ys)) ≡ weigh_in names (trees xs) + weigh_in names (trees ys)
 weigh_both names [] ys = omega arith
