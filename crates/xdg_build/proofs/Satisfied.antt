@@ -554,7 +554,8 @@ module _ (g : Grammar) (words : List SentenceWord) (a : Analysis) (u : Principle
       0 x.0 refl (codes "Link") (under q named labels_to_labels form third)
       labels_first f.label.0 f.mother.0 (within_first.label f is) (within_first.mother f is) (elements.Labels nth.Second) x.1 parts.0 parts.1 parts.2 in
       let each : (k : Edge) → Contains E2 k → IsLink g words a u f k ↔ Contains row k.label.0 = λ k on. label_is labels shared nth.Second M (element parts.0) row (dimension g d2).labels k.label.0 has
-      (element_right (IsElementOf labels shared (elements.Labels nth.Second)) parts.0 parts.2) (labels_second (two q named labels_to_labels form third)) ((told.edges_within g words a u h 1 (two q named labels_to_labels form third)).label k on) in
+      (element_right (IsElementOf labels shared (elements.Labels nth.Second)) parts.0 parts.2) (labels_second (two q named labels_to_labels form third))
+      ((told.edges_within g words a u h 1 (two q named labels_to_labels form third)).label k on) in
       let mapped = map_asks M (element parts.0) row (P f) (IsLinked way E2 f.mother.0 row f.daughter.0) has (linked f row each) in
       let asked = asks (slice_index cs f.mother.0) f.mother.0 f.label.0 f.daughter.0 in (
         λ p. asked.1 (mapped.0 p),

@@ -101,7 +101,8 @@ pub not_dear : (row : List ℕ) (room dim label : ℕ) (parts : Parts) (box : Li
 not_dear row room dim label parts box cheap dear = absurd (omega (arith, cheap, dear))
 
 -- all labels with one that is dear
-pub done_label : (group : Group) (row : List ℕ) (room dim label : ℕ) (q : Progress) (mid : State) (r : Progress) (new : State) → Sweeps group (NoneFree mid.parts dim label (nodes mid.parts)) q mid r new → Sweeps group (AtLabel row room dim mid.parts label) q mid r new
+pub done_label : (group : Group) (row : List ℕ) (room dim label : ℕ) (q : Progress) (mid : State) (r : Progress) (new : State)
+    → Sweeps group (NoneFree mid.parts dim label (nodes mid.parts)) q mid r new → Sweeps group (AtLabel row room dim mid.parts label) q mid r new
 done_label group row room dim label q mid r new a = sweeps_skip group (NoneFree mid.parts dim label (nodes mid.parts)) (AtLabel row room dim mid.parts label) q mid r new a (λ none dear. none)
 
 -- ---- the dimensions

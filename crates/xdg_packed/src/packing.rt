@@ -35,7 +35,8 @@ impl Model for Packing {
 
     ghost view = { λ packing. record { entries = kept packing.entries; dim = packing.dim; field = packing.field } };
 
-    ghost invariant = { λ packing. IsPacking (record { entries = kept packing.entries; dim = packing.dim; field = packing.field }) packing.entries packing.index };
+    ghost invariant = { λ packing. IsPacking (record { entries = kept packing.entries; dim = packing.dim; field = packing.field })
+        packing.entries packing.index };
 }
 
 /// A lexicon to which an entry was added.

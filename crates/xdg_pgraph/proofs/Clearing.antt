@@ -46,13 +46,15 @@ module _ (parts : Parts) (group : Group) (bundle : Bundle) (least most k : ℕ) 
   pub barred_skip : (p : Progress) (s : State) → (All (Outside least most) (numbers k) → ⊥) → Clears Here p s p s
   barred_skip p s some = clears_none Here p s (λ d v a. some (none_outside (numbers k) least most (subst (λ x. HasNoneWithin (numbers x) least most) a.0 a.1.2)))
 
-  pub barred_taken : (p q : Progress) (old new : State) → k < length (get_or parts.candidates bundle.node []) → All (Outside least most) (numbers k) → Clears (λ d v. (d ≡ entry_decision bundle.node) × (v ≡ k)) p old q new → Clears Here p old q new
+  pub barred_taken : (p q : Progress) (old new : State) → k < length (get_or parts.candidates bundle.node []) → All (Outside least most) (numbers k)
+      → Clears (λ d v. (d ≡ entry_decision bundle.node) × (v ≡ k)) p old q new → Clears Here p old q new
   barred_taken p q old new within all = clears_like (λ d v. (d ≡ entry_decision bundle.node) × (v ≡ k)) Here p q old new
       (λ d v x. (x.1, (x.0, (let e = x.1 in omega (arith, e, within)), subst (λ y. HasNoneWithin (numbers y) least most) (sym x.1) (outside_none (numbers k) least most all))))
       (λ d v x. (x.1.0, x.0))
 
   -- the first of them, where no other remains
-  pub barred_all : (p q : Progress) (old new : State) → ((c : ℕ) → Has old.now (entry_decision bundle.node) c → c < k) → Clears (ByOne (λ c. c < k) (BarredAt parts group bundle least most)) p old q new → Clears (Barred parts group bundle least most) p old q new
+  pub barred_all : (p q : Progress) (old new : State) → ((c : ℕ) → Has old.now (entry_decision bundle.node) c → c < k)
+      → Clears (ByOne (λ c. c < k) (BarredAt parts group bundle least most)) p old q new → Clears (Barred parts group bundle least most) p old q new
   barred_all p q old new all = clears_more (ByOne (λ c. c < k) (BarredAt parts group bundle least most)) (Barred parts group bundle least most) p q old new
       (λ d v x. x.2.1)
       (λ d v x h. (v, all v (subst (λ e. Has old.now e v) x.0 h), (refl, x)))
@@ -67,7 +69,8 @@ none_barred parts group bundle least most p s none = clears_gone (Barred parts g
 abbrev pub OpenAt : ℕ → Bundle → ℕ → Parts → ℕ → ℕ → ℕ → Type 0
 OpenAt dim bundle value parts other d v = (d ≡ edge_decision parts (edge_to bundle.way dim bundle.node bundle.label other)) × (v ≡ value)
 
-pub opened_all : (parts : Parts) (dim : ℕ) (bundle : Bundle) (others : List ℕ) (value : ℕ) (p q : Progress) (old new : State) → Clears (ByOne (λ x. has others x ≡ true) (OpenAt dim bundle value parts)) p old q new → Clears (OpenTo parts dim bundle others value) p old q new
+pub opened_all : (parts : Parts) (dim : ℕ) (bundle : Bundle) (others : List ℕ) (value : ℕ) (p q : Progress) (old new : State)
+    → Clears (ByOne (λ x. has others x ≡ true) (OpenAt dim bundle value parts)) p old q new → Clears (OpenTo parts dim bundle others value) p old q new
 opened_all parts dim bundle others value p q old new = clears_like (ByOne (λ x. has others x ≡ true) (OpenAt dim bundle value parts)) (OpenTo parts dim bundle others value) p q old new
     (λ d v x. record { other = x.0; is = x.1; decision = x.2.0; value_is = x.2.1 })
     (λ d v x. (x.other, x.is, (x.decision, x.value_is)))

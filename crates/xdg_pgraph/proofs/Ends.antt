@@ -134,7 +134,8 @@ between_told which parts box dim u l v b exact = (
 )
 
 -- how many edges with a label leave a node, by the nodes to which they lead
-pub out_counted : (which : Which) (parts : Parts) (box : List (List Bool)) (dim node label : ℕ) (ends : List ℕ) → IsNodes ends → ((other : ℕ) → IsTrue (has ends other) ↔ IsDaughterBy (edges_of which parts box dim) node label other) → length ends ≡ edges_out_of (edges_of which parts box dim) node label
+pub out_counted : (which : Which) (parts : Parts) (box : List (List Bool)) (dim node label : ℕ) (ends : List ℕ) → IsNodes ends
+    → ((other : ℕ) → IsTrue (has ends other) ↔ IsDaughterBy (edges_of which parts box dim) node label other) → length ends ≡ edges_out_of (edges_of which parts box dim) node label
 out_counted which parts box dim node label ends is exact = which_counted which ways.Out parts box dim node label ends is (λ other. between_told which parts box dim node label other (has ends other) (exact other))
 
 -- a label of a plane is one of the edges of its dimension

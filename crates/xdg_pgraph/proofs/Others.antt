@@ -179,7 +179,9 @@ touched_in way t label node count edges lost all met edges_are lost_is all_is me
 -- ---- one node after another
 
 -- at the others nothing is left to take
-pub nodes_swept : (way : Way) (label : ℕ) (t : Touched) (group : Group) (first left : List ℕ) (p q : Progress) (old new : State) → label < label_count old.parts (first_dim group) → ((v : ℕ) → v < nodes old.parts → IsTouched way t v label → has_node first v ≡ true) → (IsQuiet p → AreOthersDone t old.parts group old.now) → left ≡ [] → Sweeps group (AreDone (λ v. IsBundleDone way old.parts group v label) first left) p old q new → Sweeps group (IsWayDone way old.parts group label) p old q new
+pub nodes_swept : (way : Way) (label : ℕ) (t : Touched) (group : Group) (first left : List ℕ) (p q : Progress) (old new : State) → label < label_count old.parts (first_dim group)
+    → ((v : ℕ) → v < nodes old.parts → IsTouched way t v label → has_node first v ≡ true) → (IsQuiet p → AreOthersDone t old.parts group old.now) → left ≡ []
+    → Sweeps group (AreDone (λ v. IsBundleDone way old.parts group v label) first left) p old q new → Sweeps group (IsWayDone way old.parts group label) p old q new
 nodes_swept way label t group first left p q old new known there others none a = record {
   goes = a.goes;
   known = a.known;

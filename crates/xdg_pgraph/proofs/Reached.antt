@@ -51,7 +51,9 @@ module _ (plane : Plane) (far : List (List ℕ)) (v : ℕ) (parts : Parts) (box 
   )
 
 -- they are the mothers of all edges into the node that are to go
-pub back_all : (plane : Plane) (far : List (List ℕ)) (v : ℕ) (p q : Progress) (old new : State) (mothers below back : List ℕ) → ((x : ℕ) → IsTrue (has mothers x) ↔ IsDaughter (may_edges old.parts old.now plane.dim.0) x v) → below ≡ get_or far v [] → ((x : ℕ) → has back x ≡ (has mothers x && has below x)) → Clears (ByOne (λ x. has back x ≡ true) (λ x. Aims old.parts plane.dim.0 founds.More (FromTo x v))) p old q new → Clears (Aims old.parts plane.dim.0 founds.More (BacksInto far v)) p old q new
+pub back_all : (plane : Plane) (far : List (List ℕ)) (v : ℕ) (p q : Progress) (old new : State) (mothers below back : List ℕ)
+    → ((x : ℕ) → IsTrue (has mothers x) ↔ IsDaughter (may_edges old.parts old.now plane.dim.0) x v) → below ≡ get_or far v [] → ((x : ℕ) → has back x ≡ (has mothers x && has below x))
+    → Clears (ByOne (λ x. has back x ≡ true) (λ x. Aims old.parts plane.dim.0 founds.More (FromTo x v))) p old q new → Clears (Aims old.parts plane.dim.0 founds.More (BacksInto far v)) p old q new
 back_all plane far v p q old new mothers below back exact below_is met = aims_may old.parts plane.dim.0 founds.More (λ x. has back x ≡ true) (λ x. FromTo x v) (BacksInto far v)
     (λ x e on there from. (from.1, subst (λ k. In far e.daughter.0 k) (sym from.0) (subst (λ k. In far k x) (sym from.1) (back_far plane far v old.parts old.now mothers below back exact below_is met x there))))
     p q old new
@@ -63,7 +65,8 @@ back_none plane far v p s below below_is none = clears_none (Aims s.parts plane.
     (λ d x a. none_in below a.place.mother.0 none (subst (λ set. has set a.place.mother.0 ≡ true) (sym below_is) (subst (λ k. In far k a.place.mother.0) a.aimed.0 a.aimed.1)))
 
 -- those into each node
-pub backs_all : (plane : Plane) (far : List (List ℕ)) (k : ℕ) (p q : Progress) (old new : State) → IsPlane old.parts plane → plane.nodes ≤ k → Clears (ByOne (λ x. x < k) (λ x. Aims old.parts plane.dim.0 founds.More (BacksInto far x))) p old q new → Clears (Aims old.parts plane.dim.0 founds.More (Backs far)) p old q new
+pub backs_all : (plane : Plane) (far : List (List ℕ)) (k : ℕ) (p q : Progress) (old new : State) → IsPlane old.parts plane → plane.nodes ≤ k
+    → Clears (ByOne (λ x. x < k) (λ x. Aims old.parts plane.dim.0 founds.More (BacksInto far x))) p old q new → Clears (Aims old.parts plane.dim.0 founds.More (Backs far)) p old q new
 backs_all plane far k p q old new plane_is all = aims_all old.parts plane.dim.0 founds.More (λ x. x < k) (λ x. BacksInto far x) (Backs far)
     (λ x e on less b. b.1)
     p q old new

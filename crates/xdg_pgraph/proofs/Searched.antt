@@ -99,10 +99,13 @@ module _ (which : Which) (parts : Parts) (box : List (List Bool)) (plane : Plane
   those_on : (e : Edge) → Contains those e → e.dim.0 ≡ plane.dim.0
   those_on e c = (which_place which parts box plane.dim.0 e c).1
 
-  pub joined_yes : (u v l : ℕ) (e : Edge) (found new : Found) → e ≡ edge plane.dim.0 u l v → Contains (edges_of which parts box e.dim.0) e → new ≡ found_with found e → Finds (FirstLabels (Joins those u v) l) found → Finds (FirstLabels (Joins those u v) (l + 1)) new
-  joined_yes u v l e found new is c new_is f = subst (Finds (FirstLabels (Joins those u v) (l + 1))) (sym (new_is ∙ ap (found_with found) is)) (joined_hit those plane.dim.0 u v those_on l found f (subst (λ z. Contains (edges_of which parts box z.dim.0) z) is c))
+  pub joined_yes : (u v l : ℕ) (e : Edge) (found new : Found) → e ≡ edge plane.dim.0 u l v → Contains (edges_of which parts box e.dim.0) e → new ≡ found_with found e
+      → Finds (FirstLabels (Joins those u v) l) found → Finds (FirstLabels (Joins those u v) (l + 1)) new
+  joined_yes u v l e found new is c new_is f =
+      subst (Finds (FirstLabels (Joins those u v) (l + 1))) (sym (new_is ∙ ap (found_with found) is)) (joined_hit those plane.dim.0 u v those_on l found f (subst (λ z. Contains (edges_of which parts box z.dim.0) z) is c))
 
-  pub joined_not : (u v l : ℕ) (e : Edge) (found : Found) → e ≡ edge plane.dim.0 u l v → (Contains (edges_of which parts box e.dim.0) e → ⊥) → Finds (FirstLabels (Joins those u v) l) found → Finds (FirstLabels (Joins those u v) (l + 1)) found
+  pub joined_not : (u v l : ℕ) (e : Edge) (found : Found) → e ≡ edge plane.dim.0 u l v → (Contains (edges_of which parts box e.dim.0) e → ⊥) → Finds (FirstLabels (Joins those u v) l) found
+      → Finds (FirstLabels (Joins those u v) (l + 1)) found
   joined_not u v l e found is none f = joined_miss those plane.dim.0 u v those_on l found f (λ c. none (subst (λ z. Contains (edges_of which parts box z.dim.0) z) (sym is) c))
 
   pub into_turn : (v l : ℕ) (found more new : Found) → Finds (IntoWith those v l) more → new ≡ found_merged found more → Finds (FirstLabels (Into those v) l) found → Finds (FirstLabels (Into those v) (l + 1)) new

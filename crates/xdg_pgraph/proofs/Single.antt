@@ -102,7 +102,8 @@ module _ (plane : Plane) (p q r : Progress) (old mid new : State) (root : ℕ) (
     root_stays lies = roots_among (may_edges old.parts mid.now dim) (may_edges old.parts old.now dim) (may_among old.parts mid.now old.now (subst (λ z. IsBox (shape z) mid.now) same known.is_box) lies dim) (nodes old.parts) root
         (subst (λ n. Contains (roots n (may_edges old.parts old.now dim)) root) plane_is.nodes_is there)
 
-    pub only_turn : RunsPart OnlyMother (Outside OnlyMother only_daughter left) dim p old q mid → Clears (Only old.parts (may_edges old.parts mid.now dim) w) q mid r new → RunsPart OnlyMother (Outside OnlyMother only_daughter rest) dim p old r new
+    pub only_turn : RunsPart OnlyMother (Outside OnlyMother only_daughter left) dim p old q mid → Clears (Only old.parts (may_edges old.parts mid.now dim) w) q mid r new
+        → RunsPart OnlyMother (Outside OnlyMother only_daughter rest) dim p old r new
     only_turn = outside_turn OnlyMother only_daughter dim p q r old mid new left rest w (Only old.parts (may_edges old.parts mid.now dim) w) first same
         (λ group on lies d v h. record {
           place = h.place;

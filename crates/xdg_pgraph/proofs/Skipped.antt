@@ -77,7 +77,8 @@ module _ (plane : Plane) (p q : Progress) (old mid : State) (must may : Entered)
   dim = plane.dim.0
 
   -- into a node that isn't crowded no edge is to be taken
-  pub one_mother_start : (left : List ℕ) → Tells (Contains (must_edges old.parts old.now dim)) must → Tells (Contains (may_edges old.parts old.now dim)) may → ((n : ℕ) → has left n ≡ (has must.some n && has may.more n)) → RunsPart OneMother (Outside OneMother its_daughter left) dim p old p old
+  pub one_mother_start : (left : List ℕ) → Tells (Contains (must_edges old.parts old.now dim)) must → Tells (Contains (may_edges old.parts old.now dim)) may
+      → ((n : ℕ) → has left n ≡ (has must.some n && has may.more n)) → RunsPart OneMother (Outside OneMother its_daughter left) dim p old p old
   one_mother_start left m y is group is_group on takes = record {
     goes = goes_none group p old;
     done = λ z d v x h.

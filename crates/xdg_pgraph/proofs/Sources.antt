@@ -63,7 +63,9 @@ cross p q r s none = ap (λ z. p || z) (sym (or_false r)) ∙ ap (λ z. p || (r 
 
 module _ (edges : List Edge) (w : ℕ) (a c : Entered) (this : List ℕ) (count : Count) where
   -- the nodes below a bound, and one more
-  pub count_turn : ((n : ℕ) → has this n ≡ (n == w)) → ((n : ℕ) → has c.some n ≡ (has a.some n || (has this n && some_of count))) → ((n : ℕ) → has c.more n ≡ (has a.more n || (has this n && more_of count))) → Tells (Below (λ e. e.daughter.0) (Contains edges) w) a → IsCount (Into edges w) count → Tells (Below (λ e. e.daughter.0) (Contains edges) (w + 1)) c
+  pub count_turn : ((n : ℕ) → has this n ≡ (n == w)) → ((n : ℕ) → has c.some n ≡ (has a.some n || (has this n && some_of count)))
+      → ((n : ℕ) → has c.more n ≡ (has a.more n || (has this n && more_of count))) → Tells (Below (λ e. e.daughter.0) (Contains edges) w) a → IsCount (Into edges w) count
+      → Tells (Below (λ e. e.daughter.0) (Contains edges) (w + 1)) c
   count_turn this_is some_is more_is below here =
       let b : Entered = entered_of this count in
       told_next (λ e. e.daughter.0) (Contains edges) w a b c

@@ -63,21 +63,25 @@ abbrev pub OneOf : ℕ → Found → (ℕ → Edge) → Parts → ℕ → ℕ �
 OneOf dim others at parts x = Aims parts dim others (λ e. e ≡ at x)
 
 -- the edges from a node to another, label by label
-pub labels_joined : (parts : Parts) (plane : Plane) (others : Found) (u v l : ℕ) (p q : Progress) (old new : State) → IsPlane parts plane → plane.labels ≤ l → Clears (ByOne (λ x. x < l) (OneOf plane.dim.0 others (λ x. edge plane.dim.0 u x v) parts)) p old q new → Clears (Aims parts plane.dim.0 others (FromTo u v)) p old q new
+pub labels_joined : (parts : Parts) (plane : Plane) (others : Found) (u v l : ℕ) (p q : Progress) (old new : State) → IsPlane parts plane → plane.labels ≤ l
+    → Clears (ByOne (λ x. x < l) (OneOf plane.dim.0 others (λ x. edge plane.dim.0 u x v) parts)) p old q new → Clears (Aims parts plane.dim.0 others (FromTo u v)) p old q new
 labels_joined parts plane others u v l p q old new is all = aims_all parts plane.dim.0 others (λ x. x < l) (λ x e. e ≡ edge plane.dim.0 u x v) (FromTo u v)
     (λ x e on less same. (ap (λ (f : Edge). f.mother.0) same, ap (λ (f : Edge). f.daughter.0) same))
     p q old new
     (λ e on j. (e.label.0, (let k = ((is.exact e).0 on).label in omega (arith, k, all)), edge_equal e (edge plane.dim.0 u e.label.0 v) on.1 j.0 refl j.1))
 
 -- those into a node, label by label
-pub labels_entering : (parts : Parts) (plane : Plane) (others : Found) (v l : ℕ) (p q : Progress) (old new : State) → IsPlane parts plane → plane.labels ≤ l → Clears (ByOne (λ x. x < l) (λ x. Aims parts plane.dim.0 others (ToWith v x))) p old q new → Clears (Aims parts plane.dim.0 others (ToNode v)) p old q new
+pub labels_entering : (parts : Parts) (plane : Plane) (others : Found) (v l : ℕ) (p q : Progress) (old new : State) → IsPlane parts plane → plane.labels ≤ l
+    → Clears (ByOne (λ x. x < l) (λ x. Aims parts plane.dim.0 others (ToWith v x))) p old q new → Clears (Aims parts plane.dim.0 others (ToNode v)) p old q new
 labels_entering parts plane others v l p q old new is all = aims_all parts plane.dim.0 others (λ x. x < l) (λ x. ToWith v x) (ToNode v)
     (λ x e on less with. with.0)
     p q old new
     (λ e on into. (e.label.0, (let k = ((is.exact e).0 on).label in omega (arith, k, all)), (into, refl)))
 
 -- those with a label into a node, mother by mother
-pub mothers_with : (dim : ℕ) (others : Found) (v l : ℕ) (mothers : List ℕ) (p q : Progress) (old new : State) → ((x : ℕ) → IsTrue (has mothers x) ↔ Contains (may_edges old.parts old.now dim) (edge dim x l v)) → Clears (ByOne (λ x. has mothers x ≡ true) (OneOf dim others (λ x. edge dim x l v) old.parts)) p old q new → Clears (Aims old.parts dim others (ToWith v l)) p old q new
+pub mothers_with : (dim : ℕ) (others : Found) (v l : ℕ) (mothers : List ℕ) (p q : Progress) (old new : State)
+    → ((x : ℕ) → IsTrue (has mothers x) ↔ Contains (may_edges old.parts old.now dim) (edge dim x l v))
+    → Clears (ByOne (λ x. has mothers x ≡ true) (OneOf dim others (λ x. edge dim x l v) old.parts)) p old q new → Clears (Aims old.parts dim others (ToWith v l)) p old q new
 mothers_with dim others v l mothers p q old new exact = aims_may old.parts dim others (λ x. has mothers x ≡ true) (λ x e. e ≡ edge dim x l v) (ToWith v l)
     (λ x e on there same. (ap (λ (f : Edge). f.daughter.0) same, ap (λ (f : Edge). f.label.0) same))
     p q old new

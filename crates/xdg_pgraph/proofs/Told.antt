@@ -92,7 +92,8 @@ module _ (number : Edge → ℕ) (P : Edge → Type 0) where
   pub told_none : (a : Entered) → Tells (λ e. ⊥) a → Tells (Below number P 0) a
   told_none a = tells_like (λ e. ⊥) (Below number P 0) a (λ e x. absurd x) (below_none number P)
 
-  pub told_next : (k : ℕ) (a b c : Entered) → ((n : ℕ) → has c.some n ≡ (has a.some n || has b.some n)) → ((n : ℕ) → has c.more n ≡ (has a.more n || (has b.more n || (has a.some n && has b.some n)))) → Tells (Below number P k) a → Tells (At number P k) b → Tells (Below number P (k + 1)) c
+  pub told_next : (k : ℕ) (a b c : Entered) → ((n : ℕ) → has c.some n ≡ (has a.some n || has b.some n)) → ((n : ℕ) → has c.more n ≡ (has a.more n || (has b.more n || (has a.some n && has b.some n))))
+      → Tells (Below number P k) a → Tells (At number P k) b → Tells (Below number P (k + 1)) c
   told_next k a b c some_is more_is p q = tells_both (Below number P k) (At number P k) (Below number P (k + 1)) a b c
       (below_more number P k) (below_last number P k) (below_cases number P k) (below_apart number P k) p q some_is more_is
 

@@ -74,7 +74,8 @@ module _ (parts : Parts) (group : Group) (box : List (List Bool)) (is : IsBox (s
 
   -- the other edge of the rule, by its label
   other_of : (d v : ℕ) (rule : LinkingNotDaughter parts group box d v) → rule.place ≡ place → rule.other ≡ edge (second_dim group) place.mother.0 rule.other.label.0 place.daughter.0
-  other_of d v rule at = edge_equal rule.other (edge (second_dim group) place.mother.0 rule.other.label.0 place.daughter.0) rule.other_is.1 (sym rule.mother ∙ ap (λ (e : Edge). e.mother.0) at) refl (sym rule.daughter ∙ ap (λ (e : Edge). e.daughter.0) at)
+  other_of d v rule at =
+      edge_equal rule.other (edge (second_dim group) place.mother.0 rule.other.label.0 place.daughter.0) rule.other_is.1 (sym rule.mother ∙ ap (λ (e : Edge). e.mother.0) at) refl (sym rule.daughter ∙ ap (λ (e : Edge). e.daughter.0) at)
 
   other_label : (d v : ℕ) (rule : LinkingNotDaughter parts group box d v) → rule.other.label.0 < edge_labels parts (second_dim group)
   other_label d v rule = (let l = label_below parts rule.other (is_place parts rule.other rule.other_is.0) in let e = ap (edge_labels parts) rule.other_is.1 in omega (arith, l, e))

@@ -61,7 +61,8 @@ module _ (parts : Parts) (box : List (List Bool)) (dim u l : ℕ) (within first 
   edge_beyond e v h same = subst (Beyond u l within) (sym same) (refl, (refl, beyond_outside v h))
 
 -- the edges that the loop takes are those beyond the set
-pub beyond_all : (dim u l : ℕ) (within first : List ℕ) (p q : Progress) (old new : State) → Known old → IsBeyond old.parts old.now dim u l within first → Clears (ByOne (λ x. has first x ≡ true) (λ x. Forbids old.parts dim (To dim u l x))) p old q new → Clears (Forbids old.parts dim (Beyond u l within)) p old q new
+pub beyond_all : (dim u l : ℕ) (within first : List ℕ) (p q : Progress) (old new : State) → Known old → IsBeyond old.parts old.now dim u l within first
+    → Clears (ByOne (λ x. has first x ≡ true) (λ x. Forbids old.parts dim (To dim u l x))) p old q new → Clears (Forbids old.parts dim (Beyond u l within)) p old q new
 beyond_all dim u l within first p q old new known are = clears_more (ByOne (λ x. has first x ≡ true) (λ x. Forbids old.parts dim (To dim u l x))) (Forbids old.parts dim (Beyond u l within)) p q old new
     (λ d v t. forbids_like old.parts dim (To dim u l t.0) (Beyond u l within) (λ e on same. edge_beyond old.parts old.now dim u l within first known.is_box are e t.0 t.1 same) d v t.2)
     (λ d v f h. (
@@ -71,26 +72,30 @@ beyond_all dim u l within first p q old new known are = clears_more (ByOne (λ x
     ))
 
 -- the next edge is a place still
-pub to_place : (dim u l : ℕ) (within set items first left rest : List ℕ) (v : ℕ) (p q : Progress) (old mid : State) → Known old → IsBeyond old.parts old.now dim u l within set → items ≡ set → first ≡ items → left ≡ v ∷ rest → Passed (λ parts x. Forbids parts dim (To dim u l x)) first left p old q mid → IsPlace mid.parts (edge dim u l v)
+pub to_place : (dim u l : ℕ) (within set items first left rest : List ℕ) (v : ℕ) (p q : Progress) (old mid : State) → Known old → IsBeyond old.parts old.now dim u l within set → items ≡ set
+    → first ≡ items → left ≡ v ∷ rest → Passed (λ parts x. Forbids parts dim (To dim u l x)) first left p old q mid → IsPlace mid.parts (edge dim u l v)
 to_place dim u l within set items first left rest v p q old mid known are same at is a = subst (λ z. IsPlace z (edge dim u l v)) (sym a.clears.same)
     (beyond_place old.parts old.now dim u l within set known.is_box are v (passed_member (λ parts x. Forbids parts dim (To dim u l x)) set items first left rest v p q old mid same at is a))
 
 -- ---- loops over mothers, labels and barriers
 
 -- out of the members of a set
-pub out_all : (parts : Parts) (dim l : ℕ) (mothers within : List ℕ) (p q : Progress) (old new : State) → Clears (ByOne (λ u. has mothers u ≡ true) (λ u. Forbids parts dim (Beyond u l within))) p old q new → Clears (Forbids parts dim (Out mothers l within)) p old q new
+pub out_all : (parts : Parts) (dim l : ℕ) (mothers within : List ℕ) (p q : Progress) (old new : State)
+    → Clears (ByOne (λ u. has mothers u ≡ true) (λ u. Forbids parts dim (Beyond u l within))) p old q new → Clears (Forbids parts dim (Out mothers l within)) p old q new
 out_all parts dim l mothers within p q old new = forbids_all parts dim (λ u. has mothers u ≡ true) (λ u. Beyond u l within) (Out mothers l within) p q old new
     (λ u e on there g. (subst (λ x. has mothers x ≡ true) (sym g.1.0) there, g.0, g.1.1))
     (λ e on g. (e.mother.0, g.0, (g.1, (refl, g.2))))
 
 -- with each label
-pub from_all : (parts : Parts) (dim u k : ℕ) (within : List ℕ) (p q : Progress) (old new : State) → edge_labels parts dim ≤ k → Clears (ByOne (λ l. l < k) (λ l. Forbids parts dim (Beyond u l within))) p old q new → Clears (Forbids parts dim (From u within)) p old q new
+pub from_all : (parts : Parts) (dim u k : ℕ) (within : List ℕ) (p q : Progress) (old new : State) → edge_labels parts dim ≤ k
+    → Clears (ByOne (λ l. l < k) (λ l. Forbids parts dim (Beyond u l within))) p old q new → Clears (Forbids parts dim (From u within)) p old q new
 from_all parts dim u k within p q old new all = forbids_all parts dim (λ l. l < k) (λ l. Beyond u l within) (From u within) p q old new
     (λ l e on less g. g.1)
     (λ e on g. (e.label.0, (let b = label_below parts e (is_place parts e on.0) in let same = ap (edge_labels parts) on.1 in omega (arith, b, same, all)), (refl, g)))
 
 -- out of each node
-pub leaves_all : (parts : Parts) (dim k : ℕ) (table : List (List ℕ)) (p q : Progress) (old new : State) → nodes parts ≤ k → Clears (ByOne (λ u. u < k) (λ u. Forbids parts dim (From u (get_or table u [])))) p old q new → Clears (Forbids parts dim (Leaves table)) p old q new
+pub leaves_all : (parts : Parts) (dim k : ℕ) (table : List (List ℕ)) (p q : Progress) (old new : State) → nodes parts ≤ k
+    → Clears (ByOne (λ u. u < k) (λ u. Forbids parts dim (From u (get_or table u [])))) p old q new → Clears (Forbids parts dim (Leaves table)) p old q new
 leaves_all parts dim k table p q old new all = forbids_all parts dim (λ u. u < k) (λ u. From u (get_or table u [])) (Leaves table) p q old new
     (λ u e on less g. subst (λ x. In table x e.daughter.0 → ⊥) (sym g.0) g.1)
     (λ e on g. (e.mother.0, (let m = (is_place parts e on.0).mother in omega (arith, m, all)), (refl, g)))
@@ -112,13 +117,15 @@ barrier_out parts dim l barrier over near mothers within p q old new under withi
     (λ e on g. ((under e.mother.0).1 g.1.0, g.0, (λ i. g.1.1 (subst (λ s. has s e.daughter.0 ≡ true) within_is i))))
 
 -- each of them
-pub stopped_all : (parts : Parts) (dim l : ℕ) (barriers : List ℕ) (over near : List (List ℕ)) (p q : Progress) (old new : State) → Clears (ByOne (λ x. has barriers x ≡ true) (λ x. Forbids parts dim (ByBarrier l over near x))) p old q new → Clears (Forbids parts dim (StoppedBy barriers l over near)) p old q new
+pub stopped_all : (parts : Parts) (dim l : ℕ) (barriers : List ℕ) (over near : List (List ℕ)) (p q : Progress) (old new : State)
+    → Clears (ByOne (λ x. has barriers x ≡ true) (λ x. Forbids parts dim (ByBarrier l over near x))) p old q new → Clears (Forbids parts dim (StoppedBy barriers l over near)) p old q new
 stopped_all parts dim l barriers over near p q old new = forbids_all parts dim (λ x. has barriers x ≡ true) (ByBarrier l over near) (StoppedBy barriers l over near) p q old new
     (λ x e on there g. (g.0, (x, there, g.1)))
     (λ e on g. (g.1.0, g.1.1, (g.0, g.1.2)))
 
 -- at each label
-pub blocked_all : (parts : Parts) (dim k : ℕ) (barred over near : List (List ℕ)) (p q : Progress) (old new : State) → edge_labels parts dim ≤ k → Clears (ByOne (λ l. l < k) (λ l. Forbids parts dim (StoppedBy (get_or barred l []) l over near))) p old q new → Clears (Forbids parts dim (IsStopped barred over near)) p old q new
+pub blocked_all : (parts : Parts) (dim k : ℕ) (barred over near : List (List ℕ)) (p q : Progress) (old new : State) → edge_labels parts dim ≤ k
+    → Clears (ByOne (λ l. l < k) (λ l. Forbids parts dim (StoppedBy (get_or barred l []) l over near))) p old q new → Clears (Forbids parts dim (IsStopped barred over near)) p old q new
 blocked_all parts dim k barred over near p q old new all = forbids_all parts dim (λ l. l < k) (λ l. StoppedBy (get_or barred l []) l over near) (IsStopped barred over near) p q old new
     (λ l e on less g. (g.1.0, subst (λ x. In barred x g.1.0) (sym g.0) g.1.1, g.1.2))
     (λ e on g. (e.label.0, (let b = label_below parts e (is_place parts e on.0) in let same = ap (edge_labels parts) on.1 in omega (arith, b, same, all)), (refl, (g.0, g.1, g.2))))

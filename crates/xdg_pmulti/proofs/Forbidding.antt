@@ -26,11 +26,14 @@ one_edge parts dim e p q old new is = clears_like (λ d x. (d ≡ edge_decision 
     (λ d x f. subst (λ g. SaysPresent parts g d x) f.goes f.says)
 
 -- for each of some numbers the edges that go by it, told in another way
-pub forbids_all : (parts : Parts) (dim : ℕ) (Q : ℕ → Type 0) (P : ℕ → Edge → Type 0) (R : Edge → Type 0) (p q : Progress) (old new : State) → ((x : ℕ) (e : Edge) → IsPlaceOn parts dim e → Q x → P x e → R e) → ((e : Edge) → IsPlaceOn parts dim e → R e → (x : ℕ) × Q x × P x e) → Clears (ByOne Q (λ x. Forbids parts dim (P x))) p old q new → Clears (Forbids parts dim R) p old q new
+pub forbids_all : (parts : Parts) (dim : ℕ) (Q : ℕ → Type 0) (P : ℕ → Edge → Type 0) (R : Edge → Type 0) (p q : Progress) (old new : State)
+    → ((x : ℕ) (e : Edge) → IsPlaceOn parts dim e → Q x → P x e → R e) → ((e : Edge) → IsPlaceOn parts dim e → R e → (x : ℕ) × Q x × P x e)
+    → Clears (ByOne Q (λ x. Forbids parts dim (P x))) p old q new → Clears (Forbids parts dim R) p old q new
 forbids_all parts dim Q P R p q old new to from = clears_like (ByOne Q (λ x. Forbids parts dim (P x))) (Forbids parts dim R) p q old new
     (λ d v t. forbids_like parts dim (P t.0) R (λ e on goes. to t.0 e on t.1 goes) d v t.2)
     (λ d v f. (let t = from f.place f.is f.goes in (t.0, t.1, record { place = f.place; is = f.is; goes = t.2; says = f.says })))
 
 -- the next member of a set of nodes is one of the sentence that stays
-pub passed_node : (Aim : Parts → ℕ → ℕ → ℕ → Type 0) (set items first left rest : List ℕ) (v : ℕ) (p q : Progress) (old mid : State) → items ≡ set → first ≡ items → left ≡ v ∷ rest → ((u : ℕ) → has set u ≡ true → u < nodes old.parts) → Passed Aim first left p old q mid → v < nodes mid.parts
+pub passed_node : (Aim : Parts → ℕ → ℕ → ℕ → Type 0) (set items first left rest : List ℕ) (v : ℕ) (p q : Progress) (old mid : State) → items ≡ set → first ≡ items → left ≡ v ∷ rest
+    → ((u : ℕ) → has set u ≡ true → u < nodes old.parts) → Passed Aim first left p old q mid → v < nodes mid.parts
 passed_node Aim set items first left rest v p q old mid same at is within a = subst (λ parts. v < nodes parts) (sym a.clears.same) (within v (passed_member Aim set items first left rest v p q old mid same at is a))

@@ -137,7 +137,8 @@ module _ {A B : Type 0} (j : Joining A B) (p np : Language A) (next : (ws : List
   joined join glue way s s' x y xs [] h = absurd h
   joined join glue way s s' x y xs (x' ∷ []) h = absurd h.1
 
-  several : {l m : Language A} (sign : Kind) (bracketed : Phrase → List Word) (join : Span → List A → A) (glue : List Phrase → Phrase) → Joins j.bare j.phrase join glue → ((ps : List Phrase) → separated sign (map bracketed ps) ≡ (glue ps).words)
+  several : {l m : Language A} (sign : Kind) (bracketed : Phrase → List Word) (join : Span → List A → A) (glue : List Phrase → Phrase) → Joins j.bare j.phrase join glue
+      → ((ps : List Phrase) → separated sign (map bracketed ps) ≡ (glue ps).words)
       → ((ws : List Word) (P : A → Type 0) → Written l ws P → Written m (mark sign ∷ ws) P) → (s : Span) (x y : A) (xs : List A) → Each (λ x. Written l (bracketed (j.phrase x)) (λ y. Alike j y x)) (x ∷ (y ∷ xs))
       → Written (spanned join (chain l m)) (glue (map j.phrase (x ∷ (y ∷ xs)))).words (λ z. Alike j z (join s (x ∷ (y ∷ xs))))
   several sign bracketed join glue way glued behind s x y xs e =

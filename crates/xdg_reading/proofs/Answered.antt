@@ -68,7 +68,9 @@ abbrev rest_of : Parts → AnalysisText → Result Analysis ℕ
 rest_of parts t = then (said_values (behind_attrs t t.edges) (slots (nodes parts) parts.dims) t.attrs) (λ attrs. then (said_edges parts None t.edges) (λ edges. Ok (record { entries = t.entries; attrs = attrs; edges = edges })))
 
 by_words : (parts : Parts) (t : AnalysisText) (o : Option ℕ) → IsProblem parts → length parts.candidates ≡ length t.words → length t.entries ≡ length t.words → words_fault parts.candidates t.words t.entries ≡ o → Told parts t (unless o (rest_of parts t))
-by_words parts t None problem each entries e = by_values parts t (said_values (behind_attrs t t.edges) (slots (nodes parts) parts.dims) t.attrs) problem (words_fit parts.candidates t.words t.entries each entries e) (values_told (behind_attrs t t.edges) (slots (nodes parts) parts.dims) t.attrs (all_differ (nodes parts) (slots (nodes parts) parts.dims) (are_attrs parts problem)))
+by_words parts t None problem each entries e =
+    by_values parts t (said_values (behind_attrs t t.edges) (slots (nodes parts) parts.dims) t.attrs) problem (words_fit parts.candidates t.words t.entries each entries e)
+    (values_told (behind_attrs t t.edges) (slots (nodes parts) parts.dims) t.attrs (all_differ (nodes parts) (slots (nodes parts) parts.dims) (are_attrs parts problem)))
 by_words parts t (Some at) problem each entries e = word (word_offends parts.candidates t.words t.entries at e)
 
 pub fitted_told : (parts : Parts) (t : AnalysisText) → IsProblem parts → length parts.candidates ≡ length t.words → length t.entries ≡ length t.words → Told parts t (fitted parts t)

@@ -101,7 +101,8 @@ turned text self piece rest made all invariant goes is =
 pub closes : (made rest new : List ℕ) (all : Option (List ℕ × List ℕ)) → leads made (inside false rest) ≡ all → behind (34 ∷ []) rest ≡ Some new → all ≡ Some (made, new)
 closes made rest new all invariant found = sym invariant ∙ ap (leads made) (ap (inside false) (it_stands (34 ∷ []) rest new found) ∙ closing new) ∙ ap (λ z. Some (z, new)) (append-nil made)
 
-pub goes_escaped : (made rest at new more : List ℕ) (c : ℕ) (all : Option (List ℕ × List ℕ)) → leads made (inside false rest) ≡ all → at ≡ rest → is_escaped c ≡ true → behind (92 ∷ c ∷ []) at ≡ Some new → more ≡ made ++ c ∷ [] → leads more (inside false new) ≡ all
+pub goes_escaped : (made rest at new more : List ℕ) (c : ℕ) (all : Option (List ℕ × List ℕ)) → leads made (inside false rest) ≡ all → at ≡ rest → is_escaped c ≡ true
+    → behind (92 ∷ c ∷ []) at ≡ Some new → more ≡ made ++ c ∷ [] → leads more (inside false new) ≡ all
 goes_escaped made rest at new more c all invariant same escaped found is =
     ap (λ z. leads z (inside false new)) is ∙ sym (leads_both made (c ∷ []) (inside false new))
     ∙ ap (leads made) (sym (ap (inside false) (it_stands (92 ∷ c ∷ []) at new found) ∙ escaped_turn c new escaped ∙ lead_is c (inside false new))) ∙ ap (λ z. leads made (inside false z)) same ∙ invariant
@@ -129,7 +130,8 @@ plain_parts (byte ∷ bytes) = by (plain_parts bytes) (is_plain byte) refl where
   one : 1 + n ≡ suc n
   one = omega arith
 
-  by : (list_all is_plain (take n bytes) ≡ true) × (stops_plain (drop n bytes) ≡ true) → (t : Bool) → is_plain byte ≡ t → (list_all is_plain (take (cond t (1 + n) 0) (byte ∷ bytes)) ≡ true) × (stops_plain (drop (cond t (1 + n) 0) (byte ∷ bytes)) ≡ true)
+  by : (list_all is_plain (take n bytes) ≡ true) × (stops_plain (drop n bytes) ≡ true) → (t : Bool) → is_plain byte ≡ t
+      → (list_all is_plain (take (cond t (1 + n) 0) (byte ∷ bytes)) ≡ true) × (stops_plain (drop (cond t (1 + n) 0) (byte ∷ bytes)) ≡ true)
   by more true e = subst (λ k. (list_all is_plain (take k (byte ∷ bytes)) ≡ true) × (stops_plain (drop k (byte ∷ bytes)) ≡ true)) (sym one) (and_from (is_plain byte) (list_all is_plain (take n bytes)) e more.0, more.1)
   by more false e = (refl, ap not e)
 

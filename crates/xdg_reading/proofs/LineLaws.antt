@@ -122,7 +122,8 @@ IsCountsLine = Then (IsNumber 32 1 128) (λ words. Then (IsNumber 32 0 429496729
 counts_law : IsRead counts_at IsCountsLine
 unfolding counts_at
 counts_law =
-    then_read _ _ _ _ (number_law 32 1 128 (lit< tt) (lit< tt)) (λ words. then_read _ _ _ _ (number_law 32 0 4294967295 (lit< tt) (lit< tt)) (λ attrs. then_read _ _ _ _ (number_law 10 0 4294967295 (lit< tt) (lit< tt)) (λ edges. made_read _)))
+    then_read _ _ _ _ (number_law 32 1 128 (lit< tt) (lit< tt))
+    (λ words. then_read _ _ _ _ (number_law 32 0 4294967295 (lit< tt) (lit< tt)) (λ attrs. then_read _ _ _ _ (number_law 10 0 4294967295 (lit< tt) (lit< tt)) (λ edges. made_read _)))
 
 pub version_is : version_line ≡ codes "xdg 2\n"
 unfolding digits

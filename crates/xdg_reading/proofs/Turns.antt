@@ -105,7 +105,8 @@ pub values_extra : {X : Type 0} (f : X → Asked) (behind : ℕ) (slots : List X
 values_extra f behind slots lines k line values all so_far none within is =
     refused values _ all line.at so_far (ap₂ (λ x y. said_values behind (map f x) y) (drop_all k slots none) (from_place lines k line within is))
 
-values_at : {X : Type 0} (f : X → Asked) (behind : ℕ) (slots : List X) (lines : List AttrLine) (k : ℕ) (slot : X) (line : AttrLine) (said : Option ℕ) → k < length slots → k < length lines → slot ≡ get_or slots k slot → line ≡ get_or lines k line → said ≡ said_value (f slot) line
+values_at : {X : Type 0} (f : X → Asked) (behind : ℕ) (slots : List X) (lines : List AttrLine) (k : ℕ) (slot : X) (line : AttrLine) (said : Option ℕ) → k < length slots → k < length lines
+    → slot ≡ get_or slots k slot → line ≡ get_or lines k line → said ≡ said_value (f slot) line
     → said_values behind (map f (drop k slots)) (drop k lines) ≡ or_at said line.at (λ value. lead value (said_values behind (map f (drop (k + 1) slots)) (drop (k + 1) lines)))
 values_at f behind slots lines k slot line said in_slots in_lines is_slot is_line is =
     ap₂ (λ x y. said_values behind (map f x) y) (from_place slots k slot in_slots is_slot) (from_place lines k line in_lines is_line)

@@ -73,7 +73,8 @@ module _ (parts : Parts) (group : Group) (group_is : IsGroup parts group) (box :
   keeps_by principles.Climbing same all d v has taken = climbing_reach parts group box x problem is whole agrees ((one_kept Holds conditions.Below).1 all) d v has taken
   keeps_by principles.Barriers same all d v has taken = barriers_reach parts group box x problem is whole agrees ((one_kept Holds conditions.Blocked).1 all) d v has taken
   keeps_by principles.LinkingNotDaughter same all d v has taken = linking_not_daughter parts group box x problem is whole agrees same ((one_kept Holds conditions.Link).1 all) d v has taken
-  keeps_by (principles.Rule formula) same all d v has taken = rule_takes_none parts group box x problem is whole agrees formula (subst (λ p. IsSuited p parts) same group_is.suits) (subst Whole same ((one_kept Holds conditions.Rule).1 all [] refl)) taken
+  keeps_by (principles.Rule formula) same all d v has taken =
+      rule_takes_none parts group box x problem is whole agrees formula (subst (λ p. IsSuited p parts) same group_is.suits) (subst Whole same ((one_kept Holds conditions.Rule).1 all [] refl)) taken
   keeps_by (principles.Bound costs bound) same all d v has taken = bound_takes_none parts group box x problem is whole agrees costs bound (subst Whole same ((one_kept Holds conditions.Bound).1 all [] refl)) d v has taken
   keeps_by principles.Graph same all d v has taken = absurd taken
   keeps_by principles.Entries same all d v has taken = absurd taken

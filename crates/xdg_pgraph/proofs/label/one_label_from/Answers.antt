@@ -18,7 +18,8 @@ one_label_between-requires-clause-differ c = leaves_other whichs.Must c.args.sto
     (and_parts (has c.entered_from-must.result.some c.loop-daughter.daughter) (has c.entered_from.result.more c.loop-daughter.daughter) (sym (c.meet-doubled.ensures.members c.loop-daughter.daughter) ∙ sym c.if-not-contains.ensures.value)).0
 
 pub loop-daughter-preserved-then-not-contains : goal.loop-daughter-preserved-then-not-contains
-loop-daughter-preserved-then-not-contains c = (label_skip c.args.plane.now c.args.pass.now c.loop-daughter.pass c.args.store.now c.loop-daughter.store c.entered_from-must.result c.entered_from.result c.loop-daughter.daughter c.args.mother c.meet-doubled.result c.entered_from-must.ensures c.entered_from.ensures c.meet-doubled.ensures.members (sym c.if-not-contains.ensures.value) c.loop-daughter.invariant.0, c.loop-daughter.invariant.1, c.loop-daughter.invariant.2)
+loop-daughter-preserved-then-not-contains c =
+    (label_skip c.args.plane.now c.args.pass.now c.loop-daughter.pass c.args.store.now c.loop-daughter.store c.entered_from-must.result c.entered_from.result c.loop-daughter.daughter c.args.mother c.meet-doubled.result c.entered_from-must.ensures c.entered_from.ensures c.meet-doubled.ensures.members (sym c.if-not-contains.ensures.value) c.loop-daughter.invariant.0, c.loop-daughter.invariant.1, c.loop-daughter.invariant.2)
 
 pub loop-daughter-preserved : goal.loop-daughter-preserved
 loop-daughter-preserved c =

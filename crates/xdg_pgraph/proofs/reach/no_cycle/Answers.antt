@@ -10,7 +10,8 @@ pub loop-daughter-init : goal.loop-daughter-init
 loop-daughter-init c = (first_none (λ parts x. Aims parts c.args.plane.now.dim.0 founds.More (BacksInto c.note_above.new.table x)) c.args.pass.now c.args.store.now, c.requires.known)
 
 pub loop-daughter-preserved : goal.loop-daughter-preserved
-loop-daughter-preserved c = (first_more (λ parts x. Aims parts c.args.plane.now.dim.0 founds.More (BacksInto c.note_above.new.table x)) c.loop-daughter.daughter c.args.pass.now c.loop-daughter.pass c.no_cycle_into.new.pass c.args.store.now c.loop-daughter.store c.no_cycle_into.new.store c.loop-daughter.invariant.0 c.no_cycle_into.ensures.clears, c.no_cycle_into.ensures.known)
+loop-daughter-preserved c =
+    (first_more (λ parts x. Aims parts c.args.plane.now.dim.0 founds.More (BacksInto c.note_above.new.table x)) c.loop-daughter.daughter c.args.pass.now c.loop-daughter.pass c.no_cycle_into.new.pass c.args.store.now c.loop-daughter.store c.no_cycle_into.new.store c.loop-daughter.invariant.0 c.no_cycle_into.ensures.clears, c.no_cycle_into.ensures.known)
 
 pub returns-clause-runs : goal.returns-clause-runs
 returns-clause-runs c = cycles_run c.args.plane.now c.args.pass.now c.loop-daughter.pass c.args.store.now c.loop-daughter.store c.note_above.new.table c.requires.plane c.note_above.ensures.exact

@@ -31,5 +31,6 @@ loop-mother-preserved c = (
 )
 
 pub returns-clause-clears : goal.returns-clause-clears
-returns-clause-clears c = back_all c.args.plane.now c.args.far.now c.args.daughter c.args.pass.now c.loop-mother.pass c.args.store.now c.loop-mother.store c.mothers_of.result c.set_at-below.result c.meet-back.result c.mothers_of.ensures.exact c.set_at-below.ensures c.meet-back.ensures.members
+returns-clause-clears c =
+    back_all c.args.plane.now c.args.far.now c.args.daughter c.args.pass.now c.loop-mother.pass c.args.store.now c.loop-mother.store c.mothers_of.result c.set_at-below.result c.meet-back.result c.mothers_of.ensures.exact c.set_at-below.ensures c.meet-back.ensures.members
     (passed_all (λ parts x. Aims parts c.args.plane.now.dim.0 founds.More (FromTo x c.args.daughter)) c.meet-back.result c.iter-mother-items.result c.into_iter-mother-iterator.result c.loop-mother.mother-iterator c.args.pass.now c.loop-mother.pass c.args.store.now c.loop-mother.store c.iter-mother-items.ensures.value c.into_iter-mother-iterator.ensures.into_iter_gives c.in-None.ensures.steps.0 c.loop-mother.invariant.2)

@@ -13,7 +13,8 @@ pub loop-label-init : goal.loop-label-init
 loop-label-init c = (first_none (OneOf c.args.plane.now.dim.0 c.args.others (λ x. edge c.args.plane.now.dim.0 c.args.mother x c.args.daughter)) c.args.pass.now c.args.store.now, c.requires.known)
 
 pub forbid_other-requires-clause-place : goal.forbid_other-requires-clause-place
-forbid_other-requires-clause-place c = subst (λ z. IsPlace z c.edge.result) (sym c.loop-label.invariant.0.same) (subst (IsPlace c.args.store.now.parts) (sym c.edge.ensures) (edge_place c.args.store.now.parts c.args.plane.now c.args.mother c.loop-label.label c.args.daughter c.requires.plane c.requires.mother c.requires.daughter c.requires.differ c.loop-label-test.true))
+forbid_other-requires-clause-place c =
+    subst (λ z. IsPlace z c.edge.result) (sym c.loop-label.invariant.0.same) (subst (IsPlace c.args.store.now.parts) (sym c.edge.ensures) (edge_place c.args.store.now.parts c.args.plane.now c.args.mother c.loop-label.label c.args.daughter c.requires.plane c.requires.mother c.requires.daughter c.requires.differ c.loop-label-test.true))
 
 pub loop-label-preserved : goal.loop-label-preserved
 loop-label-preserved c = (
@@ -23,4 +24,5 @@ loop-label-preserved c = (
 )
 
 pub returns-clause-clears : goal.returns-clause-clears
-returns-clause-clears c = labels_joined c.args.store.now.parts c.args.plane.now c.args.others c.args.mother c.args.daughter c.loop-label.label c.args.pass.now c.loop-label.pass c.args.store.now c.loop-label.store c.requires.plane (let t = c.loop-label-test.false in omega (arith, t)) c.loop-label.invariant.0
+returns-clause-clears c =
+    labels_joined c.args.store.now.parts c.args.plane.now c.args.others c.args.mother c.args.daughter c.loop-label.label c.args.pass.now c.loop-label.pass c.args.store.now c.loop-label.store c.requires.plane (let t = c.loop-label-test.false in omega (arith, t)) c.loop-label.invariant.0

@@ -50,4 +50,5 @@ loop-daughter-preserved c =
     )
 
 pub returns-clause-runs : goal.returns-clause-runs
-returns-clause-runs c = outside_end OneMother its_daughter c.args.plane.now.dim.0 c.args.pass.now c.loop-daughter.pass c.loop-daughter.pass c.args.store.now c.loop-daughter.store c.loop-daughter.store c.loop-daughter.daughter-iterator c.in-None.ensures.steps.0 c.loop-daughter.invariant.3
+returns-clause-runs c =
+    outside_end OneMother its_daughter c.args.plane.now.dim.0 c.args.pass.now c.loop-daughter.pass c.loop-daughter.pass c.args.store.now c.loop-daughter.store c.loop-daughter.store c.loop-daughter.daughter-iterator c.in-None.ensures.steps.0 c.loop-daughter.invariant.3

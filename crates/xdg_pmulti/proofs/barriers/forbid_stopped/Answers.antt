@@ -20,7 +20,9 @@ pub set_at-within-requires : goal.set_at-within-requires
 set_at-within-requires c = (let l = within (goal.at.set_at-within-requires c).In-Some in let most = c.loop-barrier.invariant.3.problem.most in omega (arith, l, most))
 
 pub forbid_out-requires-clause-nodes : goal.forbid_out-requires-clause-nodes
-forbid_out-requires-clause-nodes c = under_within c.args.store.now.parts c.loop-barrier.store.parts c.args.over.now c.in-Some.barrier.0 c.and_below-mothers.result c.loop-barrier.invariant.2.clears.same c.requires.over (within (goal.at.forbid_out-requires-clause-nodes c).In-Some) c.and_below-mothers.ensures
+forbid_out-requires-clause-nodes c =
+    under_within c.args.store.now.parts c.loop-barrier.store.parts c.args.over.now c.in-Some.barrier.0 c.and_below-mothers.result c.loop-barrier.invariant.2.clears.same c.requires.over
+    (within (goal.at.forbid_out-requires-clause-nodes c).In-Some) c.and_below-mothers.ensures
 
 pub loop-barrier-preserved : goal.loop-barrier-preserved
 loop-barrier-preserved c = (

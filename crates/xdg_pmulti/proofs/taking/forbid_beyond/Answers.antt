@@ -27,5 +27,7 @@ loop-daughter-preserved c =
     )
 
 pub returns-clause-clears : goal.returns-clause-clears
-returns-clause-clears c = beyond_all c.args.dim.0 c.args.mother.0 c.args.label.0 c.args.within c.minus-beyond.result c.args.pass.now c.loop-daughter.pass c.args.store.now c.loop-daughter.store c.requires.known (record { mask = c.daughters_by.result; daughters = c.daughters_by.ensures.exact; first_is = c.minus-beyond.ensures.members })
+returns-clause-clears c =
+    beyond_all c.args.dim.0 c.args.mother.0 c.args.label.0 c.args.within c.minus-beyond.result c.args.pass.now c.loop-daughter.pass c.args.store.now c.loop-daughter.store c.requires.known
+    (record { mask = c.daughters_by.result; daughters = c.daughters_by.ensures.exact; first_is = c.minus-beyond.ensures.members })
     (passed_all (λ parts x. Forbids parts c.args.dim.0 (To c.args.dim.0 c.args.mother.0 c.args.label.0 x)) c.minus-beyond.result c.iter-daughter-items.result c.into_iter-daughter-iterator.result c.loop-daughter.daughter-iterator c.args.pass.now c.loop-daughter.pass c.args.store.now c.loop-daughter.store c.iter-daughter-items.ensures.value c.into_iter-daughter-iterator.ensures.into_iter_gives c.in-None.ensures.steps.0 c.loop-daughter.invariant.2)

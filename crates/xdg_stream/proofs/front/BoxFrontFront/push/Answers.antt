@@ -13,7 +13,9 @@ use Rattle.xdg_stream.proofs.front.BoxFrontFront.push.Goals as goal
 use Rattle.xdg_stream.proofs.front.BoxFrontFront.push.Goals.{After-undo}
 
 -- the store is back at the box of the last front
-top : (g : _) (c : After-undo g) → Top c.self.inside.store c.undo.new.self c.self.inside.edge_places c.self.inside.marks.items c.self.inside.numbers.items (vec_capacity c.self.inside.marks) (vec_capacity c.self.inside.numbers) (c.len-depth.result - 1) c.index-as_slice-depth.result
+top : (g : _) (c : After-undo g)
+    → Top c.self.inside.store c.undo.new.self c.self.inside.edge_places c.self.inside.marks.items c.self.inside.numbers.items (vec_capacity c.self.inside.marks) (vec_capacity c.self.inside.numbers)
+    (c.len-depth.result - 1) c.index-as_slice-depth.result
 top g c = top_of c.self.inside.store c.undo.new.self c.self.invariant.3 c.if-depth-eq0.false c.as_slice.ensures.value c.index-as_slice-depth.is (let len = c.len-depth.ensures in omega (arith, len)) c.undo.ensures.parts c.undo.ensures.now c.undo.ensures.history
 
 pub returns-then-depth-eq0-clause-same : goal.returns-then-depth-eq0-clause-same
