@@ -5,7 +5,7 @@ use Rattle.std.proofs.lemmas.List.{length-map}
 use Rattle.std.proofs.lemmas.Bool.{cases_lt}
 use Rattle.xdg_best.specs.Best.{IsCheapest, IsBest, Solves}
 use Rattle.xdg_best.specs.Rounds.{Finds, FindsNone, Rounds, used_up, ends, goes_on, round_parts}
-use Rattle.xdg_best.proofs.Found.{find_after, find_first, find_solves, none_solves}
+use Rattle.xdg_best.proofs.Found.{find_first, find_solves, none_solves}
 use Rattle.xdg_facts.specs.Order.{Less}
 use Rattle.xdg_facts.proofs.Ordered.{less_irreflexive, less_total, less_transitive}
 use Rattle.xdg_base.specs.declared.ids.EntryNo.{EntryNo}
