@@ -30,9 +30,13 @@ IsDrillNumber text number = IsNumber 0 999999 text number
 
 -- ---- the values of options
 
--- `--budget N`, 1 to 1,000,000,000; 10,000,000 where it isn't given
+-- the budget of a search to which none is given
+abbrev pub default_budget : ℕ
+default_budget = 10000000
+
+-- `--budget N`, 1 to 1,000,000,000, or the default
 abbrev pub HasBudget : Option (List ℕ) → ℕ → Type 0
-HasBudget None budget = budget ≡ 10000000
+HasBudget None budget = budget ≡ default_budget
 HasBudget (Some text) budget = IsNumber 1 1000000000 text budget
 
 -- `--first N`, 1 to 1,000,000

@@ -12,3 +12,4 @@ pub use commands::{
     ResumeOptions,
 };
 pub use reading::command;
+pub use values::BUDGET;

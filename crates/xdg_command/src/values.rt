@@ -9,7 +9,7 @@ ghost use Rattle.xdg_command.specs.Commands.{HasBudget, HasFirst, HasText, IsDri
 use xdg_text::Form;
 
 /// The budget of a search to which none is given.
-const BUDGET: u64 = 10_000_000;
+pub const BUDGET: u64 = 10_000_000;
 
 /// The greatest budget.
 const GREATEST_BUDGET: u64 = 1_000_000_000;

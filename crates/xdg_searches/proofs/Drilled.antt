@@ -18,6 +18,7 @@ use Rattle.xdg_inputs.specs.Outcomes.{MeaningThen}
 use Rattle.xdg_searches.specs.Outcomes.{DrillOf, DrillSentence, Drilled, drill_line, generated, status_of}
 use Rattle.xdg_inputs.specs.Refusals.{Refuses, Stops, refusal_of}
 use Rattle.xdg_inputs.specs.Runs.{Leaves, Wrote}
+use Rattle.xdg_command.specs.Commands.{default_budget}
 use Rattle.xdg_searches.proofs.SearchLeaves.{ended_leaves}
 use Rattle.xdg_searches.specs.Runs.{DrillEnds}
 use Rattle.xdg_inputs.specs.GrammarFiles.{HasBadText, HasTree, ReadText, grammar_limit}
@@ -31,7 +32,8 @@ use Rattle.xdg_inputs.proofs.Writing.{IsBad, refused_wrote}
 
 -- ---- counts that are written
 
-module _ (number : ℕ) (m : Meaning) (parts : Parts) (words entries : ℕ) (counts : Counts) (words_are : words ≡ length parts.words) (entries_are : entries ≡ length m.entries) (are : AreCounts 10000000 parts counts) (one : IsOneCount 10000000 parts) where
+module _ (number : ℕ) (m : Meaning) (parts : Parts) (words entries : ℕ) (counts : Counts) (words_are : words ≡ length parts.words) (entries_are : entries ≡ length m.entries)
+    (are : AreCounts default_budget parts counts) (one : IsOneCount default_budget parts) where
   line_is : drill_line number words entries counts ≡ drill_line number (length parts.words) (length m.entries) counts
   line_is = ap (λ w. drill_line number w entries counts) words_are ∙ ap (λ e. drill_line number (length parts.words) e counts) entries_are
 

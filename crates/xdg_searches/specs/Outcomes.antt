@@ -3,6 +3,7 @@ use Rattle.std.specs.Prelude.{◌≡◌, ℕ, Bool, true, false, List, [], ◌�
 use Rattle.xdg_split.specs.Printed.{Prints}
 use Rattle.xdg_text.specs.declared.form.Form.{Form}
 use Rattle.xdg_searches.specs.Branched.{PrintsBranches}
+use Rattle.xdg_command.specs.Commands.{default_budget}
 use Rattle.xdg_command.specs.declared.commands.ParseOptions.{ParseOptions}
 use Rattle.xdg_command.specs.declared.commands.ResumeOptions.{ResumeOptions}
 use Rattle.xdg_searches.specs.Counted.{AreCounts}
@@ -101,7 +102,7 @@ drill_line number words entries counts =
 -- the analyses of a problem are counted and judged, with the budget that a search has where none is given
 pub record Drilled (number : ℕ) (m : Meaning) (parts : Parts) (status : Status) (text : List ℕ) : Type 0 where
   pub counts : Counts
-  pub are : AreCounts 10000000 parts counts
+  pub are : AreCounts default_budget parts counts
   pub status_is : status ≡ status_of counts.ending
   pub text_is : text ≡ drill_line number (length parts.words) (length m.entries) counts
 

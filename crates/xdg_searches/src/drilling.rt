@@ -16,15 +16,13 @@ use crate::printing::status_of;
 use std::alloc::Global;
 use xdg_ast::Grammar;
 use xdg_base::OutOfMemory;
+use xdg_command::BUDGET;
 use xdg_engine::props;
 use xdg_facts::Ending;
 use xdg_inputs::{Expanded, Status, expand_tree, problem_in, read_tree, refuse, stopped_in};
 use xdg_io::{Failed, Sink};
 use xdg_problem::Problem;
 use xdg_text::{Word, write_line};
-
-/// How many boxed prefixes the search of a drill may charge.
-const BUDGET: u64 = 10_000_000;
 
 /// Writes the one line of a drill.
 fn write_counts<K: Sink>(
