@@ -1,31 +1,19 @@
-use Rattle.xdg_inputs.specs.Answers.{meaning_of}
-use Rattle.xdg_problem.specs.declared.parts.Parts.{Parts}
-use Rattle.xdg_inputs.specs.RuledSteps.{WithRules}
-use Rattle.xdg_searches.specs.Outcomes.{Parsed}
-use Rattle.xdg_inputs.specs.Sentences.{HasProblem, IsBadSentence}
 use Rattle.xdg_inputs.specs.declared.status.Status.TheVariants as statuses
 use Rattle.xdg_inputs.proofs.Leaving.{accepted_leaves, stopped_leaves}
-use Rattle.xdg_searches.specs.Runs.{ParseEnds}
 use Rattle.xdg_inputs.proofs.Writing.{refused_quiet, refused_wrote, searched_wrote}
 use Rattle.xdg_searches.proofs.parse.parse_ruled.Goals as goal
 
 pub returns-in-Ok-clause-leaves : goal.returns-in-Ok-clause-leaves
-returns-in-Ok-clause-leaves g c content told =
-    accepted_leaves Parts statuses.BadSentence (IsBadSentence (meaning_of c.args.expanded.now) c.args.options.now.segment content) (HasProblem (meaning_of c.args.expanded.now) c.args.options.now.segment content) (λ parts. WithRules (meaning_of c.args.expanded.now) c.args.rules.now.rules parts (Parsed c.args.options.now)) c.in-Ok.problem c.parse_problem.result _ _
-    (c.in-Ok.ensures.found content told) c.parse_problem.ensures.leaves
+returns-in-Ok-clause-leaves g c content told = accepted_leaves _ _ _ _ _ c.in-Ok.problem _ _ _ (c.in-Ok.ensures.found content told) c.parse_problem.ensures.leaves
 
 pub returns-in-Err-clause-leaves : goal.returns-in-Err-clause-leaves
-returns-in-Err-clause-leaves g c content told =
-    stopped_leaves Parts statuses.BadSentence (IsBadSentence (meaning_of c.args.expanded.now) c.args.options.now.segment content) (HasProblem (meaning_of c.args.expanded.now) c.args.options.now.segment content) (λ parts. WithRules (meaning_of c.args.expanded.now) c.args.rules.now.rules parts (Parsed c.args.options.now)) _ _ _ c.refuse.result c.in-Err.refusal _ _
-    told (λ e. e) (c.in-Err.ensures.refused content) c.refuse.ensures.written
+returns-in-Err-clause-leaves g c content told = stopped_leaves _ _ _ _ _ _ _ _ _ _ _ _ told (λ e. e) (c.in-Err.ensures.refused content) c.refuse.ensures.written
 
 pub returns-in-Ok-clause-wrote : goal.returns-in-Ok-clause-wrote
-returns-in-Ok-clause-wrote g c = searched_wrote ParseEnds (WithRules (meaning_of c.args.expanded.now) c.args.rules.now.rules c.in-Ok.problem (Parsed c.args.options.now)) c.parse_problem.result _ _ _ _ tt tt tt tt c.parse_problem.ensures.ends c.parse_problem.ensures.leaves c.parse_problem.ensures.out_quiet
+returns-in-Ok-clause-wrote g c = searched_wrote _ _ _ _ _ _ _ tt tt tt tt c.parse_problem.ensures.ends c.parse_problem.ensures.leaves c.parse_problem.ensures.out_quiet
 
 pub returns-in-Err-clause-wrote : goal.returns-in-Err-clause-wrote
-returns-in-Err-clause-wrote g c =
-    refused_wrote ParseEnds statuses.BadSentence c.refuse.result c.in-Err.refusal _ _ _ _ tt tt tt tt tt c.refuse.ensures.written c.refuse.ensures.quiet
+returns-in-Err-clause-wrote g c = refused_wrote _ statuses.BadSentence _ c.in-Err.refusal _ _ _ _ tt tt tt tt tt c.refuse.ensures.written c.refuse.ensures.quiet
 
 pub returns-in-Err-clause-input_quiet : goal.returns-in-Err-clause-input_quiet
-returns-in-Err-clause-input_quiet g c differs =
-    refused_quiet statuses.BadSentence c.refuse.result c.in-Err.refusal _ _ (g.S.Source.faults c.args.input.now) (g.S.Source.faults c.read_problem.new.source) c.refuse.ensures.written c.in-Err.ensures.quiet differs
+returns-in-Err-clause-input_quiet g c differs = refused_quiet statuses.BadSentence _ c.in-Err.refusal _ _ _ _ c.refuse.ensures.written c.in-Err.ensures.quiet differs
