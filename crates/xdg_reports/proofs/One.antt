@@ -1,18 +1,16 @@
 -- What is printed of the verdicts on an analysis is one text.
-use Rattle.std.proofs.Common.{◌≡◌, ℕ, ◌+◌, ◌-◌, length, Bool, true, false, ◌&&◌, List, [], ◌∷◌, ◌++◌, refl, sym, ap, ap₂, ◌∙◌}
+use Rattle.std.proofs.Common.{◌≡◌, ℕ, ◌+◌, ◌-◌, length, ◌&&◌, List, [], ◌∷◌, ◌++◌, refl, ap, ap₂}
 use Rattle.std.specs.Prelude.{codes, decimal}
 use Rattle.std.specs.List.{AllZip}
 use Rattle.xdg_formula.specs.declared.tree.Rule.{Rule}
 use Rattle.xdg_problem.specs.declared.analysis.Analysis.{Analysis}
-use Rattle.xdg_problem.specs.declared.conditions.Condition.{Condition}
 use Rattle.xdg_problem.specs.declared.parts.Group.{Group}
 use Rattle.xdg_problem.specs.declared.parts.Parts.{Parts}
-use Rattle.xdg_problem.specs.Relations.{Relation, IsFirstBroken}
 use Rattle.xdg_problem.proofs.Verdicts.{broken_fails, one_verdict}
 use Rattle.xdg_judge.specs.declared.verdict.Verdict.{Verdict}
 use Rattle.xdg_judge.specs.declared.verdict.Verdict.TheVariants as verdicts
-use Rattle.xdg_judge.specs.Verdicts.{IsVerdict, AreVerdicts, tuple_of}
-use Rattle.xdg_reports.specs.VerdictsText.{said_text, labels_of, title_text, verdict_line, verdict_lines, is_kept, are_kept, solution_line, verdicts_text, behind, condition_text}
+use Rattle.xdg_judge.specs.Verdicts.{IsVerdict, tuple_of}
+use Rattle.xdg_reports.specs.VerdictsText.{said_text, labels_of, title_text, verdict_line, verdict_lines, is_kept, are_kept, solution_line, behind, condition_text}
 use Rattle.xdg_reports.specs.OneText.{IsOneText}
 use Rattle.xdg_problem.specs.Principles.{name_of}
 
