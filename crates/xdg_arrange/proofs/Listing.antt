@@ -30,8 +30,6 @@ use Rattle.xdg_facts.proofs.Texts.{one_place}
 use Rattle.xdg_inputs.proofs.Sentencing.{all_taken}
 use Rattle.xdg_build.specs.Refusals.{fault}
 
--- ---- few words
-
 -- ---- one answer
 
 one_fault : (g : Grammar) (segment : Bool) (input : List ℕ) (f h : Fault) → IsNoList g segment input f → IsNoList g segment input h → f ≡ h

@@ -1,11 +1,11 @@
 -- Which inputs are words to arrange, and with which fault the others are refused.
-use Rattle.std.specs.Prelude.{◌≡◌, ℕ, ◌<◌, ◌≤◌, ◌+◌, Bool, List, [], ◌∷◌, length, slice_get, Option, Some, None, IsUtf8}
+use Rattle.std.specs.Prelude.{◌≡◌, ℕ, ◌<◌, ◌≤◌, ◌+◌, Bool, List, length, Option, Some, None, IsUtf8}
 use Rattle.std.specs.Str.{IsValidUpTo}
 use Rattle.xdg_base.specs.declared.faults.Cause.TheVariants as causes
 use Rattle.xdg_base.specs.declared.faults.Fault.{Fault}
 use Rattle.xdg_base.specs.declared.faults.Stop.{Stop}
 use Rattle.xdg_base.specs.declared.faults.Stop.TheVariants as stops
-use Rattle.xdg_build.specs.Refusals.{first_unknown, fault}
+use Rattle.xdg_build.specs.Refusals.{refusal_within, fault}
 use Rattle.xdg_packed.specs.Entries.{IsWordPlace}
 use Rattle.xdg_inputs.specs.Meanings.{Meaning}
 use Rattle.xdg_build.specs.Grammars.{Grammar}
@@ -17,15 +17,13 @@ use Rattle.xdg_linear.specs.Segments.{words_in}
 
 -- ---- words
 
--- the word that is one too many, or what else is wrong
-abbrev pub ninth_or : Option SentenceWord → Option Fault → Option Fault
-ninth_or None other = other
-ninth_or (Some word) other = Some (fault causes.ArrangeLimit word.at 9)
+-- how many words are arranged at most
+abbrev pub word_limit : ℕ
+word_limit = 8
 
--- there are 1 to 8 words, and each has an entry in the lexicon: the first of these that does not hold
+-- why words are not arranged: there is none, or too many, or one has no entry
 abbrev pub refusal : Lexicon → List SentenceWord → Option Fault
-refusal lexicon [] = Some (fault causes.EmptySentence 0 0)
-refusal lexicon (word ∷ words) = ninth_or (slice_get (word ∷ words) 8) (first_unknown lexicon (word ∷ words))
+refusal lexicon words = refusal_within word_limit causes.ArrangeLimit lexicon words
 
 -- words are refused for their fault, and for no other
 abbrev pub IsRefused : Lexicon → List SentenceWord → Stop → Type 0

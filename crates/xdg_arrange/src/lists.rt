@@ -1,7 +1,7 @@
 //! The words that the input gives.
 
 ghost use Rattle.std.specs.Prelude.{◌≡◌, ◌≢◌, ◌≤◌, ◌<◌, ◌^◌, ℕ, List, [], None, Some, length, IfErr, IfOk, MatchResult};
-ghost use Rattle.xdg_arrange.specs.Lists.{HasList, IsBadList, IsRefused, Listed};
+ghost use Rattle.xdg_arrange.specs.Lists.{HasList, IsBadList, IsRefused, Listed, word_limit};
 ghost use Rattle.xdg_arrange.specs.Lists as spec;
 ghost use Rattle.xdg_inputs.specs.Answers.{grammar_in, meaning_of};
 ghost use Rattle.xdg_inputs.specs.RightLexicons.{HasRightLexicon};
@@ -13,7 +13,7 @@ ghost use Rattle.xdg_linear.specs.Segments.{words_in};
 use std::alloc::Global;
 use std::str;
 use xdg_base::{Cause, Fault, List, Stop};
-use xdg_build::first_unknown;
+use xdg_build::refusal_within;
 use xdg_inputs::{Expanded, Refusal, no_text, stopped_in, too_long};
 use xdg_io::{ReadStop, Source, read_all};
 use xdg_linear::words_of;
@@ -30,17 +30,7 @@ const WORDS: usize = 8;
 fn refusal(lexicon: &Packed, words: &[SentenceWord]) -> Option<Fault>
     ensures { result ≡ spec.refusal lexicon.now words.now }
 {
-    if words.is_empty() {
-        return Some(Fault::at(Cause::EmptySentence, 0));
-    }
-    match words.get(WORDS) {
-        Some(word) => Some(Fault {
-            cause: Cause::ArrangeLimit,
-            at: word.at,
-            reached: WORDS as u64 + 1,
-        }),
-        None => first_unknown(lexicon, words),
-    }
+    refusal_within(WORDS, Cause::ArrangeLimit, lexicon, words)
 }
 
 /// The words of a text, cut by the Unicode rules of word boundaries where that is asked for.
@@ -53,7 +43,7 @@ fn words_within(
     requires { length text.now < 2 ^ 32 }
     ensures words { IfOk result (λ words. words ≡ words_in segment text.now) }
     ensures known { IfOk result (λ words. spec.refusal lexicon.now words ≡ None) }
-    ensures few { IfOk result (λ words. length words ≤ 8) }
+    ensures few { IfOk result (λ words. length words ≤ word_limit) }
     ensures refused { IfErr result (IsRefused lexicon.now (words_in segment text.now)) }
 {
     let Ok(words) = words_of(alloc, text, segment) else {
@@ -74,7 +64,7 @@ fn list_in(
 ) -> Result<List<SentenceWord>, Refusal>
     requires within { length input.now ≤ 65536 }
     requires lexicon { HasRightLexicon expanded.now }
-    ensures few { IfOk result (λ words. length words ≤ 8) }
+    ensures few { IfOk result (λ words. length words ≤ word_limit) }
     ensures found { IfOk result (λ words.
         Accepts Listed (IsBadList (meaning_of expanded.now) segment input.now) (HasList (meaning_of expanded.now) segment input.now)
         (record { grammar = grammar_in expanded.now; words = words })) }
@@ -102,7 +92,7 @@ pub(crate) fn read_list<S: Source>(
     ensures found { IfOk result (λ words. (input : List ℕ) → S.left source.old ≡ Some input →
         Accepts Listed (IsBadList (meaning_of expanded.now) segment input) (HasList (meaning_of expanded.now) segment input)
         (record { grammar = grammar_in expanded.now; words = words })) }
-    ensures few { IfOk result (λ words. length words ≤ 8) }
+    ensures few { IfOk result (λ words. length words ≤ word_limit) }
     ensures refused { IfErr result (λ refusal. (input : List ℕ) →
         Stops (S.left source.old ≡ Some input) (S.faults source.old) (S.faults source.new) Listed
         (IsBadList (meaning_of expanded.now) segment input) (HasList (meaning_of expanded.now) segment input) refusal) }

@@ -2,6 +2,7 @@
 
 ghost use Rattle.std.specs.Prelude.{◌≡◌, ◌≢◌, ◌≤◌, ◌<◌, ◌+◌, ◌⊎◌, ◌==◌, ◌^◌, cond, length, IfOk, OnOk};
 ghost use Rattle.xdg_arrange.specs.Found.{IsOneFind, Writes, arrangement_line};
+ghost use Rattle.xdg_arrange.specs.Lists.{word_limit};
 ghost use Rattle.xdg_arrange.specs.Texts.{AreArranged};
 ghost use Rattle.xdg_build.specs.Compiled.{compiled};
 ghost use Rattle.xdg_build.specs.Solutions.{KeepsSolutions};
@@ -113,7 +114,7 @@ pub(crate) fn print_arrangements<K: Sink>(
     words: &List<SentenceWord>,
     out: &mut K,
 ) -> Status
-    requires few { length words.now ≤ 8 }
+    requires few { length words.now ≤ word_limit }
     requires lexicon { HasRightLexicon expanded.now }
     ensures leaves { LeavesFront
         (AreArranged budget (record { grammar = grammar_in expanded.now; words = words.now }))
@@ -150,9 +151,7 @@ pub(crate) fn print_arrangements<K: Sink>(
             out,
         );
         match searched {
-            Searched::Whole(found) => {
-                printed = with_printed(printed, found);
-            }
+            Searched::Whole(found) => printed = with_printed(printed, found),
             Searched::Spent(found) => {
                 let written = write_spent(with_printed(printed, found), out);
                 if written.is_err() {
@@ -160,12 +159,8 @@ pub(crate) fn print_arrangements<K: Sink>(
                 }
                 return Status::Spent;
             }
-            Searched::Failed => {
-                return Status::WriteFault;
-            }
-            Searched::OutOfMemory => {
-                return Status::OutOfMemory;
-            }
+            Searched::Failed => return Status::WriteFault,
+            Searched::OutOfMemory => return Status::OutOfMemory,
         }
     }
     Status::OutOfMemory
