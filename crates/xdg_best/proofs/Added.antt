@@ -1,11 +1,11 @@
 -- What has been said so far, and one statement more.
-use Rattle.std.proofs.Common.{◌≡◌, ◌≢◌, ◌∙◌, ℕ, zero, suc, ◌+◌, ◌-◌, ◌<◌, ◌≤◌, ◌==◌, ◌&&◌, ◌||◌, ◌⊎◌, inl, inr, Bool, true, false, List, [], ◌∷◌, ◌++◌, length, get_or, set, arith, refl, sym, ap, ap₂, subst, append_assoc, append-nil, get_or-set_same, get_or-set_other, Some, None, Ok, Err, nat_lt, AllPairs}
+use Rattle.std.proofs.Common.{◌≡◌, ◌≢◌, ◌∙◌, ℕ, ◌+◌, ◌-◌, ◌<◌, ◌≤◌, ◌==◌, ◌&&◌, ◌||◌, ◌⊎◌, inl, inr, Bool, true, false, List, [], ◌∷◌, ◌++◌, length, get_or, set, arith, refl, sym, ap, ap₂, subst, append_assoc, append-nil, get_or-set_same, get_or-set_other, Some, None, Ok, Err, nat_lt, AllPairs}
 use Rattle.std.specs.Prelude.{Option, Result, if◌then◌else◌}
 use Rattle.std.specs.List.{list_any}
 use Rattle.std.proofs.lemmas.List.{length-set}
-use Rattle.std.proofs.lemmas.List.Folds.{list_any-append}
+use Rattle.std.proofs.lemmas.List.Folds.{list_any-append, list_any_at}
 use Rattle.std.proofs.lemmas.List.Quantifiers.{all_pairs_push}
-use Rattle.std.proofs.lemmas.Bool.{eqb-true, eqb-false, eq-eqb, ltb-false, cases_eq, false_from_ne_true, ne_eqb, le-ltb, true≢false, false≢true}
+use Rattle.std.proofs.lemmas.Bool.{eqb-true, eqb-false, eq-eqb, ltb-false, cases_eq, false_from_ne_true, ne_eqb, le-ltb, true≢false}
 use Rattle.xdg_base.specs.Faults.{fault_at}
 use Rattle.xdg_base.specs.declared.faults.Fault.{Fault}
 use Rattle.xdg_base.specs.declared.faults.Stop.TheVariants as stops
@@ -38,17 +38,7 @@ labels_more table (statements.Edge dim label cost ∷ earlier) s =
 
 -- none of them passes a test
 none_passes : {X : Type 0} (p : X → Bool) (xs : List X) → list_any p xs ≡ false → (k : ℕ) (d : X) → k < length xs → p (get_or xs k d) ≡ true → ⊥
-none_passes p [] e k d within h = absurd (omega (arith, within))
-none_passes p (x ∷ xs) e zero d within h = first (p x) (list_any p xs) h e
-  where
-    first : (a b : Bool) → a ≡ true → (a || b) ≡ false → ⊥
-    first true b h e = true≢false e
-    first false b h e = false≢true h
-none_passes p (x ∷ xs) e (suc k) d within h = none_passes p xs (later (p x) (list_any p xs) e) k d (omega (arith, within)) h
-  where
-    later : (a b : Bool) → (a || b) ≡ false → b ≡ false
-    later true b e = absurd (true≢false e)
-    later false b e = e
+none_passes p xs e k d within h = true≢false (sym (list_any_at p xs k d within h) ∙ e)
 
 placed_or : (table : Table) (place : Place) (found : Result Place Fault) (cost : ℕ) (costs : List (DimId × LabelId × ℕ)) (before : Bool) → has_place costs place ≡ before → has_place (placed found cost ++ costs) place ≡ (is_at place found || before)
 placed_or table place (Ok other) cost costs before same = ap (λ z. ((other.0.0 == place.0.0) && (other.1.0 == place.1.0)) || z) same
@@ -59,8 +49,6 @@ same_places : (table : Table) (place : Place) (earlier : List Statement) → has
 same_places table place [] = refl
 same_places table place (statements.Entry number cost ∷ earlier) = same_places table place earlier
 same_places table place (statements.Edge dim label cost ∷ earlier) = placed_or table place (place_of table dim label) cost (label_costs table earlier) (list_any (is_of_place table place) earlier) (same_places table place earlier)
-
--- ---- the start
 
 -- ---- an entry more
 

@@ -16,7 +16,8 @@ use Rattle.xdg_types.specs.Table.{Table}
 use Rattle.xdg_best.specs.declared.statements.Statement.{Statement}
 use Rattle.xdg_best.specs.declared.statements.Statement.TheVariants as statements
 use Rattle.xdg_best.specs.Meaning.{entry_fault, edge_fault, fault_in, Offends, or_later, first_fault, is_of_entry, is_of_place}
-use Rattle.xdg_best.specs.Naming.{Place, place_of, with_dim, with_label, dim_number, label_number, labels_of}
+use Rattle.xdg_best.specs.Naming.{Place, place_of, with_dim, with_label, dim_number, labels_of}
+use Rattle.xdg_reading.specs.Names.{label_number}
 use Rattle.xdg_best.specs.Statements.{Says, entry, edge, Derives}
 use Rattle.xdg_names.proofs.First.{itself}
 

@@ -1,13 +1,11 @@
 -- What a find tells of the solutions of its round, and what no find does.
-use Rattle.std.proofs.Common.{◌≡◌, ◌∙◌, ℕ, ◌+◌, ◌<◌, ◌≤◌, ◌⊎◌, inl, inr, true, false, List, [], ◌∷◌, ◌++◌, length, take, arith, refl, sym, ap, subst, eqb, eq-eqb, nat_lt}
+use Rattle.std.proofs.Common.{◌≡◌, ◌∙◌, ℕ, inl, inr, true, false, List, length, take, sym, ap, subst, eq-eqb}
 use Rattle.std.specs.Prelude.{filter}
-use Rattle.std.specs.List.{AllByRecursion}
 use Rattle.std.proofs.lemmas.Bool.{ltb-false}
 use Rattle.std.proofs.lemmas.List.{take_all}
 use Rattle.xdg_best.specs.Rounds.{Finds, FindsNone}
 use Rattle.xdg_best.proofs.Lists.{behind_item, each_member, member_parts, middle, no_member}
 use Rattle.xdg_facts.specs.Fits.{Fits}
-use Rattle.xdg_facts.specs.Listing.{Member}
 use Rattle.xdg_facts.specs.Order.{Less}
 use Rattle.xdg_facts.specs.Whole.{is_whole}
 use Rattle.xdg_facts.proofs.Ordered.{less_irreflexive, less_transitive}
@@ -16,7 +14,7 @@ use Rattle.xdg_problem.specs.declared.analysis.Analysis.{Analysis}
 use Rattle.xdg_problem.specs.declared.parts.Parts.{Parts}
 use Rattle.xdg_problem.specs.Problems.{IsProblem}
 use Rattle.xdg_problem.specs.Solutions.{IsSolution}
-use Rattle.xdg_problem.specs.Vectors.{analysis_of, shape, vector}
+use Rattle.xdg_problem.specs.Vectors.{shape, vector}
 use Rattle.xdg_problem.proofs.OneToOne.{one_to_one}
 use Rattle.xdg_rules.specs.Boxed.{Boxed}
 use Rattle.xdg_rules.proofs.RuleLaws.{boxed_laws}

@@ -1,13 +1,13 @@
 -- What is found last is the cheapest, where the rounds aren't spent.
-use Rattle.std.proofs.Common.{◌≡◌, ◌∙◌, ℕ, ◌+◌, ◌-◌, ◌<◌, ◌≤◌, ◌⊎◌, inl, inr, Bool, true, false, List, [], ◌∷◌, ◌++◌, length, map, arith, refl, sym, ap, subst, length-append, Some, None}
+use Rattle.std.proofs.Common.{◌≡◌, ◌∙◌, ℕ, ◌-◌, ◌<◌, inl, inr, Bool, true, false, List, [], ◌∷◌, ◌++◌, length, map, arith, sym, ap, subst, length-append, Some, None}
 use Rattle.std.specs.Prelude.{Option}
 use Rattle.std.proofs.lemmas.List.{length-map}
 use Rattle.std.proofs.lemmas.Bool.{cases_lt}
-use Rattle.xdg_best.specs.Best.{IsCheapest, IsBest, Solves}
+use Rattle.xdg_best.specs.Best.{IsBest, Solves}
 use Rattle.xdg_best.specs.Rounds.{Finds, FindsNone, Rounds, used_up, ends, goes_on, round_parts}
 use Rattle.xdg_best.proofs.Found.{find_first, find_solves, none_solves}
 use Rattle.xdg_facts.specs.Order.{Less}
-use Rattle.xdg_facts.proofs.Ordered.{less_irreflexive, less_total, less_transitive}
+use Rattle.xdg_facts.proofs.Ordered.{less_total}
 use Rattle.xdg_base.specs.declared.ids.EntryNo.{EntryNo}
 use Rattle.xdg_problem.specs.declared.analysis.Analysis.{Analysis}
 use Rattle.xdg_problem.specs.declared.parts.Parts.{Parts}
@@ -17,7 +17,7 @@ use Rattle.xdg_problem.specs.Further.{bound_of, with_uses, FurtherLaws}
 use Rattle.xdg_problem.specs.Problems.{IsProblem}
 use Rattle.xdg_problem.specs.Solutions.{IsSolution}
 use Rattle.xdg_problem.specs.Places.{nodes, places}
-use Rattle.xdg_problem.specs.Vectors.{analysis_of, attr_sizes, shape, vector}
+use Rattle.xdg_problem.specs.Vectors.{analysis_of, attr_sizes, vector}
 use Rattle.xdg_problem.proofs.OneToOne.{one_to_one}
 use Rattle.xdg_stream.specs.Streamed.{start_vector}
 

@@ -1,10 +1,11 @@
 -- The numbers of used dimensions and of labels are small.
 use Rattle.std.proofs.Common.{◌≡◌, ℕ, zero, suc, ◌<◌, ◌≤◌, List, [], ◌∷◌, length, arith, sym, Some, None}
-use Rattle.std.specs.Prelude.{Option, IfSome, bytes_eq, slice_get}
+use Rattle.std.specs.Prelude.{Option, IfSome, slice_get}
 use Rattle.std.proofs.lemmas.List.Quantifiers.{position-Some}
 use Rattle.xdg_types.specs.declared.table.DimType.{DimType}
 use Rattle.xdg_types.specs.Table.{Table, IsTable, KeepDims}
-use Rattle.xdg_best.specs.Naming.{is_named, place_named, label_number, labels_in, labels_at, labels_of}
+use Rattle.xdg_principles.specs.Settings.{at_place, labels_in}
+use Rattle.xdg_best.specs.Naming.{is_named, place_named, labels_of}
 
 pub small_dim : (table : Table) (name : List ℕ) (result : Option ℕ) → IsTable table → result ≡ place_named table.dims table.used name → IfSome result (λ dim. dim < 8)
 unfolding place_named
@@ -14,17 +15,12 @@ small_dim table name (Some dim) is e =
     let few = is.few_used in
     omega (arith, within, few)
 
-pub label_within : (labels : List (List ℕ)) (name : List ℕ) (result : Option ℕ) → result ≡ label_number labels name → IfSome result (λ label. label < length labels)
-unfolding label_number
-label_within labels name None e = tt
-label_within labels name (Some l) e = (position-Some (λ label. bytes_eq label name) labels l [] (sym e)).0
-
 few_at : (dims : List DimType) → KeepDims dims → (place : ℕ) → length (labels_in (slice_get dims place)) ≤ 32
 few_at [] keeps place = omega arith
 few_at (dim ∷ dims) keeps zero = keeps.0.few_labels
 few_at (dim ∷ dims) keeps (suc place) = few_at dims keeps.1 place
 
-few_in : (dims : List DimType) → KeepDims dims → (place : Option ℕ) → length (labels_at dims place) ≤ 32
+few_in : (dims : List DimType) → KeepDims dims → (place : Option ℕ) → length (labels_in (at_place dims place)) ≤ 32
 few_in dims keeps None = omega arith
 few_in dims keeps (Some place) = few_at dims keeps place
 

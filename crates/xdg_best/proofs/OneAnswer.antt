@@ -1,18 +1,18 @@
 -- Rounds come to one thing.
-use Rattle.std.proofs.Common.{◌≡◌, ◌∙◌, ℕ, zero, suc, ◌+◌, ◌-◌, ◌<◌, ◌≤◌, inl, inr, Bool, true, false, List, [], ◌∷◌, ◌++◌, length, take, arith, refl, sym, ap, ap₂, subst, nat_lt, eqb, eq-eqb, Some, None}
+use Rattle.std.proofs.Common.{◌≡◌, ◌∙◌, ℕ, zero, suc, ◌-◌, ◌<◌, inl, inr, Bool, true, List, [], ◌∷◌, ◌++◌, length, take, arith, refl, sym, ap, subst, nat_lt, eq-eqb, Some, None}
 use Rattle.std.specs.Prelude.{Option, filter}
 use Rattle.xdg_best.specs.declared.rounds.BestAnswer.{BestAnswer}
-use Rattle.xdg_best.specs.Best.{IsAnswer, IsOneAnswer}
+use Rattle.xdg_best.specs.Best.{IsOneAnswer}
 use Rattle.xdg_best.specs.Rounds.{Finds, FindsNone, Rounds, used_up, ends, goes_on, round_parts, found_cost}
 use Rattle.xdg_best.proofs.Lists.{no_member}
-use Rattle.xdg_facts.specs.Listing.{IsListing, Member}
+use Rattle.xdg_facts.specs.Listing.{Member}
 use Rattle.xdg_facts.specs.Whole.{is_whole}
 use Rattle.xdg_facts.proofs.Ordered.{three_cases}
 use Rattle.xdg_facts.proofs.Unique.{listing_unique}
 use Rattle.xdg_problem.specs.declared.analysis.Analysis.{Analysis}
 use Rattle.xdg_problem.specs.declared.parts.Parts.{Parts}
 use Rattle.xdg_problem.specs.Costs.{CostLists, cost_of}
-use Rattle.xdg_problem.specs.Further.{bound_of, with_uses, FurtherLaws}
+use Rattle.xdg_problem.specs.Further.{bound_of, FurtherLaws}
 use Rattle.xdg_problem.specs.Problems.{IsProblem}
 use Rattle.xdg_problem.specs.Vectors.{analysis_of, shape, vector}
 use Rattle.xdg_problem.proofs.OneToOne.{one_to_one}

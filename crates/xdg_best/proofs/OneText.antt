@@ -7,7 +7,7 @@ use Rattle.xdg_base.specs.declared.faults.Stop.TheVariants as stops
 use Rattle.xdg_names.specs.First as first
 use Rattle.xdg_names.proofs.One.{one_first, first_or_none}
 use Rattle.xdg_lex.specs.Lexed.{Lexed}
-use Rattle.xdg_ast.specs.Lexemes.{Lexeme, lexemes_of}
+use Rattle.xdg_ast.specs.Lexemes.{Lexeme}
 use Rattle.xdg_lex.specs.Offends as tokens_told
 use Rattle.xdg_lex.specs.Spans.{StandFrom}
 use Rattle.xdg_ast.specs.Tokenizes.{Spells}

@@ -1,5 +1,5 @@
 -- Rounds that are spent go through as many boxed prefixes of the problem without a bound as the budget has.
-use Rattle.std.proofs.Common.{◌≡◌, ◌∙◌, ℕ, ◌+◌, ◌-◌, ◌<◌, ◌≤◌, inl, inr, Bool, true, false, List, [], ◌∷◌, ◌++◌, length, take, drop, arith, refl, sym, ap, subst, length-append, append_assoc, take-append-drop, length-take, nat_lt, Some, None}
+use Rattle.std.proofs.Common.{◌≡◌, ℕ, ◌+◌, ◌-◌, ◌≤◌, inl, inr, Bool, true, List, [], ◌∷◌, ◌++◌, length, take, drop, arith, refl, sym, subst, length-append, append_assoc, take-append-drop, length-take, Some, None}
 use Rattle.std.specs.Prelude.{Option}
 use Rattle.std.specs.List.{AllByRecursion}
 use Rattle.std.proofs.lemmas.Bool.{ltb-true}
@@ -8,7 +8,7 @@ use Rattle.xdg_best.proofs.Lists.{before_item, middle, no_longer}
 use Rattle.xdg_best.proofs.Unbounded.{unbounded}
 use Rattle.xdg_facts.specs.Fits.{Fits}
 use Rattle.xdg_facts.specs.Listing.{IsListing, RisesFrom}
-use Rattle.xdg_facts.specs.Order.{Less, AtMost}
+use Rattle.xdg_facts.specs.Order.{AtMost}
 use Rattle.xdg_facts.proofs.Exists.{each_weaker}
 use Rattle.xdg_facts.proofs.Ordered.{at_most_transitive}
 use Rattle.xdg_facts.proofs.Unique.{rises_above}

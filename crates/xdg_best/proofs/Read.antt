@@ -1,7 +1,7 @@
 -- Tokens that are gone through once say what the definitions say that they say.
 use Rattle.std.proofs.Common.{◌≡◌, ◌∙◌, ℕ, ◌&&◌, Bool, true, false, List, [], ◌∷◌, ◌++◌, refl, sym, ap, subst, append_assoc, append-nil, Ok, Err}
 use Rattle.std.specs.Prelude.{Result, if◌then◌else◌, bytes_eq}
-use Rattle.std.proofs.lemmas.Bool.{false≢true}
+use Rattle.std.proofs.lemmas.Bool.{and_parts}
 use Rattle.std.proofs.lemmas.Slice.Eq.{bytes_eq-Decides}
 use Rattle.xdg_base.specs.Faults.{fault_at}
 use Rattle.xdg_base.specs.declared.faults.Fault.{Fault}
@@ -22,7 +22,7 @@ use Rattle.xdg_best.specs.Statements.{is_number, is_constant, is_name, is_word, 
 use Rattle.xdg_best.specs.Reading.{Starts, Ends, IsUnexpectedAt, IsRefused, unexpected, IsAnswer, Tells}
 use Rattle.xdg_base.specs.Told.{Gives}
 use Rattle.xdg_best.specs.Turns.{turn_of, Outcome, after_turn, after_last, run, Runs}
-use Rattle.xdg_facts.proofs.Truths.{choose}
+use Rattle.xdg_facts.proofs.Truths.{and_false, choose}
 
 -- ---- one step
 
@@ -57,16 +57,8 @@ pub data Begins : List Lexeme → Open → Type 0 where
 -- the two words differ
 not_both : (t : Lexeme) → is_word edge_word t ≡ true → is_word entry_word t ≡ false
 not_both t e =
-    let same : t.text ≡ edge_word = (bytes_eq-Decides t.text edge_word).0 (and_right (is_name t.kind) _ e) in
+    let same : t.text ≡ edge_word = (bytes_eq-Decides t.text edge_word).0 (and_parts (is_name t.kind) _ e).1 in
     ap (λ z. is_name t.kind && bytes_eq z entry_word) same ∙ and_false (is_name t.kind)
-  where
-    and_right : (a b : Bool) → (a && b) ≡ true → b ≡ true
-    and_right true b h = h
-    and_right false b h = absurd (false≢true h)
-
-    and_false : (a : Bool) → (a && false) ≡ false
-    and_false true = refl
-    and_false false = refl
 
 entry_turn : (t : Lexeme) → is_word entry_word t ≡ true → turn_of open_.Nothing t ≡ turns.GoesOn open_.Entry
 entry_turn t e = choose (is_word entry_word t) _ _ e
@@ -223,11 +215,7 @@ told_last before end made open_.Nothing r =
   where
     none_begun : (us : List Lexeme) → Begins us open_.Nothing → us ≡ []
     none_begun us nothing = refl
-told_last before end made open_.Entry r = unfinished before end made open_.Entry r refl
-told_last before end made (open_.Number n) r = unfinished before end made (open_.Number n) r refl
-told_last before end made open_.Edge r = unfinished before end made open_.Edge r refl
-told_last before end made (open_.Dim d) r = unfinished before end made (open_.Dim d) r refl
-told_last before end made (open_.Label d l) r = unfinished before end made (open_.Label d l) r refl
+told_last before end made o r = unfinished before end made o r refl
 
 -- a token behind which nothing goes on
 refused_at : (before : List Lexeme) (end : ℕ) (made : List Statement) (o : Open) (t : Lexeme) (ts : List Lexeme) → Reached before made o → turn_of o t ≡ turns.Refused → IsUnexpectedAt (before ++ t ∷ ts) end t.span.start
@@ -276,11 +264,7 @@ goes_so_far before (more, ss, d) = reach more before [] ss [] open_.Nothing reac
 -- where nothing goes on, that is told
 only_last : (before : List Lexeme) (end : ℕ) (made : List Statement) (o : Open) → Reached before made o → ((ss : List Statement) → Derives before ss → ⊥) → after_last end made o ≡ Err end
 only_last before end made open_.Nothing r no_more = absurd (no_more made (told_last before 0 made open_.Nothing r))
-only_last before end made open_.Entry r no_more = refl
-only_last before end made (open_.Number n) r no_more = refl
-only_last before end made open_.Edge r no_more = refl
-only_last before end made (open_.Dim d) r no_more = refl
-only_last before end made (open_.Label d l) r no_more = refl
+only_last before end made o r no_more = refl
 
 only_turn : (before : List Lexeme) (end : ℕ) (made : List Statement) (o : Open) (t : Lexeme) (ts : List Lexeme) (r : Reached before made o) (turn : Turn) → turn_of o t ≡ turn → TurnTells r.begun t turn → (Starts (before ++ t ∷ []) → ⊥) → run end made o (t ∷ ts) ≡ Err t.span.start
 only_turn before end made o t ts r (turns.GoesOn next) e tells no_more = absurd (no_more (starts (before ++ t ∷ []) made next (reached_on before made o next t r tells)))

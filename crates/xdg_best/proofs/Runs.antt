@@ -43,19 +43,11 @@ module _ (end : ℕ) (made : List Statement) (o : Open) (tokens : List Token) (i
 module _ (end : ℕ) (made : List Statement) (tokens : List Token) (i : ℕ) (all : Outcome) (over : length tokens ≤ i) where
   pub last_whole : (o : Open) → run end made o (lexemes_of (drop i tokens)) ≡ all → is_nothing o ≡ true → all ≡ Ok made
   last_whole open_.Nothing so_far e = sym so_far ∙ ap (run end made open_.Nothing) (at_end tokens i over) ∙ run_nil end made open_.Nothing
-  last_whole open_.Entry so_far e = absurd (let bad : false ≡ true = e in cc)
-  last_whole (open_.Number n) so_far e = absurd (let bad : false ≡ true = e in cc)
-  last_whole open_.Edge so_far e = absurd (let bad : false ≡ true = e in cc)
-  last_whole (open_.Dim x) so_far e = absurd (let bad : false ≡ true = e in cc)
-  last_whole (open_.Label x l) so_far e = absurd (let bad : false ≡ true = e in cc)
+  last_whole o so_far e = absurd (let bad : false ≡ true = e in cc)
 
   begun_last : (o : Open) → is_nothing o ≡ false → after_last end made o ≡ Err end
   begun_last open_.Nothing e = absurd (let bad : true ≡ false = e in cc)
-  begun_last open_.Entry e = refl
-  begun_last (open_.Number n) e = refl
-  begun_last open_.Edge e = refl
-  begun_last (open_.Dim x) e = refl
-  begun_last (open_.Label x l) e = refl
+  begun_last o e = refl
 
   pub last_begun : (o : Open) (stop : Stop) → run end made o (lexemes_of (drop i tokens)) ≡ all → is_nothing o ≡ false → stop ≡ stops.Fault (fault_at causes.Unexpected end) → Runs all (Err stop)
   last_begun o stop so_far e told =

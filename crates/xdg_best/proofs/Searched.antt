@@ -1,21 +1,19 @@
 -- What a stream that has just started comes to by one call.
-use Rattle.std.proofs.Common.{◌≡◌, ◌∙◌, ℕ, suc, ◌+◌, ◌<◌, ◌≤◌, inl, inr, Bool, true, false, List, [], ◌∷◌, ◌++◌, length, take, arith, refl, sym, ap, subst, append_assoc, append-nil, length-append, eqb, eq-eqb, nat_lt, Some, None}
-use Rattle.std.specs.Prelude.{filter, Option}
-use Rattle.std.specs.List.{AllByRecursion}
+use Rattle.std.proofs.Common.{◌≡◌, ◌∙◌, ℕ, ◌+◌, ◌<◌, ◌≤◌, true, false, List, [], ◌∷◌, ◌++◌, length, take, arith, refl, sym, ap, subst, append_assoc, append-nil, length-append, eq-eqb, nat_lt, Some}
+use Rattle.std.specs.Prelude.{filter}
 use Rattle.std.proofs.lemmas.Bool.{lt-ltb, le-ltb}
 use Rattle.std.proofs.lemmas.List.{take_all, take-append-le}
 use Rattle.xdg_best.specs.Rounds.{Finds, FindsNone}
-use Rattle.xdg_best.proofs.Lists.{each_member, EndsWith, ends_with, none_before}
+use Rattle.xdg_best.proofs.Lists.{each_member, ends_with, none_before}
 use Rattle.xdg_facts.specs.Answered.{Drawn}
 use Rattle.xdg_facts.specs.Closed.{NoneAfter, SomeAfter}
 use Rattle.xdg_facts.specs.Fits.{Fits}
 use Rattle.xdg_facts.specs.Listing.{IsListing, Member, SoFar}
 use Rattle.xdg_facts.specs.Order.{Less}
 use Rattle.xdg_facts.specs.Whole.{is_whole}
-use Rattle.xdg_facts.proofs.Joined.{so_far_end, so_far_split}
+use Rattle.xdg_facts.proofs.Joined.{so_far_split}
 use Rattle.xdg_facts.proofs.Ordered.{less_irreflexive}
 use Rattle.xdg_problem.specs.declared.analysis.Analysis.{Analysis}
-use Rattle.xdg_problem.specs.declared.parts.Parts.{Parts}
 use Rattle.xdg_problem.specs.Analyses.{IsAnalysis}
 use Rattle.xdg_problem.specs.Problems.{IsProblem}
 use Rattle.xdg_problem.specs.Vectors.{analysis_of, shape, vector}

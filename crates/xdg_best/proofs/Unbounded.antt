@@ -7,16 +7,14 @@ use Rattle.xdg_problem.specs.declared.parts.Linking.{Linking}
 use Rattle.xdg_problem.specs.declared.parts.Parts.{Parts}
 use Rattle.xdg_problem.specs.declared.parts.Principle.{Principle}
 use Rattle.xdg_problem.specs.declared.parts.Principle.TheVariants as principles
-use Rattle.xdg_problem.specs.Claims.{Claim, negation, conjunction, disjunction, every, some, joined, above, left, same, valued, fitting, Claims, none, claim_then, claim}
-use Rattle.xdg_problem.specs.Costs.{CostLists}
+use Rattle.xdg_problem.specs.Claims.{Claim, negation, conjunction, disjunction, every, some, Claims, none, claim_then, claim}
 use Rattle.xdg_problem.specs.Further.{with_uses}
 use Rattle.xdg_problem.specs.Tests.{Test}
 use Rattle.xdg_rules.specs.Boxed.{Boxed}
-use Rattle.xdg_rules.specs.Bounds.{BoundPlace}
 use Rattle.xdg_rules.specs.Worths.{Makes, MakesEach, MakesSome}
 use Rattle.xdg_problem.specs.Truths.{unbound}
 use Rattle.xdg_problem.specs.Principles.{linking_of, way_in}
-use Rattle.xdg_rules.specs.Rules.{TestDecided, FailsTest, ValencyEntry, ValencyFull, ValencyNeeded, OneMother, RootFound, OnlyMother, NoCycle, OneLabel, AgrValues, AgreementValues, GovernmentValues, DaughterOrder, AboutHead, OfHead, ProjectivityReach, ClimbingReach, BarriersReach, LinkingReach, LinkingNotDaughter, TakesForRoot, TakesBy, Takes, IsClosedFor, IsClosed}
+use Rattle.xdg_rules.specs.Rules.{TestDecided, FailsTest, NoCycle, LinkingReach, TakesForRoot, TakesBy, Takes, IsClosedFor, IsClosed}
 use Rattle.xdg_facts.proofs.Lists.{all_before}
 
 module _ (parts : Parts) (uses : List Group) where
@@ -28,70 +26,16 @@ module _ (parts : Parts) (uses : List Group) where
   fails_test : (group : Group) (box : List (List Bool)) → FailsTest parts group box → FailsTest (with_uses parts uses) group box
   fails_test group box r = record { test = r.test; is = r.is; decided = test_decided group box r.test r.decided; fails = r.fails }
 
-  valency_entry : (group : Group) (box : List (List Bool)) (d v : ℕ) → ValencyEntry parts group box d v → ValencyEntry (with_uses parts uses) group box d v
-  valency_entry group box d v r = record { node = r.node; within = r.within; label = r.label; known = r.known; is = r.is; none = r.none }
-
-  valency_full : (group : Group) (box : List (List Bool)) (d v : ℕ) → ValencyFull parts group box d v → ValencyFull (with_uses parts uses) group box d v
-  valency_full group box d v r = record { place = r.place; is = r.is; says = r.says; free = r.free; full = r.full }
-
-  valency_needed : (group : Group) (box : List (List Bool)) (d v : ℕ) → ValencyNeeded parts group box d v → ValencyNeeded (with_uses parts uses) group box d v
-  valency_needed group box d v r = record { place = r.place; may = r.may; says = r.says; needed = r.needed }
-
-  one_mother : (group : Group) (box : List (List Bool)) (d v : ℕ) → OneMother parts group box d v → OneMother (with_uses parts uses) group box d v
-  one_mother group box d v r = record { place = r.place; is = r.is; says = r.says; other = r.other; must = r.must; differs = r.differs; both = r.both }
-
-  root_found : (group : Group) (box : List (List Bool)) (d v : ℕ) → RootFound parts group box d v → RootFound (with_uses parts uses) group box d v
-  root_found group box d v r = record { place = r.place; is = r.is; says = r.says; root = r.root }
-
-  only_mother : (group : Group) (box : List (List Bool)) (d v : ℕ) → OnlyMother parts group box d v → OnlyMother (with_uses parts uses) group box d v
-  only_mother group box d v r = record { place = r.place; may = r.may; says = r.says; only = r.only; other = r.other; root = r.root }
-
   no_cycle : (group : Group) (box : List (List Bool)) (d v : ℕ) → NoCycle parts group box d v → NoCycle (with_uses parts uses) group box d v
   no_cycle group box d v r = record { place = r.place; is = r.is; says = r.says; back = r.back }
-
-  one_label : (group : Group) (box : List (List Bool)) (d v : ℕ) → OneLabel parts group box d v → OneLabel (with_uses parts uses) group box d v
-  one_label group box d v r = record { place = r.place; is = r.is; says = r.says; other = r.other; must = r.must; differs = r.differs; mother = r.mother; daughter = r.daughter }
-
-  agr_values : (group : Group) (box : List (List Bool)) (d v : ℕ) → AgrValues parts group box d v → AgrValues (with_uses parts uses) group box d v
-  agr_values group box d v r = record { node = r.node; within = r.within; lacks = r.lacks }
-
-  agreement_values : (group : Group) (box : List (List Bool)) (d v : ℕ) → AgreementValues parts group box d v → AgreementValues (with_uses parts uses) group box d v
-  agreement_values group box d v r = record { place = r.place; is = r.is; asks = r.asks; lacks = r.lacks }
-
-  government_values : (group : Group) (box : List (List Bool)) (d v : ℕ) → GovernmentValues parts group box d v → GovernmentValues (with_uses parts uses) group box d v
-  government_values group box d v r = record { place = r.place; is = r.is; governs = r.governs; lacks = r.lacks }
-
-  daughter_order : (group : Group) (box : List (List Bool)) (d v : ℕ) → DaughterOrder parts group box d v → DaughterOrder (with_uses parts uses) group box d v
-  daughter_order group box d v r = record { place = r.place; is = r.is; says = r.says; other = r.other; must = r.must; mother = r.mother; wrong = r.wrong }
-
-  about_head : (group : Group) (box : List (List Bool)) (d v : ℕ) → AboutHead parts group box d v → AboutHead (with_uses parts uses) group box d v
-  about_head group box d v r = record { place = r.place; is = r.is; says = r.says; own = r.own; remains = r.remains; only = r.only; offends = r.offends }
-
-  of_head : (group : Group) (box : List (List Bool)) (d v : ℕ) → OfHead parts group box d v → OfHead (with_uses parts uses) group box d v
-  of_head group box d v r = record { place = r.place; must = r.must; is = r.is; offends = r.offends }
-
-  projectivity_reach : (group : Group) (box : List (List Bool)) (d v : ℕ) → ProjectivityReach parts group box d v → ProjectivityReach (with_uses parts uses) group box d v
-  projectivity_reach group box d v r = record { place = r.place; is = r.is; says = r.says; node = r.node; within = r.within; between = r.between; apart = r.apart }
-
-  climbing_reach : (group : Group) (box : List (List Bool)) (d v : ℕ) → ClimbingReach parts group box d v → ClimbingReach (with_uses parts uses) group box d v
-  climbing_reach group box d v r = record { place = r.place; is = r.is; says = r.says; apart = r.apart }
-
-  barriers_reach : (group : Group) (box : List (List Bool)) (d v : ℕ) → BarriersReach parts group box d v → BarriersReach (with_uses parts uses) group box d v
-  barriers_reach group box d v r = record { place = r.place; is = r.is; says = r.says; barrier = r.barrier; above = r.above; blocks = r.blocks; apart = r.apart }
 
   linking_reach : (way : Linking) (group : Group) (box : List (List Bool)) (d v : ℕ) → LinkingReach parts group box way d v → LinkingReach (with_uses parts uses) group box way d v
   linking_reach way group box d v r = record { place = r.place; is = r.is; says = r.says; links = r.links; apart = r.apart }
 
-  linking_not_daughter : (group : Group) (box : List (List Bool)) (d v : ℕ) → LinkingNotDaughter parts group box d v → LinkingNotDaughter (with_uses parts uses) group box d v
-  linking_not_daughter group box d v r = record { place = r.place; is = r.is; other = r.other; other_is = r.other_is; mother = r.mother; daughter = r.daughter; keeps = r.keeps; one = r.one }
-
-  bound_place : (costs : CostLists) (bound : ℕ) (box : List (List Bool)) (d v : ℕ) → BoundPlace parts costs bound box d v → BoundPlace (with_uses parts uses) costs bound box d v
-  bound_place costs bound box d v r = record { place = r.place; is = r.is; says = r.says; free = r.free; reaches = r.reaches }
-
   for_root : (group : Group) (box : List (List Bool)) (d v : ℕ) → TakesForRoot parts group box d v → TakesForRoot (with_uses parts uses) group box d v
-  for_root group box d v (inl r) = inl (root_found group box d v r)
+  for_root group box d v (inl r) = inl (record { place = r.place; is = r.is; says = r.says; root = r.root })
   for_root group box d v (inr (inl r)) = inr (inl r)
-  for_root group box d v (inr (inr (inl r))) = inr (inr (inl (only_mother group box d v r)))
+  for_root group box d v (inr (inr (inl r))) = inr (inr (inl (record { place = r.place; may = r.may; says = r.says; only = r.only; other = r.other; root = r.root })))
   for_root group box d v (inr (inr (inr r))) = inr (inr (inr r))
 
   -- a box makes a claim true or false all the same
@@ -106,14 +50,8 @@ module _ (parts : Parts) (uses : List Group) where
     makes box (every name c) false b m = (m.0, m.1, makes box c false _ m.2)
     makes box (some name c) true b m = (m.0, m.1, makes box c true _ m.2)
     makes box (some name c) false b m = λ node within. makes box c false _ (m node within)
-    makes box (joined dim mother label daughter) true b m = m
-    makes box (joined dim mother label daughter) false b m = m
-    makes box (above dim upper lower) true b m = m
-    makes box (above dim upper lower) false b m = m
-    makes box (left first second) truth b m = m
-    makes box (same first second) truth b m = m
-    makes box (valued name dim attr value) truth b m = m
-    makes box (fitting name table) truth b m = m
+    makes box c true b m = m
+    makes box c false b m = m
 
     makes_each : (box : List (List Bool)) (cs : Claims) (truth : Bool) (b : ℕ → ℕ) → MakesEach parts box cs truth b → MakesEach (with_uses parts uses) box cs truth b
     makes_each box none truth b m = m
@@ -125,30 +63,30 @@ module _ (parts : Parts) (uses : List Group) where
     makes_some box (claim_then c cs) truth b (inr m) = inr (makes_some box cs truth b m)
 
   takes_by : (principle : Principle) (group : Group) (box : List (List Bool)) (d v : ℕ) → TakesBy principle parts group box d v → TakesBy principle (with_uses parts uses) group box d v
-  takes_by principles.Tree group box d v (inl r) = inl (one_mother group box d v r)
+  takes_by principles.Tree group box d v (inl r) = inl (record { place = r.place; is = r.is; says = r.says; other = r.other; must = r.must; differs = r.differs; both = r.both })
   takes_by principles.Tree group box d v (inr (inl r)) = inr (inl (for_root group box d v r))
   takes_by principles.Tree group box d v (inr (inr r)) = inr (inr (no_cycle group box d v r))
   takes_by principles.Dag group box d v (inl r) = inl (no_cycle group box d v r)
   takes_by principles.Dag group box d v (inr (inl r)) = inr (inl (r.0, for_root group box d v r.1))
-  takes_by principles.Dag group box d v (inr (inr r)) = inr (inr (r.0, one_label group box d v r.1))
-  takes_by principles.Valency group box d v (inl r) = inl (valency_entry group box d v r)
-  takes_by principles.Valency group box d v (inr (inl r)) = inr (inl (valency_full group box d v r))
-  takes_by principles.Valency group box d v (inr (inr r)) = inr (inr (valency_needed group box d v r))
-  takes_by principles.Order group box d v (inl r) = inl (daughter_order group box d v r)
-  takes_by principles.Order group box d v (inr (inl r)) = inr (inl (about_head group box d v r))
-  takes_by principles.Order group box d v (inr (inr r)) = inr (inr (of_head group box d v r))
-  takes_by principles.Projectivity group box d v r = projectivity_reach group box d v r
-  takes_by principles.Agr group box d v r = agr_values group box d v r
-  takes_by principles.Agreement group box d v r = agreement_values group box d v r
-  takes_by principles.Government group box d v r = government_values group box d v r
-  takes_by principles.Climbing group box d v r = climbing_reach group box d v r
-  takes_by principles.Barriers group box d v r = barriers_reach group box d v r
-  takes_by principles.LinkingNotDaughter group box d v r = linking_not_daughter group box d v r
+  takes_by principles.Dag group box d v (inr (inr r)) = inr (inr (r.0, record { place = r.1.place; is = r.1.is; says = r.1.says; other = r.1.other; must = r.1.must; differs = r.1.differs; mother = r.1.mother; daughter = r.1.daughter }))
+  takes_by principles.Valency group box d v (inl r) = inl (record { node = r.node; within = r.within; label = r.label; known = r.known; is = r.is; none = r.none })
+  takes_by principles.Valency group box d v (inr (inl r)) = inr (inl (record { place = r.place; is = r.is; says = r.says; free = r.free; full = r.full }))
+  takes_by principles.Valency group box d v (inr (inr r)) = inr (inr (record { place = r.place; may = r.may; says = r.says; needed = r.needed }))
+  takes_by principles.Order group box d v (inl r) = inl (record { place = r.place; is = r.is; says = r.says; other = r.other; must = r.must; mother = r.mother; wrong = r.wrong })
+  takes_by principles.Order group box d v (inr (inl r)) = inr (inl (record { place = r.place; is = r.is; says = r.says; own = r.own; remains = r.remains; only = r.only; offends = r.offends }))
+  takes_by principles.Order group box d v (inr (inr r)) = inr (inr (record { place = r.place; must = r.must; is = r.is; offends = r.offends }))
+  takes_by principles.Projectivity group box d v r = record { place = r.place; is = r.is; says = r.says; node = r.node; within = r.within; between = r.between; apart = r.apart }
+  takes_by principles.Agr group box d v r = record { node = r.node; within = r.within; lacks = r.lacks }
+  takes_by principles.Agreement group box d v r = record { place = r.place; is = r.is; asks = r.asks; lacks = r.lacks }
+  takes_by principles.Government group box d v r = record { place = r.place; is = r.is; governs = r.governs; lacks = r.lacks }
+  takes_by principles.Climbing group box d v r = record { place = r.place; is = r.is; says = r.says; apart = r.apart }
+  takes_by principles.Barriers group box d v r = record { place = r.place; is = r.is; says = r.says; barrier = r.barrier; above = r.above; blocks = r.blocks; apart = r.apart }
+  takes_by principles.LinkingNotDaughter group box d v r = record { place = r.place; is = r.is; other = r.other; other_is = r.other_is; mother = r.mother; daughter = r.daughter; keeps = r.keeps; one = r.one }
   takes_by principles.Graph group box d v r = r
   takes_by principles.Entries group box d v r = r
   takes_by (principles.Rule formula) group box d v r = makes box (claim formula) false unbound r
   takes_by (principles.Bound costs bound) group box d v (inl r) = inl r
-  takes_by (principles.Bound costs bound) group box d v (inr r) = inr (bound_place costs bound box d v r)
+  takes_by (principles.Bound costs bound) group box d v (inr r) = inr (record { place = r.place; is = r.is; says = r.says; free = r.free; reaches = r.reaches })
   takes_by principle group box d v r = linking_reach (way_in (linking_of principle)) group box d v r
 
   takes : (group : Group) (box : List (List Bool)) (d v : ℕ) → Takes parts group box d v → Takes (with_uses parts uses) group box d v

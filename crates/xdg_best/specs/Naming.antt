@@ -1,5 +1,5 @@
 -- The dimension and the label that constants name.
-use Rattle.std.specs.Prelude.{ℕ, Bool, false, Option, Some, None, Result, Ok, Err, List, [], bytes_eq, slice_get}
+use Rattle.std.specs.Prelude.{ℕ, Bool, false, Option, Some, None, Result, Ok, Err, List, bytes_eq, slice_get}
 use Rattle.std.specs.List.{position}
 use Rattle.xdg_base.specs.Faults.{fault_at}
 use Rattle.xdg_base.specs.declared.faults.Fault.{Fault}
@@ -7,6 +7,8 @@ use Rattle.xdg_base.specs.declared.faults.Cause.TheVariants as causes
 use Rattle.xdg_base.specs.declared.ids.DimId.{DimId}
 use Rattle.xdg_base.specs.declared.ids.LabelId.{LabelId}
 use Rattle.xdg_ast.specs.declared.names.Name.{Name}
+use Rattle.xdg_principles.specs.Settings.{at_place, labels_in}
+use Rattle.xdg_reading.specs.Names.{label_number}
 use Rattle.xdg_types.specs.declared.table.DimType.{DimType}
 use Rattle.xdg_types.specs.Table.{Table}
 
@@ -25,21 +27,9 @@ place_named dims used name = position (λ place. is_named dims name place) used
 abbrev pub dim_number : Table → List ℕ → Option ℕ
 dim_number table name = place_named table.dims table.used name
 
-abbrev pub labels_in : Option DimType → List (List ℕ)
-labels_in None = []
-labels_in (Some dim) = dim.labels
-
-abbrev pub labels_at : List DimType → Option ℕ → List (List ℕ)
-labels_at dims None = []
-labels_at dims (Some place) = labels_in (slice_get dims place)
-
 -- the labels of the used dimension with a number
 abbrev pub labels_of : Table → ℕ → List (List ℕ)
-labels_of table dim = labels_at table.dims (slice_get table.used dim)
-
--- the number of a label
-unfoldable pub label_number : List (List ℕ) → List ℕ → Option ℕ
-label_number labels name = position (λ label. bytes_eq label name) labels
+labels_of table dim = labels_in (at_place table.dims (slice_get table.used dim))
 
 -- a dimension and a label
 abbrev pub Place : Type 0

@@ -1,12 +1,13 @@
 //! The dimensions and the labels that constants name.
 
-ghost use Rattle.std.specs.Prelude.{◌≡◌, ◌<◌, IfSome, length};
+ghost use Rattle.std.specs.Prelude.{◌≡◌, ◌<◌, IfSome};
 ghost use Rattle.xdg_base.specs.Faults.{fault_at};
-ghost use Rattle.xdg_best.specs.Naming.{is_named, place_named, dim_number, labels_of, label_number, place_of};
+ghost use Rattle.xdg_best.specs.Naming.{is_named, place_named, dim_number, labels_of, place_of};
 ghost use Rattle.xdg_types.specs.Table.{IsTable};
 
 use xdg_ast::Name;
 use xdg_base::{Cause, DimId, Fault, LabelId, Text};
+use xdg_reading::label_number;
 use xdg_types::{DimType, TypeTable};
 
 /// Whether the dimension at a place has a name.
@@ -47,17 +48,6 @@ fn labels_of(types: &TypeTable, dim: usize) -> &[Text]
         },
         None => &[],
     }
-}
-
-/// The number of a label.
-#[tactic(auto, unfolding(crate::specs::Naming::label_number), using(crate::proofs::Named::label_within))]
-fn label_number(labels: &[Text], name: &Text) -> Option<usize>
-    ensures is { result ≡ label_number labels.now name.now }
-    ensures within { IfSome result (λ label. label < length labels.now) }
-{
-    labels
-        .iter()
-        .position(|label| label.as_str() == name.as_str())
 }
 
 /// The used dimension and the label of it that two constants name, or what is wrong with the first that names none.
