@@ -61,14 +61,7 @@ words_leave given files input (commands.Corpus options) result old new is one le
     record { part = run_part given files input (commands.Corpus options) result old new is one leaves; at_once = λ other. absurd (other (commands.Corpus options, is, tt)) }
 words_leave given files input (commands.Arrange options) result old new is one leaves =
     record { part = run_part given files input (commands.Arrange options) result old new is one leaves; at_once = λ other. absurd (other (commands.Arrange options, is, tt)) }
-words_leave given files input (commands.Parse options) result old new is one leaves = at_once given files input (commands.Parse options) result old new is one leaves
-words_leave given files input (commands.Resume options) result old new is one leaves = at_once given files input (commands.Resume options) result old new is one leaves
-words_leave given files input (commands.Explain options) result old new is one leaves = at_once given files input (commands.Explain options) result old new is one leaves
-words_leave given files input (commands.Check grammar) result old new is one leaves = at_once given files input (commands.Check grammar) result old new is one leaves
-words_leave given files input (commands.Lexicon grammar) result old new is one leaves = at_once given files input (commands.Lexicon grammar) result old new is one leaves
-words_leave given files input (commands.Print grammar) result old new is one leaves = at_once given files input (commands.Print grammar) result old new is one leaves
-words_leave given files input (commands.Drill number) result old new is one leaves = at_once given files input (commands.Drill number) result old new is one leaves
-words_leave given files input (commands.Best options) result old new is one leaves = at_once given files input (commands.Best options) result old new is one leaves
+words_leave given files input command result old new is one leaves = at_once given files input command result old new is one leaves
 
 -- for want of memory nothing was added
 pub memory_leaves : (given : List (List ℕ)) (O : Status → List ℕ → Type 0) (held : Option (List ℕ)) → LeavesBy given O statuses.OutOfMemory held held
@@ -190,14 +183,7 @@ nothing_added given (commands.Corpus options) result old new is unwritten (inl r
 nothing_added given (commands.Corpus options) result old new is unwritten (inr memory) = absurd (memory.1 (commands.Corpus options, is, tt))
 nothing_added given (commands.Arrange options) result old new is unwritten (inl read) = unwritten read
 nothing_added given (commands.Arrange options) result old new is unwritten (inr memory) = absurd (memory.1 (commands.Arrange options, is, tt))
-nothing_added given (commands.Parse options) result old new is unwritten ended = unwritten (without given result ended)
-nothing_added given (commands.Resume options) result old new is unwritten ended = unwritten (without given result ended)
-nothing_added given (commands.Explain options) result old new is unwritten ended = unwritten (without given result ended)
-nothing_added given (commands.Check grammar) result old new is unwritten ended = unwritten (without given result ended)
-nothing_added given (commands.Lexicon grammar) result old new is unwritten ended = unwritten (without given result ended)
-nothing_added given (commands.Print grammar) result old new is unwritten ended = unwritten (without given result ended)
-nothing_added given (commands.Drill number) result old new is unwritten ended = unwritten (without given result ended)
-nothing_added given (commands.Best options) result old new is unwritten ended = unwritten (without given result ended)
+nothing_added given command result old new is unwritten ended = unwritten (without given result ended)
 
 pub said_reads : (command said : Command) → command ≡ said → ReadsInput said → ReadsInput command
 said_reads command said e reads = subst ReadsInput (sym e) reads
