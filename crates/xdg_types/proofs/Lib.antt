@@ -1,6 +1,7 @@
 pub mod Again
 pub mod Distinct
 pub mod Elements
+pub mod Kept
 pub mod Listings
 pub mod Made
 pub mod NamesAgain
