@@ -3,7 +3,7 @@ use Rattle.std.proofs.Common.{◌≡◌, ℕ, ◌<◌, ◌≤◌, ◌+◌, ◌�
 use Rattle.std.specs.Prelude.{Bool, true, false, cond, not, ◌&&◌, ◌||◌, ◌==◌, filter}
 use Rattle.std.specs.List.{range_with_len, Contains}
 use Rattle.std.proofs.Math.Nat.{zero-add}
-use Rattle.std.proofs.lemmas.Bool.{cond_both, cond-true, cond-false, cases_eq, eq-eqb, eqb-true, false≢true, ne_eqb, or_cases, or_left, or_right}
+use Rattle.std.proofs.lemmas.Bool.{cond_both, cond-true, cond-false, cases_eq, cases_lt, eq-eqb, eqb-true, false≢true, ne_eqb, or_cases, or_left, or_right}
 use Rattle.xdg_facts.proofs.Truths.{none_in, agree_in, apart, either_true, or_here}
 use Rattle.xdg_facts.specs.Rises.{has, numbers_below, Rises}
 
@@ -83,6 +83,10 @@ has_of bound p k below = has_between p 0 bound k (omega arith) (omega (arith, be
 pub has_beyond : (bound : ℕ) (p : ℕ → Bool) (k : ℕ) → bound ≤ k → has (numbers_below bound p) k ≡ false
 unfolding numbers_below
 has_beyond bound p k above = has_not_after p 0 bound k (omega (arith, above))
+
+-- where nothing passes beyond the bound, what stands there is what passes
+pub has_exact : (bound : ℕ) (p : ℕ → Bool) → ((k : ℕ) → bound ≤ k → p k ≡ false) → (k : ℕ) → has (numbers_below bound p) k ≡ p k
+has_exact bound p none k = elim (cases_lt k bound) [ inl below ↦ has_of bound p k below | inr above ↦ has_beyond bound p k above ∙ sym (none k above) ]
 
 -- ---- the first and the last
 

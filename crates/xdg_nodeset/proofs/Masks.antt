@@ -1,6 +1,6 @@
 -- What an operation on bits does to the members.
 use Rattle.std.proofs.Common.{◌≡◌, ℕ, ◌<◌, ◌≤◌, ◌+◌, ◌-◌, ◌*◌, ◌/◌, ◌%◌, ◌^◌, zero, suc, [], ◌∷◌, ◌++◌, length, refl, ap, ap₂, sym, ◌∙◌, arith, inl, inr, bit_and, bit_or}
-use Rattle.std.specs.Prelude.{Bool, true, not, ◌&&◌, ◌||◌, ◌==◌, filter, nat_lt, nat_eq}
+use Rattle.std.specs.Prelude.{not, ◌&&◌, ◌||◌, ◌==◌, filter, nat_lt, nat_eq}
 use Rattle.std.specs.List.{range_with_len}
 use Rattle.std.specs.Int.{bit_at, bit_not, w128, trailing_zeros, leading_zeros}
 use Rattle.std.specs.Int.RustNames.{count_ones}
@@ -10,50 +10,26 @@ use Rattle.std.specs.Cmp.Lexicographic.{pointwise}
 use Rattle.std.proofs.lemmas.Bool.Decides.{same_from_decides}
 use Rattle.std.proofs.lemmas.Slice.Eq.{bytes_eq-Decides}
 use Prim.Native.Nat.{min, max}
-use Rattle.std.proofs.lemmas.Nat.{leading_top, one_shl, ones_cat, ones_le_self, zero_from_ones}
-use Rattle.std.proofs.lemmas.Nat.Bits.{bit_at_and, bit_at_or, bit_at_not, bit_at-lt, bit_at-zero, bit_at_set_same, bit_at_set_other, bit_at_clear_same, bit_at_clear_other, bit_at_mask_inside, bit_at_mask_below, bit_at_mask_above, bit_at-trailing_zeros, bit_at_above}
+use Rattle.std.proofs.lemmas.Nat.{one_shl, ones_cat, ones_le_self, zero_from_ones}
+use Rattle.std.proofs.lemmas.Nat.Bits.{bit_at_and, bit_at_or, bit_at_not, bit_at-lt, bit_at_clear_same, bit_at_clear_other, bit_at_mask_inside, bit_at_mask_below, bit_at_mask_above}
 use Rattle.std.proofs.lemmas.Bool.{cases_eq, cases_lt, eq-eqb, ne_eqb, lt-ltb, le-ltb, cond_both, eqb-true}
-use Rattle.xdg_nodeset.specs.Nodes.{nodes, IsNodes, with_node, without, union, meet, minus, between}
-use Rattle.xdg_facts.proofs.Bits.{top_bit}
+use Rattle.xdg_nodeset.specs.Nodes.{nodes, IsNodes, without, union, minus, between}
 use Rattle.xdg_facts.proofs.Bits.{halves}
 use Rattle.xdg_facts.proofs.Numbers.{zero_below_one, unset}
 use Rattle.xdg_facts.specs.Rises.{has, numbers_below}
-use Rattle.xdg_facts.specs.BitSets.{is_set, members, number}
-use Rattle.xdg_facts.proofs.Weights.{same_number}
-use Rattle.xdg_facts.proofs.Rising.{numbers_agree, none_of, but, first_of, last_of, rises_of, few_of}
-use Rattle.xdg_facts.proofs.BitMembers.{at_bits, has_members}
+use Rattle.xdg_facts.specs.BitSets.{is_set, members}
+use Rattle.xdg_facts.proofs.Rising.{numbers_agree, but, first_of, last_of, rises_of, few_of}
+use Rattle.xdg_facts.proofs.BitMembers.{has_members, members_whole, equal_bits, by_bits, lowest_bit, highest_bit}
 
 pub members_are_nodes : (b : ℕ) → IsNodes (members b)
-members_are_nodes b = record {
-  rises = rises_of 128 (is_set b);
-  whole = numbers_agree 128 (is_set b) (has (members b)) (λ k below. sym (has_members b k below));
-  few = few_of 128 (is_set b);
-}
-
-pub empty_bits : members 0 ≡ []
-empty_bits = none_of 128 (is_set 0) (λ k. ap (λ z. z == 1) (bit_at-zero k))
-
--- where each bit is made of those of two numbers, so is each member of theirs
-by_bits : (made : ℕ → ℕ → ℕ) (says : Bool → Bool → Bool) → ((x y : ℕ) → x < 2 → y < 2 → (made x y == 1) ≡ says (x == 1) (y == 1))
-    → (a b c : ℕ) → ((n : ℕ) → n < 128 → bit_at c n ≡ made (bit_at a n) (bit_at b n)) → members c ≡ nodes (λ n. says (has (members a) n) (has (members b) n))
-by_bits made says same a b c are = numbers_agree 128 (is_set c) (λ n. says (has (members a) n) (has (members b) n)) (λ n below.
-    ap (λ z. z == 1) (are n below) ∙ same (bit_at a n) (bit_at b n) (bit_at-lt a n) (bit_at-lt b n) ∙ sym (ap₂ says (has_members a n below) (has_members b n below)))
+members_are_nodes b = record { rises = rises_of 128 (is_set b); whole = members_whole b; few = few_of 128 (is_set b) }
 
 pub union_bits : (a b : ℕ) → members (bit_or a b) ≡ union (members a) (members b)
-union_bits a b = by_bits max (λ x y. x || y) (at_bits (λ x y. max x y == 1) (λ x y. (x == 1) || (y == 1)) refl refl refl refl) a b (bit_or a b) (λ n below. bit_at_or a b n)
-
-pub meet_bits : (a b : ℕ) → members (bit_and a b) ≡ meet (members a) (members b)
-meet_bits a b = by_bits min (λ x y. x && y) (at_bits (λ x y. min x y == 1) (λ x y. (x == 1) && (y == 1)) refl refl refl refl) a b (bit_and a b) (λ n below. bit_at_and a b n)
+union_bits a b = by_bits max (λ x y. x || y) refl refl refl refl a b (bit_or a b) (λ n _. bit_at_or a b n)
 
 pub minus_bits : (a b : ℕ) → b < 2 ^ 128 → members (bit_and a (bit_not w128 b)) ≡ minus (members a) (members b)
-minus_bits a b within = by_bits (λ x y. min x (1 - y)) (λ x y. x && not y) (at_bits (λ x y. min x (1 - y) == 1) (λ x y. (x == 1) && not (y == 1)) refl refl refl refl) a b (bit_and a (bit_not w128 b))
+minus_bits a b within = by_bits (λ x y. min x (1 - y)) (λ x y. x && not y) refl refl refl refl a b (bit_and a (bit_not w128 b))
     (λ n below. bit_at_and a (bit_not w128 b) n ∙ ap (λ z. min (bit_at a n) z) (bit_at_not w128 b n within below))
-
-pub with_bits : (b n : ℕ) → n < 128 → members (bit_or b (1 * 2 ^ n % 2 ^ 128)) ≡ with_node (members b) n
-with_bits b n within = numbers_agree 128 (is_set (bit_or b (1 * 2 ^ n % 2 ^ 128))) (λ m. (m == n) || has (members b) m) (λ m below. elim (cases_eq m n) [
-  | inl e ↦ ap (λ z. bit_at (bit_or b (1 * 2 ^ n % 2 ^ 128)) z == 1) e ∙ ap (λ z. z == 1) (bit_at_set_same w128 b n within) ∙ sym (ap (λ t. t || has (members b) m) (eq-eqb m n e))
-  | inr other ↦ ap (λ z. z == 1) (bit_at_set_other w128 b n within m other) ∙ sym (has_members b m below) ∙ sym (ap (λ t. t || has (members b) m) (ne_eqb m n other))
-])
 
 pub without_bits : (b n : ℕ) → n < 128 → members (bit_and b (bit_not w128 (1 * 2 ^ n % 2 ^ 128))) ≡ without (members b) n
 without_bits b n within = numbers_agree 128 (is_set (bit_and b (bit_not w128 (1 * 2 ^ n % 2 ^ 128)))) (λ m. not (m == n) && has (members b) m) (λ m below. elim (cases_eq m n) [
@@ -92,18 +68,15 @@ others b k = numbers_agree 128 (but (is_set b) k) (λ m. not (m == k) && has (me
 
 pub first_bit : (b : ℕ) → 0 < b → b < 2 ^ 128 → (members b ≡ trailing_zeros w128 b ∷ without (members b) (trailing_zeros w128 b)) × (trailing_zeros w128 b < 128)
 first_bit b some within =
+    let is = lowest_bit b some within in
     let k = trailing_zeros w128 b in
-    let is = bit_at-trailing_zeros w128 b some within in
-    (first_of 128 (is_set b) k is.0 (ap (λ z. z == 1) is.1) (λ m less. ap (λ z. z == 1) (is.2 m less)) ∙ ap (λ s. k ∷ s) (others b k), is.0)
+    (first_of 128 (is_set b) k is.0 is.1 is.2 ∙ ap (λ s. k ∷ s) (others b k), is.0)
 
 pub last_bit : (b : ℕ) → 0 < b → b < 2 ^ 128 → (members b ≡ without (members b) (127 - leading_zeros w128 b) ++ (127 - leading_zeros w128 b) ∷ []) × (127 - leading_zeros w128 b < 128)
 last_bit b some within =
-    let top = leading_top 128 b some within in
-    let j = top.0 in
-    let at : 127 - leading_zeros w128 b ≡ j = (let e = top.1 in omega (arith, e)) in
-    let below : j < 128 = (let e = top.1 in omega (arith, e)) in
-    let is : is_set b j ≡ true = ap (λ q. q % 2 == 1) (top_bit b j top.2 top.3) in
-    rw at (last_of 128 (is_set b) j below is (λ m more. ap (λ z. z == 1) (bit_at_above b (suc j) m top.3 (omega (arith, more)))) ∙ ap (λ s. s ++ j ∷ []) (others b j), below)
+    let is = highest_bit b some within in
+    let k = 127 - leading_zeros w128 b in
+    (last_of 128 (is_set b) k is.0 is.1 is.2 ∙ ap (λ s. s ++ k ∷ []) (others b k), is.0)
 
 -- ---- between two nodes
 
@@ -138,7 +111,5 @@ between_bits a b h k = strictly_between (min a b) (max a b) (omega arith) (omega
 
 -- ---- two numbers are equal where they stand for equal lists
 
-pub equal_bits : (a b : ℕ) → a < 2 ^ 128 → b < 2 ^ 128 → (a == b) ≡ pointwise nat_eq (members a) (members b)
-equal_bits a b h k = same_from_decides (a == b) (pointwise nat_eq (members a) (members b))
-    (λ e. ap members (eqb-true a b e), λ e. eq-eqb a b (sym (same_number a 128 h) ∙ ap number e ∙ same_number b 128 k))
-    (bytes_eq-Decides (members a) (members b))
+pub same_bits : (a b : ℕ) → a < 2 ^ 128 → b < 2 ^ 128 → (a == b) ≡ pointwise nat_eq (members a) (members b)
+same_bits a b h k = same_from_decides (a == b) (pointwise nat_eq (members a) (members b)) (equal_bits a b h k) (bytes_eq-Decides (members a) (members b))

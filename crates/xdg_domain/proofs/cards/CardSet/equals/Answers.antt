@@ -1,4 +1,4 @@
-use Rattle.xdg_domain.proofs.Masks.{equal_bits}
+use Rattle.xdg_facts.proofs.BitMembers.{equal_bits}
 use Rattle.xdg_domain.proofs.cards.CardSet.equals.Goals as goal
 
 pub returns : goal.returns

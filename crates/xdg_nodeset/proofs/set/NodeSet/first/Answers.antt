@@ -1,5 +1,6 @@
 use Rattle.std.proofs.Common.{ap, sym, ◌∙◌, arith}
-use Rattle.xdg_nodeset.proofs.Masks.{members_are_nodes, first_bit, empty_bits}
+use Rattle.xdg_nodeset.proofs.Masks.{members_are_nodes, first_bit}
+use Rattle.xdg_facts.proofs.BitMembers.{empty_bits}
 use Rattle.xdg_nodeset.proofs.set.NodeSet.first.Goals as goal
 use Rattle.xdg_facts.specs.BitSets.{members}
 

@@ -2,7 +2,8 @@ use Rattle.std.proofs.Common.{◌*◌, ◌%◌, ◌^◌, ap, ◌∙◌, arith}
 use Rattle.std.proofs.lemmas.Nat.{or_lt}
 use Rattle.xdg_nodeset.specs.Nodes.{with_node}
 use Rattle.xdg_nodeset.proofs.Standing.{with_same, with_has}
-use Rattle.xdg_nodeset.proofs.Masks.{with_bits, members_are_nodes}
+use Rattle.xdg_nodeset.proofs.Masks.{members_are_nodes}
+use Rattle.xdg_facts.proofs.BitMembers.{with_bits}
 use Rattle.xdg_nodeset.proofs.set.NodeSet.insert.Goals as goal
 use Rattle.xdg_facts.specs.BitSets.{members}
 

@@ -1,7 +1,8 @@
 use Rattle.std.proofs.Common.{ap₂, ◌∙◌}
 use Rattle.xdg_nodeset.specs.Nodes.{meet}
 use Rattle.xdg_nodeset.proofs.Standing.{meet_has}
-use Rattle.xdg_nodeset.proofs.Masks.{members_are_nodes, meet_bits}
+use Rattle.xdg_nodeset.proofs.Masks.{members_are_nodes}
+use Rattle.xdg_facts.proofs.BitMembers.{meet_bits}
 use Rattle.xdg_nodeset.proofs.set.NodeSet.meet.Goals as goal
 use Rattle.xdg_facts.specs.BitSets.{members}
 
