@@ -1,13 +1,17 @@
 -- What follows for a box that lies in a larger one: what may be among its edges, and what must be.
-use Rattle.std.proofs.Common.{◌≡◌, ℕ, ◌+◌, ◌≤◌, ◌⊎◌, ◌↔◌, inl, inr, Bool, true, false, List}
+use Rattle.std.proofs.Common.{◌≡◌, ℕ, ◌+◌, ◌<◌, ◌≤◌, ◌⊎◌, ◌↔◌, inl, inr, Bool, true, false, List, arith}
 use Rattle.std.specs.Prelude.{Contains, count_by, not, ◌==◌, ◌&&◌}
 use Rattle.std.proofs.lemmas.Bool.{and_parts, and_from, cases_Bool, not-true, not_from_false, eq-eqb, eqb-true, both_ways, false_from_ne_true}
 use Rattle.xdg_problem.specs.declared.analysis.Edge.{Edge}
 use Rattle.xdg_problem.specs.declared.parts.Parts.{Parts}
-use Rattle.xdg_problem.specs.Places.{places}
+use Rattle.xdg_problem.specs.Paths.{Above}
+use Rattle.xdg_problem.specs.Places.{nodes, places}
 use Rattle.xdg_problem.specs.Vectors.{shape}
+use Rattle.std.proofs.lemmas.List.Elements.{All-weaker, All-contains_itself}
 use Rattle.xdg_problem.proofs.FilterFacts.{filter_contained}
 use Rattle.xdg_problem.proofs.Ordered.{contains_filter}
+use Rattle.xdg_problem.proofs.PlaceOrder.{is_place}
+use Rattle.xdg_problem.proofs.TreeTests.{above_within}
 use Rattle.xdg_problem.specs.Boxes.{Has, IsBox, LiesIn, May, Must, edge_decision}
 use Rattle.xdg_rules.specs.Rules.{has, may_edges, must_edges, IsPlaceOn}
 use Rattle.xdg_rules.proofs.Keeping.{Less, less_among, less_count, strictly_count}
@@ -95,16 +99,39 @@ must_exact parts box dim e is = (
   }),
 )
 
-module _ (parts : Parts) (small large : List (List Bool)) (is : IsBox (shape parts) small) (lies : LiesIn small large) where
-  pub may_less : (dim : ℕ) → Less (may_be parts small dim) (may_be parts large dim) (places parts)
-  may_less dim e c passes = (let both = may_parts parts small dim e passes in may_test parts large dim e both.0 (lies (edge_decision parts e) 0 both.1))
+-- the mother of an edge that must be, or of one on a path to it, is a node
+pub barrier_within : (parts : Parts) (box : List (List Bool)) (dim barrier u : ℕ) → u < nodes parts → (barrier ≡ u) ⊎ Above (must_edges parts box dim) barrier u → barrier < nodes parts
+barrier_within parts box dim barrier u within (inl here) = omega (arith, here, within)
+barrier_within parts box dim barrier u within (inr over) = above_within (nodes parts) (must_edges parts box dim) barrier u
+    (All-weaker (Contains (must_edges parts box dim)) (λ e. e.mother.0 < nodes parts) (λ e c. (is_place parts e (must_is parts box dim e c).place).mother) (must_edges parts box dim) (All-contains_itself (must_edges parts box dim))) over
 
-  pub must_less : (dim : ℕ) → Less (must_be parts large dim) (must_be parts small dim) (places parts)
-  must_less dim e c passes =
+-- what the small box has of the edges of a dimension the large one has too
+abbrev pub EdgesLie : Parts → ℕ → List (List Bool) → List (List Bool) → Type 0
+EdgesLie parts dim small large = (e : Edge) → IsPlaceOn parts dim e → (v : ℕ) → Has small (edge_decision parts e) v → Has large (edge_decision parts e) v
+
+module _ (parts : Parts) (dim : ℕ) (small large : List (List Bool)) (lies : EdgesLie parts dim small large) where
+  pub less_may : Less (may_be parts small dim) (may_be parts large dim) (places parts)
+  less_may e c passes = (let both = may_parts parts small dim e passes in may_test parts large dim e both.0 (lies e (c, both.0) 0 both.1))
+
+  pub among_may : Among (may_edges parts small dim) (may_edges parts large dim)
+  among_may = less_among (may_be parts small dim) (may_be parts large dim) (places parts) less_may
+
+  pub less_must : IsBox (shape parts) small → Less (must_be parts large dim) (must_be parts small dim) (places parts)
+  less_must is e c passes =
       let all = must_parts parts large dim e passes in
-      let absent : has small (edge_decision parts e) 1 ≡ false = false_from_ne_true (has small (edge_decision parts e) 1) (λ there. both_ways (has large (edge_decision parts e) 1) all.2 (lies (edge_decision parts e) 1 there)) in
+      let absent : has small (edge_decision parts e) 1 ≡ false = false_from_ne_true (has small (edge_decision parts e) 1) (λ there. both_ways (has large (edge_decision parts e) 1) all.2 (lies e (c, all.0) 1 there)) in
       let present : Has small (edge_decision parts e) 0 = elim (edge_some parts small is e c) [ inl here ↦ here | inr there ↦ absurd (both_ways (has small (edge_decision parts e) 1) absent there) ] in
       must_test parts small dim e all.0 present absent
+
+  pub among_must : IsBox (shape parts) small → Among (must_edges parts large dim) (must_edges parts small dim)
+  among_must is = less_among (must_be parts large dim) (must_be parts small dim) (places parts) (less_must is)
+
+module _ (parts : Parts) (small large : List (List Bool)) (is : IsBox (shape parts) small) (lies : LiesIn small large) where
+  pub may_less : (dim : ℕ) → Less (may_be parts small dim) (may_be parts large dim) (places parts)
+  may_less dim = less_may parts dim small large (λ e on. lies (edge_decision parts e))
+
+  pub must_less : (dim : ℕ) → Less (must_be parts large dim) (must_be parts small dim) (places parts)
+  must_less dim = less_must parts dim small large (λ e on. lies (edge_decision parts e)) is
 
   pub may_among : (dim : ℕ) → Among (may_edges parts small dim) (may_edges parts large dim)
   may_among dim = less_among (may_be parts small dim) (may_be parts large dim) (places parts) (may_less dim)

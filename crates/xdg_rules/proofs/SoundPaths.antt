@@ -1,7 +1,7 @@
 -- In a box that agrees with a whole vector the rules of paths and links take nothing that remains, if the conditions hold.
-use Rattle.std.proofs.Common.{◌≡◌, ℕ, ◌<◌, ◌⊎◌, inl, inr, Bool, List, [], ◌∷◌, length, refl, sym, arith, subst, Some}
-use Rattle.std.specs.Prelude.{Contains, All, slice_index, ◌==◌}
-use Rattle.std.proofs.lemmas.List.Elements.{All-nil, All-cons, All-push, All-filter, All-weaker}
+use Rattle.std.proofs.Common.{◌≡◌, ℕ, ◌⊎◌, inl, inr, Bool, List, [], ◌∷◌, length, refl, sym, subst, Some}
+use Rattle.std.specs.Prelude.{Contains, slice_index}
+use Rattle.std.proofs.lemmas.List.Elements.{All-nil, All-cons, All-push}
 use Rattle.xdg_problem.specs.declared.analysis.Edge.{Edge}
 use Rattle.xdg_problem.specs.declared.conditions.Condition.{Condition}
 use Rattle.xdg_problem.specs.declared.conditions.Condition.TheVariants as conditions
@@ -10,24 +10,22 @@ use Rattle.xdg_problem.specs.declared.parts.Linking.{Linking}
 use Rattle.xdg_problem.specs.declared.parts.Parts.{Parts}
 use Rattle.xdg_problem.specs.declared.parts.Principle.{Principle}
 use Rattle.xdg_problem.specs.declared.parts.Principle.TheVariants as principles
-use Rattle.xdg_problem.specs.Analyses.{IsPlace}
 use Rattle.xdg_problem.specs.Arguments.{first_dim, second_dim}
 use Rattle.xdg_problem.specs.Asking.{IsLinked, AsksLink, AsksBy}
 use Rattle.xdg_problem.specs.Features.{set_row, map_row}
 use Rattle.xdg_problem.specs.Paths.{edges_on, IsDaughter, Above, AboveByLast}
-use Rattle.xdg_problem.specs.Places.{nodes, places}
+use Rattle.xdg_problem.specs.Places.{places}
 use Rattle.xdg_problem.specs.Problems.{IsProblem}
 use Rattle.xdg_problem.specs.Vectors.{shape, entry_places, entries_at, edges_in}
 use Rattle.xdg_problem.proofs.Looking.{any_of}
 use Rattle.xdg_problem.proofs.PlaceOrder.{is_place}
 use Rattle.xdg_problem.proofs.Walks.{above_edge, leads_append}
-use Rattle.xdg_problem.proofs.TreeTests.{above_within}
-use Rattle.xdg_problem.proofs.VectorFacts.{analysis_fits}
 use Rattle.xdg_problem.specs.Boxes.{Has, IsBox, Agrees}
 use Rattle.xdg_rules.specs.Rules.{may_edges, ProjectivityReach, ClimbingReach, BarriersReach, LinkingReach, LinkingNotDaughter}
 use Rattle.xdg_rules.proofs.Counting.{label_on}
+use Rattle.xdg_rules.proofs.Shrinking.{barrier_within}
 use Rattle.xdg_rules.proofs.SoundTree.{Kept}
-use Rattle.xdg_rules.proofs.Whole.{whole_fits, may_on, must_on, must_stands, daughter_by, present, entry_has}
+use Rattle.xdg_rules.proofs.Whole.{may_on, must_on, must_stands, daughter_by, present, entry_has}
 
 -- a path up to an edge, and the edge
 above_by_last : (edges : List Edge) (labels : List ℕ) (w : ℕ) (e : Edge) → Contains edges e → Contains labels e.label.0 → (w ≡ e.mother.0) ⊎ Above edges w e.mother.0 → AboveByLast edges w labels e.daughter.0
@@ -83,21 +81,13 @@ module _ (parts : Parts) (group : Group) (box : List (List Bool)) (x : List ℕ)
       let stands = present parts box x problem is whole agrees one rule.place d v rule.is rule.says has in
       may_above two u w rule.apart (kept (u ∷ w ∷ []) (place.mother, (place.daughter, tt)) (above_edge (on one) rule.place stands))
 
-  mothers_within : (dim : ℕ) → All (λ e. e.mother.0 < nodes parts) (on dim)
-  mothers_within dim = All-filter (λ e. e.dim.0 == dim) (λ e. e.mother.0 < nodes parts) (edges_in parts x)
-      (All-weaker (IsPlace parts) (λ e. e.mother.0 < nodes parts) (λ e place. place.mother) (edges_in parts x) (analysis_fits parts x problem (whole_fits parts box x is agrees) whole).places)
-
-  barrier_within : (barrier u : ℕ) → u < nodes parts → (barrier ≡ u) ⊎ Above (on two) barrier u → barrier < nodes parts
-  barrier_within barrier u within (inl here) = omega (arith, here, within)
-  barrier_within barrier u within (inr over) = above_within (nodes parts) (on two) barrier u (mothers_within two) over
-
   pub barriers_reach : Holds conditions.Blocked → (d v : ℕ) → Has box d v → BarriersReach parts group box d v → ⊥
   barriers_reach kept d v has rule =
       let place = is_place parts rule.place rule.is.0 in
       let u : ℕ = rule.place.mother.0 in
       let stands = present parts box x problem is whole agrees two rule.place d v rule.is rule.says has in
       let above : (rule.barrier ≡ u) ⊎ Above (on two) rule.barrier u = subst (λ es. (rule.barrier ≡ u) ⊎ Above es rule.barrier u) (must_on parts box x problem is whole agrees two) rule.above in
-      let within = barrier_within rule.barrier u place.mother above in
+      let within = barrier_within parts box two rule.barrier u place.mother rule.above in
       let blocks = rule.blocks (entry rule.barrier) (entry_has parts box x problem is whole agrees rule.barrier within) in
       may_above one rule.barrier rule.place.daughter.0 rule.apart (kept (rule.barrier ∷ rule.place.daughter.0 ∷ []) (within, (place.daughter, tt)) (above_by_last (on two) (set_row group rule.barrier (entry rule.barrier)) rule.barrier rule.place stands blocks above))
 
