@@ -12,7 +12,7 @@ use Rattle.xdg_packed.specs.Rows.{shown, IsTable, AreSpelled}
 use Rattle.xdg_packed.specs.Spelling.{numbers}
 use Rattle.xdg_packed.specs.Tables.{no_table, records, IsRight, AreTables, AddsEntry, IsWithoutLast, places_at, key, AreKeys}
 use Rattle.xdg_packed.specs.declared.table.Table.{Table}
-use Rattle.xdg_packed.proofs.Firsts.{in_shown, same_row}
+use Rattle.xdg_packed.proofs.Firsts.{each_pushed, in_shown, same_row}
 use Rattle.xdg_packed.proofs.Growing.{empty_right, cut_last}
 use Rattle.xdg_packed.proofs.Packs.{taken_back}
 use Rattle.xdg_packed.proofs.Prefixes.{numbers_alone}
@@ -179,15 +179,10 @@ module _ (entries : List Entry) (entry : Entry) (old new : List Table) (equal : 
     pub keys_more : (grown : List (List ℕ)) → grown ≡ keys ++ text ∷ [] → AreKeys new grown (length entries + 1)
     keys_more grown more = subst (λ ks. AreKeys new ks (length entries + 1)) (sym more) (record {
       as_many = length-append keys (text ∷ []) ∙ ap (λ n. n + 1) keyed.as_many;
-      each = λ n below. by n below (cases_lt n (length entries));
+      each = λ n below. each_pushed (λ k t. t ≡ key new k) keys text []
+          (λ k inside. let within = subst (λ size. k < size) keyed.as_many inside in keyed.each k within ∙ ap numbers (sym (places_stay k within)))
+          (is ∙ ap (key new) (sym keyed.as_many)) n (subst (λ size. n < size) (sym (length-append keys (text ∷ []) ∙ ap (λ k. k + 1) keyed.as_many)) below);
     })
-      where
-        by : (n : ℕ) → n < length entries + 1 → (n < length entries) ⊎ (length entries ≤ n) → get_or (keys ++ text ∷ []) n [] ≡ key new n
-        by n below (inl within) = get_or-append keys (text ∷ []) [] n (let size = keyed.as_many in omega (arith, size, within)) ∙ keyed.each n within ∙ ap numbers (sym (places_stay n within))
-        by n below (inr past) =
-            let last : n ≡ length keys = (let size = keyed.as_many in omega (arith, size, below, past)) in
-            let end : length entries ≡ n = omega (arith, below, past) in
-            ap (λ k. get_or (keys ++ text ∷ []) k []) last ∙ get_or-append_seam keys text [] [] ∙ is ∙ ap (key new) end
 
     -- ---- the entry is taken back
 

@@ -1,6 +1,7 @@
 -- The first entry with each record of a dimension.
-use Rattle.std.proofs.Common.{◌≡◌, ℕ, ◌<◌, ◌≤◌, List, [], ◌∷◌, ◌++◌, length, get_or, Some, below_more, sym, ap, subst, ◌∙◌, arith, All}
-use Rattle.std.proofs.lemmas.List.{length-map, get_or-map}
+use Rattle.std.proofs.Common.{◌≡◌, ℕ, ◌<◌, ◌≤◌, List, [], ◌∷◌, ◌++◌, length, get_or, Some, inl, inr, sym, ap, subst, ◌∙◌, arith, All}
+use Rattle.std.proofs.lemmas.Bool.{cases_lt}
+use Rattle.std.proofs.lemmas.List.{length-append, length-map, get_or-map}
 use Rattle.std.proofs.lemmas.Option.{slice_get-get_or}
 use Rattle.std.proofs.Math.ListN.{get_or-append}
 use Rattle.std.proofs.Math.Seq.{get_or-append_seam}
@@ -12,9 +13,14 @@ use Rattle.xdg_facts.specs.Membership.{Differ}
 
 -- ---- one entry more
 
--- what holds of each place of a list and of the next one
-each_more : (P : ℕ → Type 0) (xs : List ℕ) (x : ℕ) → ((k : ℕ) → k < length xs → P k) → P (length xs) → (k : ℕ) → k < length (xs ++ x ∷ []) → P k
-each_more P xs x below here k within = let size = length_more xs x in below_more P (length xs) below here k (omega (arith, size, within))
+-- what holds of what stands at each place of a list, and of what is pushed, holds of what stands at each place then
+pub each_pushed : {A : Type 0} (P : ℕ → A → Type 0) (xs : List A) (x d : A) → ((k : ℕ) → k < length xs → P k (get_or xs k d)) → P (length xs) x → (k : ℕ) → k < length (xs ++ x ∷ []) → P k (get_or (xs ++ x ∷ []) k d)
+each_pushed P xs x d below here k within = elim (cases_lt k (length xs)) [
+  | inl inside ↦ subst (P k) (sym (get_or-append xs (x ∷ []) d k inside)) (below k inside)
+  | inr past ↦
+      let last : length xs ≡ k = (let size = length-append xs (x ∷ []) in omega (arith, size, within, past)) in
+      subst (λ n. P n (get_or (xs ++ x ∷ []) n d)) last (subst (P (length xs)) (sym (get_or-append_seam xs x [] d)) here)
+]
 
 -- an entry with the place of a row keeps it
 still : (places : List ℕ) (place row first : ℕ) → (first < length places) × (get_or places first 0 ≡ row) → (first < length (places ++ place ∷ [])) × (get_or (places ++ place ∷ []) first 0 ≡ row)
@@ -23,9 +29,7 @@ still places place row first (within, is) = (let size = length_more places place
 pub firsts_known : (firsts places : List ℕ) (place : ℕ) → place < length firsts → AreFirsts firsts places → AreFirsts firsts (places ++ place ∷ [])
 firsts_known firsts places place known are = record {
   have = λ row within. still places place row (get_or firsts row 0) (are.have row within);
-  least = each_more (λ entry. get_or firsts (get_or (places ++ place ∷ []) entry 0) 0 ≤ entry) places place
-      (λ entry within. subst (λ p. get_or firsts p 0 ≤ entry) (sym (get_or-append places (place ∷ []) 0 entry within)) (are.least entry within))
-      (subst (λ p. get_or firsts p 0 ≤ length places) (sym (get_or-append_seam places place [] 0)) (let at = are.have place known in let low = at.0 in omega (arith, low)));
+  least = each_pushed (λ entry p. get_or firsts p 0 ≤ entry) places place 0 are.least (let at = are.have place known in let low = at.0 in omega (arith, low));
 }
 
 pub firsts_new : (firsts places : List ℕ) (place number : ℕ) → place ≡ length firsts → number ≡ length places → All (λ k. k < length firsts) places → AreFirsts firsts places → AreFirsts (firsts ++ number ∷ []) (places ++ place ∷ [])
@@ -33,20 +37,12 @@ firsts_new firsts places place number last next within are =
     let more = firsts ++ number ∷ [] in
     let grown = places ++ place ∷ [] in
     record {
-      have = each_more (λ row. (get_or more row 0 < length grown) × (get_or grown (get_or more row 0) 0 ≡ row)) firsts number
-          (λ row inside.
-          subst (λ f. (f < length grown) × (get_or grown f 0 ≡ row)) (sym (get_or-append firsts (number ∷ []) 0 row inside))
-          (still places place row (get_or firsts row 0) (are.have row inside)))
-          (subst (λ f. (f < length grown) × (get_or grown f 0 ≡ length firsts)) (sym (get_or-append_seam firsts number [] 0 ∙ next))
-          (let size = length_more places place in omega (arith, size), get_or-append_seam places place [] 0 ∙ last));
-      least = each_more (λ entry. get_or more (get_or grown entry 0) 0 ≤ entry) places place
-          (λ entry inside.
-          subst (λ f. f ≤ entry)
-          (sym (ap (λ p. get_or more p 0) (get_or-append places (place ∷ []) 0 entry inside) ∙ get_or-append firsts (number ∷ []) 0 (get_or places entry 0) (within entry 0 inside)))
-          (are.least entry inside))
-          (subst (λ f. f ≤ length places)
-          (sym (ap (λ p. get_or more p 0) (get_or-append_seam places place [] 0 ∙ last) ∙ get_or-append_seam firsts number [] 0 ∙ next))
-          (omega arith));
+      have = each_pushed (λ row first. (first < length grown) × (get_or grown first 0 ≡ row)) firsts number 0
+          (λ row inside. still places place row (get_or firsts row 0) (are.have row inside))
+          (let size = length_more places place in omega (arith, size, next), ap (λ k. get_or grown k 0) next ∙ get_or-append_seam places place [] 0 ∙ last);
+      least = each_pushed (λ entry p. get_or more p 0 ≤ entry) places place 0
+          (λ entry inside. subst (λ f. f ≤ entry) (sym (get_or-append firsts (number ∷ []) 0 (get_or places entry 0) (within entry 0 inside))) (are.least entry inside))
+          (subst (λ f. f ≤ length places) (sym (ap (λ p. get_or more p 0) last ∙ get_or-append_seam firsts number [] 0 ∙ next)) (omega arith));
     }
 
 -- ---- the whole

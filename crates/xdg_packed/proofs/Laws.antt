@@ -1,9 +1,8 @@
 -- What is filled is a value that says all, and nothing is filled exactly where a plain part lacks.
-use Rattle.std.proofs.Common.{◌≡◌, ◌⊎◌, ℕ, ◌<◌, ◌≤◌, ◌+◌, zero, suc, List, [], ◌∷◌, Option, None, Some, inl, inr, refl, ap, ap₂, sym, ◌∙◌, arith, subst}
+use Rattle.std.proofs.Common.{◌≡◌, ◌⊎◌, ℕ, ◌<◌, ◌≤◌, ◌+◌, zero, suc, List, [], ◌∷◌, map, Option, None, Some, inl, inr, refl, ap, ap₂, sym, ◌∙◌, arith, subst}
 use Rattle.std.specs.Prelude.{◌↔◌, MatchOption, Result, Ok, Err, IfOk, IfSome}
 use Rattle.std.specs.declared.alloc.AllocError.{AllocError}
 use Rattle.std.specs.List.{range_with_len}
-use Rattle.std.proofs.lemmas.Bool.{cases_eq}
 use Rattle.xdg_domain.specs.Cards.{IsCards}
 use Rattle.xdg_domain.specs.Valencies.{said_at, KeysRise}
 use Rattle.xdg_domain.specs.Shapes.{Shape, set, iset, card, valency, mapping, fields, Fields, no_field, field_then, count, IsType, AreTypes, IsMapped}
@@ -13,7 +12,7 @@ use Rattle.xdg_domain.specs.declared.values.Value.{Value, out-Value}
 use Rattle.xdg_domain.specs.declared.values.Value.TheOpen.{Value-F}
 use Rattle.xdg_domain.specs.declared.values.Value.TheVariants as v
 use Rattle.xdg_domain.proofs.DefaultLaws.{default_is_value, zero_alone, each_wider, IsRight, IsAt, by_layer, differ, taken}
-use Rattle.xdg_domain.proofs.Each.{keyed_rises, keyed_each, keyed_said}
+use Rattle.xdg_domain.proofs.Each.{keyed, keyed_rises, keyed_each, keyed_said}
 use Rattle.xdg_domain.proofs.Keyed.{at_head, after_head, said_right}
 use Rattle.xdg_domain.proofs.Made.{none_and}
 use Rattle.xdg_packed.specs.Filled.{cards_in, cards_said, keys_in, keys_said, fields_in, fields_said, or_zero, each_key, filled_cards, filled, filled_fields, Lacks, SomeLacks, IsSaid, AreValuesOf, AreSaid}
@@ -87,9 +86,10 @@ Decided s said = ((filled s said ≡ None) × Lacks s said) ⊎ ((Lacks s said �
 abbrev AllDecided : ℕ → Fields → List (ℕ × Value) → Type 0
 AllDecided place fs m = ((filled_fields place fs m ≡ None) × SomeLacks place fs m) ⊎ ((SomeLacks place fs m → ⊥) × ((all : List (ℕ × Value)) × (filled_fields place fs m ≡ Some all)))
 
-each_some : (f : ℕ → Option Value) → ((key : ℕ) → (x : Value) × (f key ≡ Some x)) → (keys : List ℕ) → (all : List (ℕ × Value)) × (each_key f keys ≡ Some all)
-each_some f has [] = ([], refl)
-each_some f has (key ∷ keys) = let rest = each_some f has keys in ((key, (has key).0) ∷ rest.0, ap₂ (field_and_defaults key) (has key).1 rest.1)
+-- what is given for each key, where something is
+each_some : (f : ℕ → Option Value) (g : ℕ → Value) → ((key : ℕ) → f key ≡ Some (g key)) → (keys : List ℕ) → each_key f keys ≡ Some (map (λ key. (key, g key)) keys)
+each_some f g has [] = refl
+each_some f g has (key ∷ keys) = ap₂ (field_and_defaults key) (has key) (each_some f g has keys)
 
 found : (u : Shape) (o : Option Value) → IsMapped u → Decided u o → (x : Value) × (filled u o ≡ Some x)
 found u o mapped d = elim d [
@@ -104,9 +104,8 @@ mutual
   decided card h None = inr (λ p. p, (_, refl))
   decided (valency k) h said = inr (λ p. p, (v.Valency (filled_cards (count k) (cards_said said)), refl))
   decided (mapping k u) h said =
-      let f : ℕ → Option Value = λ key. filled u (said_at (keys_said said) key) in
-      let each = each_some f (λ key. found u (said_at (keys_said said) key) h.1.0 (decided u h.1.1 (said_at (keys_said said) key))) (range_with_len 0 (count k)) in
-      inr (λ p. p, (v.Map each.0, ap of_map each.1))
+      let has = λ (key : ℕ). found u (said_at (keys_said said) key) h.1.0 (decided u h.1.1 (said_at (keys_said said) key)) in
+      inr (λ p. p, (v.Map (keyed (λ key. (has key).0) 0 (count k)), ap of_map (each_some (λ key. filled u (said_at (keys_said said) key)) (λ key. (has key).0) (λ key. (has key).1) (range_with_len 0 (count k)))))
   decided (fields fs) h said = elim (all_decided fs h.1 0 (fields_said said)) [
     | inl none ↦ inl (ap record_of_defaults none.0, none.1)
     | inr some ↦ inr (some.0, (v.Rec some.1.0, ap record_of_defaults some.1.1))
@@ -133,51 +132,17 @@ none_lacks s h said = (
 
 -- ---- what it is
 
-head_said : (place : ℕ) (x : Value) (rest all : List (ℕ × Value)) → (place, x) ∷ rest ≡ all → said_at all place ≡ Some x
-head_said place x rest all whole = ap (λ l. said_at l place) (sym whole) ∙ at_head (place, x) rest place refl
+-- what fills the fields from a place on: its keys rise, each has a field and a value of it, and what says the same from there on says all
+abbrev FieldsRight : Fields → ℕ → List (ℕ × Value) → Type 0
+FieldsRight fs place all = KeysRise place all × (EachSaid (IsAt fs place) all × ((n : List (ℕ × Value)) → ((q : ℕ) → place ≤ q → said_at n q ≡ said_at all q) → AreFilled place fs n))
 
-rest_said : (place : ℕ) (x : Value) (rest all : List (ℕ × Value)) (key : ℕ) → (place, x) ∷ rest ≡ all → (place ≡ key → ⊥) → said_at all key ≡ said_at rest key
-rest_said place x rest all key whole other = ap (λ l. said_at l key) (sym whole) ∙ after_head (place, x) rest key other
-
--- the keys of a map
-module _ (f : ℕ → Option Value) (P : Value → Type 0) (holds : (key : ℕ) (x : Value) → f key ≡ Some x → P x) where
-  each_rises : (start n : ℕ) (all : List (ℕ × Value)) → each_key f (range_with_len start n) ≡ Some all → KeysRise start all
-  each_rises start zero all e = subst (KeysRise start) (some_same [] all e) tt
-  each_rises start (suc n) all e =
-      let t = taken start (f start) (each_key f (range_with_len (start + 1) n)) all e in
-      subst (KeysRise start) t.whole (omega arith, each_rises (start + 1) n t.rest t.more)
-
-  each_holds : (bound start n : ℕ) (all : List (ℕ × Value)) → start + n ≤ bound → each_key f (range_with_len start n) ≡ Some all → EachSaid (λ key x. (key < bound) × P x) all
-  each_holds bound start zero all within e = subst (EachSaid (λ key x. (key < bound) × P x)) (some_same [] all e) tt
-  each_holds bound start (suc n) all within e =
-      let t = taken start (f start) (each_key f (range_with_len (start + 1) n)) all e in
-      subst (EachSaid (λ key x. (key < bound) × P x)) t.whole ((omega (arith, within), holds start t.first t.one), each_holds bound (start + 1) n t.rest (omega (arith, within)) t.more)
-
-  each_has : (start n : ℕ) (all : List (ℕ × Value)) → each_key f (range_with_len start n) ≡ Some all → (key : ℕ) → start ≤ key → key < start + n → (x : Value) × ((said_at all key ≡ Some x) × P x)
-  each_has start zero all e key above below = absurd (omega (arith, above, below))
-  each_has start (suc n) all e key above below =
-      let t = taken start (f start) (each_key f (range_with_len (start + 1) n)) all e in
-      elim (cases_eq start key) [
-        | inl same ↦ (t.first, (ap (said_at all) (sym same) ∙ head_said start t.first t.rest all t.whole, holds start t.first t.one))
-        | inr other ↦
-            let later = each_has (start + 1) n t.rest t.more key (omega (arith, above, other)) (omega (arith, below)) in
-            (later.0, (rest_said start t.first t.rest all key t.whole other ∙ later.1.0, later.1.1))
-      ]
-
--- a value of the type that says all
-
-fields_rise : (fs : Fields) (place : ℕ) (m all : List (ℕ × Value)) → filled_fields place fs m ≡ Some all → KeysRise place all
-fields_rise no_field place m all e = subst (KeysRise place) (some_same [] all e) tt
-fields_rise (field_then name u fs) place m all e =
-    let t = taken place (filled u (said_at m place)) (filled_fields (place + 1) fs m) all e in
-    subst (KeysRise place) t.whole (omega arith, fields_rise fs (place + 1) m t.rest t.more)
-
+-- what is filled is a value of the type, and says something of each key and of each field
 mutual
-  right : (s : Shape) → IsType s → (said : Option Value) → IsSaid s said → (x : Value) → filled s said ≡ Some x → IsRight s x
-  right (set s) h None given x e = (default_is_value (set s) h x e, tt)
-  right (iset s) h None given x e = (default_is_value (iset s) h x e, tt)
-  right card h None given x e = (default_is_value card h x e, tt)
-  right (valency k) h said given x e =
+  pub filled_right : (s : Shape) → IsType s → (said : Option Value) → IsSaid s said → (x : Value) → filled s said ≡ Some x → IsRight s x
+  filled_right (set s) h None given x e = (default_is_value (set s) h x e, tt)
+  filled_right (iset s) h None given x e = (default_is_value (iset s) h x e, tt)
+  filled_right card h None given x e = (default_is_value card h x e, tt)
+  filled_right (valency k) h said given x e =
       let m = cards_said said in
       let g : ℕ → List ℕ = λ key. or_zero (said_at m key) in
       let all = filled_cards (count k) m in
@@ -185,64 +150,52 @@ mutual
         (keyed_rises g 0 (count k), keyed_each (λ key ns. (key < count k) × IsCards ns) g (count k) 0 (count k) (omega arith) (λ key below. (below, valency_said k said given key))),
         λ key below. subst (λ o. MatchOption o ⊥ (λ ns. Unit {0})) (sym (keyed_said g 0 (count k) key (omega arith) (omega (arith, below)))) tt,
       )
-  right (mapping k u) h said given x e =
+  filled_right (mapping k u) h said given x e =
       let m = keys_said said in
-      let f : ℕ → Option Value = λ key. filled u (said_at m key) in
-      let each = each_some f (λ key. found u (said_at m key) h.1.0 (decided u h.1.1 (said_at m key))) (range_with_len 0 (count k)) in
-      let all = each.0 in
-      let holds : (key : ℕ) (y : Value) → f key ≡ Some y → IsRight u y = λ key y is. right u h.1.1 (said_at m key) (map_said k u said given key) y is in
-      by_layer (mapping k u) x (v.Map all) (Value-F.Map all) (sym (ap of_map each.1) ∙ e) (v.outs-Map all) (
-        (
-          each_rises f (IsRight u) holds 0 (count k) all each.1,
-          each_wider (λ key y. (key < count k) × IsRight u y) (λ key y. (key < count k) × IsIn u (out-Value y)) (λ key y r. (r.0, r.1.0)) all (each_holds f (IsRight u) holds (count k) 0 (count k) all (omega arith) each.1),
-        ),
-        λ key below.
-            let has = each_has f (IsRight u) holds 0 (count k) all each.1 key (omega arith) (omega (arith, below)) in
-            subst (λ o. MatchOption o ⊥ (λ w. IsFilledIn u (out-Value w))) (sym has.1.0) has.1.1.1,
+      let has = λ (key : ℕ). found u (said_at m key) h.1.0 (decided u h.1.1 (said_at m key)) in
+      let g : ℕ → Value = λ key. (has key).0 in
+      let all = keyed g 0 (count k) in
+      let holds : (key : ℕ) → IsRight u (g key) = λ key. filled_right u h.1.1 (said_at m key) (map_said k u said given key) (g key) (has key).1 in
+      by_layer (mapping k u) x (v.Map all) (Value-F.Map all) (sym (ap of_map (each_some (λ key. filled u (said_at m key)) g (λ key. (has key).1) (range_with_len 0 (count k)))) ∙ e) (v.outs-Map all) (
+        (keyed_rises g 0 (count k), keyed_each (λ key y. (key < count k) × IsIn u (out-Value y)) g (count k) 0 (count k) (omega arith) (λ key below. (below, (holds key).0))),
+        λ key below. subst (λ o. MatchOption o ⊥ (λ w. IsFilledIn u (out-Value w))) (sym (keyed_said g 0 (count k) key (omega arith) (omega (arith, below)))) (holds key).1,
       )
-  right (fields fs) h said given x e = elim (all_decided fs h.1 0 (fields_said said)) [
+  filled_right (fields fs) h said given x e = elim (all_decided fs h.1 0 (fields_said said)) [
     | inl none ↦ absurd (differ (record_of_defaults (filled_fields 0 fs (fields_said said))) x (ap record_of_defaults none.0) e)
     | inr some ↦
-        let m = fields_said said in
         let all = some.1.0 in
-        let are = (record_said fs said given).1 in
+        let told = fields_right fs h.1 0 (fields_said said) (record_said fs said given).1 all some.1.1 in
         by_layer (fields fs) x (v.Rec all) (Value-F.Rec all) (sym (ap record_of_defaults some.1.1) ∙ e) (v.outs-Rec all) (
-          (fields_rise fs 0 m all some.1.1, each_wider (IsAt fs 0) (IsFieldOf fs) (λ k w g. let same : g.0 ≡ k = omega (arith, g.1.0) in subst (λ j. IsFieldOf fs j w) same g.1.1) all (fields_each fs h.1 0 m are all some.1.1)),
-          fields_filled fs h.1 0 m are all some.1.1 all (λ q above. refl),
+          (told.0, each_wider (IsAt fs 0) (IsFieldOf fs) (λ k w g. let same : g.0 ≡ k = omega (arith, g.1.0) in subst (λ j. IsFieldOf fs j w) same g.1.1) all told.1.0),
+          told.1.1 all (λ q above. refl),
         )
   ]
-  right s h None given x e = absurd (cc)
-  right s h (Some y) given x e = (subst (IsValue s) (some_same y x e) given, tt)
+  filled_right s h None given x e = absurd (cc)
+  filled_right s h (Some y) given x e = (subst (IsValue s) (some_same y x e) given, tt)
 
-  fields_each : (fs : Fields) → AreTypes fs → (place : ℕ) (m : List (ℕ × Value)) → AreSaid place fs m → (all : List (ℕ × Value)) → filled_fields place fs m ≡ Some all → EachSaid (IsAt fs place) all
-  fields_each no_field h place m are all e = subst (EachSaid (IsAt no_field place)) (some_same [] all e) tt
-  fields_each (field_then name u fs) h place m are all e =
+  fields_right : (fs : Fields) → AreTypes fs → (place : ℕ) (m : List (ℕ × Value)) → AreSaid place fs m → (all : List (ℕ × Value)) → filled_fields place fs m ≡ Some all → FieldsRight fs place all
+  fields_right no_field h place m are all e = subst (FieldsRight no_field place) (some_same [] all e) (tt, (tt, λ n same. tt))
+  fields_right (field_then name u fs) h place m are all e =
       let t = taken place (filled u (said_at m place)) (filled_fields (place + 1) fs m) all e in
-      subst (EachSaid (IsAt (field_then name u fs) place)) t.whole (
-        (zero, (omega arith, (right u h.0 (said_at m place) are.0 t.first t.one).0)),
-        each_wider (IsAt fs (place + 1)) (IsAt (field_then name u fs) place) (λ k w g. (suc g.0, (omega (arith, g.1.0), g.1.1))) t.rest (fields_each fs h.1 (place + 1) m are.1 t.rest t.more),
+      let first = filled_right u h.0 (said_at m place) are.0 t.first t.one in
+      let rest = fields_right fs h.1 (place + 1) m are.1 t.rest t.more in
+      subst (FieldsRight (field_then name u fs) place) t.whole (
+        (omega arith, rest.0),
+        (
+          ((zero, (omega arith, first.0)), each_wider (IsAt fs (place + 1)) (IsAt (field_then name u fs) place) (λ k w g. (suc g.0, (omega (arith, g.1.0), g.1.1))) t.rest rest.1.0),
+          λ n same. (
+            subst (λ o. MatchOption o ⊥ (λ w. IsFilledIn u (out-Value w))) (sym (same place (omega arith) ∙ at_head (place, t.first) t.rest place refl)) first.1,
+            rest.1.1 n (λ q above. same q (omega (arith, above)) ∙ after_head (place, t.first) t.rest q (λ f. omega (arith, f, above))),
+          ),
+        ),
       )
-
-  fields_filled : (fs : Fields) → AreTypes fs → (place : ℕ) (m : List (ℕ × Value)) → AreSaid place fs m → (all : List (ℕ × Value)) → filled_fields place fs m ≡ Some all → (n : List (ℕ × Value)) → ((q : ℕ) → place ≤ q → said_at n q ≡ said_at all q) → AreFilled place fs n
-  fields_filled no_field h place m are all e n same = tt
-  fields_filled (field_then name u fs) h place m are all e n same =
-      let t = taken place (filled u (said_at m place)) (filled_fields (place + 1) fs m) all e in
-      let here : said_at n place ≡ Some t.first = same place (omega arith) ∙ head_said place t.first t.rest all t.whole in (
-        subst (λ o. MatchOption o ⊥ (λ w. IsFilledIn u (out-Value w))) (sym here) ((right u h.0 (said_at m place) are.0 t.first t.one).1),
-        fields_filled fs h.1 (place + 1) m are.1 t.rest t.more n (λ q above. same q (omega (arith, above)) ∙ rest_said place t.first t.rest all q t.whole (λ f. omega (arith, f, above))),
-      )
-
--- what is filled is a value of the type, and says something of each key and of each field
-
-pub filled_right : (s : Shape) → IsType s → (said : Option Value) → IsSaid s said → (x : Value) → filled s said ≡ Some x → IsValue s x × IsFilled s x
-filled_right s h said given x e = right s h said given x e
 
 -- the same of what an answer tells
 pub told_lacks : (s : Shape) → IsType s → (said : Option Value) (told : Result (Option Value) AllocError) → IfOk told (λ o. o ≡ filled s said) → IfOk told (λ o. (o ≡ None) ↔ Lacks s said)
 told_lacks s h said (Ok o) is = subst (λ p. (p ≡ None) ↔ Lacks s said) (sym is) (none_lacks s h said)
 told_lacks s h said (Err e) is = tt
 
-if_some : (P : Value → Type 0) (o : Option Value) → ((x : Value) → o ≡ Some x → P x) → IfSome o P
+pub if_some : (P : Value → Type 0) (o : Option Value) → ((x : Value) → o ≡ Some x → P x) → IfSome o P
 if_some P None h = tt
 if_some P (Some x) h = h x refl
 

@@ -6,6 +6,7 @@ pub mod Digits
 pub mod Firsts
 pub mod Growing
 pub mod Kept
+pub mod OfTable
 pub mod Packs
 pub mod Prefixes
 pub mod Said

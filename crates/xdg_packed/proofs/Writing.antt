@@ -1,5 +1,5 @@
 -- What is written of a spelling, piece by piece.
-use Rattle.std.proofs.Common.{◌≡◌, ℕ, zero, suc, ◌+◌, ◌-◌, ◌/◌, ◌%◌, ◌<◌, ◌≤◌, Bool, true, false, cond, List, [], ◌∷◌, ◌++◌, filter, refl, sym, ap, ◌∙◌, arith}
+use Rattle.std.proofs.Common.{◌≡◌, ℕ, zero, suc, ◌+◌, ◌-◌, ◌/◌, ◌%◌, ◌<◌, ◌≤◌, Bool, true, false, cond, List, [], ◌∷◌, ◌++◌, filter, refl, sym, ap, subst, ◌∙◌, arith}
 use Rattle.std.proofs.lemmas.List.{append_assoc}
 use Rattle.std.specs.Prelude.{codes}
 use Rattle.std.specs.List.{range_with_len}
@@ -49,31 +49,25 @@ end_written code now after whole rest none e h = e ∙ ap (λ l. now ++ each cod
 -- ---- cardinalities
 
 -- the numbers that are allowed, from one on and below a bound
-pub cards_from : ℕ → List ℕ → ℕ → List ℕ
+unfoldable pub cards_from : ℕ → List ℕ → ℕ → List ℕ
 cards_from bound s n = filter (has s) (range_with_len n (bound - n))
 
 never_true : (b : Bool) → (b ≡ true → ⊥) → b ≡ false
 never_true true h = absurd (h refl)
 never_true false h = refl
 
-range_next : (bound n : ℕ) → n < bound → range_with_len n (bound - n) ≡ n ∷ range_with_len (n + 1) (bound - (n + 1))
-range_next bound n within =
-    let size : bound - n ≡ suc (bound - (n + 1)) = omega (arith, within) in
-    ap (range_with_len n) size
-
-pub from_next : (bound : ℕ) (s : List ℕ) (n : ℕ) → n < bound → cards_from bound s n ≡ cond (has s n) (n ∷ cards_from bound s (n + 1)) (cards_from bound s (n + 1))
+from_next : (bound : ℕ) (s : List ℕ) (n : ℕ) → n < bound → cards_from bound s n ≡ cond (has s n) (n ∷ cards_from bound s (n + 1)) (cards_from bound s (n + 1))
 unfolding cards_from
-from_next bound s n within = ap (filter (has s)) (range_next bound n within)
+from_next bound s n within = ap (λ size. filter (has s) (range_with_len n size)) (let size : bound - n ≡ suc (bound - (n + 1)) = omega (arith, within) in size)
 
-pub card_passed : (bound : ℕ) (s now whole : List ℕ) (n : ℕ) → n < bound → has s n ≡ false → now ++ numbers (cards_from bound s n) ≡ whole → now ++ numbers (cards_from bound s (n + 1)) ≡ whole
-card_passed bound s now whole n within none h =
-    ap (λ l. now ++ numbers l) (sym (from_next bound s n within ∙ ap (λ b. cond b (n ∷ cards_from bound s (n + 1)) (cards_from bound s (n + 1))) none)) ∙ h
+-- what holds of the numbers from one on holds of that number, if it is allowed, and of those from the next on
+pub next_card : (P : List ℕ → Type 0) (bound : ℕ) (s : List ℕ) (n : ℕ) (allowed : Bool) → n < bound → has s n ≡ allowed → P (cards_from bound s n) → P (cond allowed (n ∷ cards_from bound s (n + 1)) (cards_from bound s (n + 1)))
+next_card P bound s n allowed within is h = subst P (from_next bound s n within ∙ ap (λ b. cond b (n ∷ cards_from bound s (n + 1)) (cards_from bound s (n + 1))) is) h
 
 pub card_written : (bound : ℕ) (s now marked after whole : List ℕ) (n : ℕ) → n < bound → has s n ≡ true → marked ≡ now ++ codes "," → after ≡ marked ++ number n
     → now ++ numbers (cards_from bound s n) ≡ whole → after ++ numbers (cards_from bound s (n + 1)) ≡ whole
 card_written bound s now marked after whole n within is m e h =
-    element_written number now marked after whole n (cards_from bound s (n + 1)) m e
-    (ap (λ l. now ++ numbers l) (sym (from_next bound s n within ∙ ap (λ b. cond b (n ∷ cards_from bound s (n + 1)) (cards_from bound s (n + 1))) is)) ∙ h)
+    element_written number now marked after whole n (cards_from bound s (n + 1)) m e (next_card (λ l. now ++ numbers l ≡ whole) bound s n true within is h)
 
 -- no number stands before the least
 before_least : (bound : ℕ) (s : List ℕ) (n : ℕ) → n ≤ bound → ((k : ℕ) → has s k ≡ true → n ≤ k) → cards_from bound s n ≡ cards_from bound s 0
@@ -82,7 +76,7 @@ before_least bound s (suc n) within least =
     let none : has s n ≡ false = never_true (has s n) (λ is. let late = least n is in omega (arith, late)) in
     let next : suc n ≡ n + 1 = omega arith in
     ap (cards_from bound s) next
-    ∙ sym (from_next bound s n (omega (arith, within)) ∙ ap (λ b. cond b (n ∷ cards_from bound s (n + 1)) (cards_from bound s (n + 1))) none)
+    ∙ next_card (λ l. l ≡ cards_from bound s n) bound s n false (omega (arith, within)) none refl
     ∙ before_least bound s n (omega (arith, within)) (λ k is. let late = least k is in omega (arith, late))
 
 pub cards_begin : (s out : List ℕ) (n : ℕ) → n < 128 → ((k : ℕ) → has s k ≡ true → n ≤ k) → out ++ numbers (cards_from 128 s n) ≡ out ++ numbers (cards_from 128 s 0)

@@ -1,7 +1,7 @@
-use Rattle.std.proofs.Common.{◌++◌, sym, arith}
+use Rattle.std.proofs.Common.{◌≡◌, false, ◌++◌, sym, arith}
 use Rattle.std.proofs.lemmas.Result.{on_ok_weaker}
 use Rattle.xdg_packed.specs.Spelling as spec
-use Rattle.xdg_packed.proofs.Writing.{cards_from, cards_begin, card_passed, card_written, cards_end}
+use Rattle.xdg_packed.proofs.Writing.{cards_from, cards_begin, next_card, card_written, cards_end}
 use Rattle.xdg_packed.proofs.spelling.push_cards.Goals as goal
 
 pub loop-number-init : goal.loop-number-init
@@ -9,7 +9,7 @@ loop-number-init c = (cards_begin c.args.cards.now c.args.out.now c.least-number
 
 pub loop-number-preserved-then-not-contains : goal.loop-number-preserved-then-not-contains
 loop-number-preserved-then-not-contains c = (
-  card_passed 128 c.args.cards.now c.loop-number.out (c.args.out.now ++ spec.numbers (cards_from 128 c.args.cards.now 0)) c.loop-number.number
+  next_card (λ l. c.loop-number.out ++ spec.numbers l ≡ c.args.out.now ++ spec.numbers (cards_from 128 c.args.cards.now 0)) 128 c.args.cards.now c.loop-number.number false
       (omega (arith, c.loop-number-test.true, c.greatest-number-end.ensures.below)) (sym c.if-not-contains.ensures.value) c.loop-number.invariant.0,
   λ h. c.contains.ensures.cards,
 )
