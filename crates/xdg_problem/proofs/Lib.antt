@@ -57,6 +57,8 @@ pub mod RowReads
 pub mod Walks
 pub mod Numbered
 pub mod BoxPlaces
+pub mod BoxWithout
+pub mod PlaceFound
 pub mod FormulaFronts
 pub mod Bindings
 pub mod PlacePlans
