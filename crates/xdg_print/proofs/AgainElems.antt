@@ -1,24 +1,22 @@
 -- Terms, elements and pairs of a constant and a term are read again.
-use Rattle.std.proofs.Common.{◌≡◌, ℕ, Bool, true, false, if◌then◌else◌, List, [], ◌∷◌, map, drop, refl, sym, ap, ◌∙◌, subst, inl, inr}
+use Rattle.std.proofs.Common.{◌≡◌, ℕ, Bool, true, false, if◌then◌else◌, List, [], ◌∷◌, map, refl, sym, ap, ◌∙◌, subst, inl, inr}
 use Rattle.xdg_ast.specs.declared.token.Kind.TheVariants as k
 use Rattle.xdg_ast.specs.Lexemes.{Lexeme}
 use Rattle.xdg_ast.specs.Contents.{content_of, value_of}
 use Rattle.xdg_ast.specs.declared.names.Name.{Name}
-use Rattle.xdg_ast.specs.declared.names.Spanned.{Spanned}
 use Rattle.xdg_ast.specs.declared.terms.TermKind.{TermKind}
 use Rattle.xdg_ast.specs.declared.terms.TermKind.TheVariants as t
-use Rattle.xdg_ast.specs.declared.terms.ElemKind.{ElemKind}
 use Rattle.xdg_ast.specs.declared.terms.ElemKind.TheVariants as e
-use Rattle.xdg_ast.specs.Language.{Language, is, token, nothing, made, behind}
-use Rattle.xdg_ast.specs.Grammar.{Params, CardTerm, is_among, is_constant, name_of, number_of, named, inside, under, card, term_kind, term, elem_tail, elem_kind, elem, elems, keyed_term, terms}
+use Rattle.xdg_ast.specs.Language.{Language, is, token, made}
+use Rattle.xdg_ast.specs.Grammar.{Params, is_among, is_constant, name_of, number_of, named, inside, under, card, term_kind, term, elem_tail, elem_kind, elem, elems, keyed_term, terms}
 use Rattle.xdg_base.specs.Spelling.{is_name}
-use Rattle.xdg_ast.specs.Words.{Word, word_of, mark, quoted, constant, IsShortText, IsSpellable}
-use Rattle.xdg_ast.specs.Trees.{name_word, card_words, constant_in, term_words, elem_words}
-use Rattle.xdg_ast.specs.Same.{nowhere, bare_part, bare_name, bare_card, bare_elem, bare_term, bare_terms}
+use Rattle.xdg_ast.specs.Words.{Word, word_of, quoted, constant, IsShortText, IsSpellable}
+use Rattle.xdg_ast.specs.Trees.{constant_in, term_words, elem_words}
+use Rattle.xdg_ast.specs.Same.{nowhere, bare_part, bare_elem, bare_term, bare_terms}
 use Rattle.xdg_print.proofs.AgainTrees.{term_words-Const, term_words-Param, term_words-Number, term_words-Card, term_words-Braces, term_words-Tuple, term_words-Gen, elem_words-Count, elem_words-Keyed, elem_words-Const, elem_words-Tuple, bare_elem_of, bare_term_of}
-use Rattle.xdg_print.proofs.AgainWritten.{Written, written_in, token_written, nothing_written, both_written, made_written, Gives, token_gives, nothing_gives, made_gives, both_gives, either_gives}
-use Rattle.xdg_print.proofs.AgainNames.{Like, Kept, Keeps, constant_kind, constant_says, short_text, name_text, constant_spellable, name_gives, name_written, same_text, small_value, number_written, many_keeps, keyed_keeps}
-use Rattle.xdg_print.proofs.AgainKept.{kept_by, behind_keeps, either_keeps, made_keeps, spanned_keeps}
+use Rattle.xdg_print.proofs.AgainWritten.{Written, token_written, both_written, made_written, Gives, token_gives, made_gives, both_gives, either_gives}
+use Rattle.xdg_print.proofs.AgainNames.{Like, Kept, Keeps, constant_kind, constant_says, short_text, name_text, constant_spellable, name_gives, name_written, small_value, number_written, many_keeps, keyed_keeps}
+use Rattle.xdg_print.proofs.AgainKept.{kept_by, behind_keeps, either_keeps, made_keeps, spanned_keeps, GoodTail, tail_of, no_tail}
 use Rattle.xdg_print.proofs.AgainLevels.{elems_words, pairs_words, Depth, braces_keep}
 use Rattle.xdg_print.proofs.AgainTerms.{bracketed_keeps, card_keeps, gen_keeps}
 use Rattle.xdg_facts.proofs.Truths.{and_false}
@@ -128,52 +126,11 @@ module _ {params : Params} {m n : ℕ} (depth : Depth params m n) where
   -- ---- elements
 
   -- what follows the constant of an element is read again
-  record GoodTail (make : Name → ElemKind) : Type 0 where
-    tail : List Word
-    words_are : (a : Name) → elem_words params (make a) ≡ name_word a ∷ tail
-    read_again : Written (elem_tail params (under params n)) tail (λ other. (a b : Name) → a.text ≡ b.text → Like bare_elem (elem_words params) (other a) (make b))
-
-  keyed_like : (a b : Name) (x y : Spanned TermKind) → a.text ≡ b.text → Like (bare_part bare_term) (λ z. term_words params z.kind) x y → Like bare_elem (elem_words params) (e.Keyed a x) (e.Keyed b y)
-  keyed_like a b x y h i = record {
-    bare = bare_elem_of _ (e.rolls-Keyed a x) ∙ (ap (λ z. e.Keyed z (bare_part bare_term x)) (same_text a b h).bare ∙ (ap (λ z. e.Keyed (bare_name b) z) i.bare ∙ sym (bare_elem_of _ (e.rolls-Keyed b y))));
-    words = elem_words-Keyed params a x ∙ (ap (λ text. constant text ∷ mark k.Colon ∷ term_words params x.kind) h ∙ (ap (λ ws. name_word b ∷ mark k.Colon ∷ ws) i.words ∙ sym (elem_words-Keyed params b y)));
-  }
-
-  count_like : (a b : Name) (x y : CardTerm) → a.text ≡ b.text → Like (bare_part bare_card) (λ z. card_words z.kind) x y → Like bare_elem (elem_words params) (e.Count a x) (e.Count b y)
-  count_like a b x y h i = record {
-    bare = bare_elem_of _ (e.rolls-Count a x) ∙ (ap (λ z. e.Count z (bare_part bare_card x)) (same_text a b h).bare ∙ (ap (λ z. e.Count (bare_name b) z) i.bare ∙ sym (bare_elem_of _ (e.rolls-Count b y))));
-    words = elem_words-Count params a x ∙ (ap (λ text. constant text ∷ card_words x.kind) h ∙ (ap (λ ws. name_word b ∷ ws) i.words ∙ sym (elem_words-Count params b y)));
-  }
-
-  plain_like : (a b : Name) → a.text ≡ b.text → Like bare_elem (elem_words params) (e.Const a) (e.Const b)
-  plain_like a b h = record {
-    bare = bare_elem_of _ (e.rolls-Const a) ∙ (ap e.Const (same_text a b h).bare ∙ sym (bare_elem_of _ (e.rolls-Const b)));
-    words = elem_words-Const params a ∙ (ap (λ text. constant text ∷ []) h ∙ sym (elem_words-Const params b));
-  }
-
-  keyed_tail : Gives (made {B = Name → ElemKind} (λ term name. e.Keyed name term) (behind (token (is k.Colon)) (term params (under params m)))) GoodTail
+  tail_gives : Gives (elem_tail params (under params m)) (GoodTail (elem_tail params (under params n)) bare_elem (elem_words params) (λ ws. ws))
   unfolding elem_tail
-  keyed_tail = made_gives (behind_keeps k.Colon (refl, refl) refl term_keeps).all (λ x h. record {
-    tail = mark k.Colon ∷ term_words params x.kind;
-    words_are = λ a. elem_words-Keyed params a x;
-    read_again = written_in (made_written h (λ y i a b s. keyed_like a b y x s (record { bare = i.bare; words = ap (drop 1) i.words }))) (λ ts y i. inl i);
-  })
-
-  count_tail : Gives (made {B = Name → ElemKind} (λ card name. e.Count name card) (card (under params m))) GoodTail
-  unfolding elem_tail
-  count_tail = made_gives (card_keeps depth).all (λ x h. record {
-    tail = card_words x.kind;
-    words_are = λ a. elem_words-Count params a x;
-    read_again = written_in (made_written h (λ y i a b s. count_like a b y x s i)) (λ ts y i. inr (inl i));
-  })
-
-  no_tail : Gives (nothing e.Const) GoodTail
-  unfolding elem_tail
-  no_tail = nothing_gives (record { tail = []; words_are = λ a. elem_words-Const params a; read_again = written_in (nothing_written (λ a b s. plain_like a b s)) (λ ts y i. inr (inr i)) })
-
-  tail_gives : Gives (elem_tail params (under params m)) GoodTail
-  unfolding elem_tail
-  tail_gives = either_gives keyed_tail (either_gives count_tail no_tail)
+  tail_gives = either_gives (tail_of (λ term name. e.Keyed name term) (behind_keeps k.Colon (refl, refl) refl term_keeps) (λ x a. bare_elem_of _ (e.rolls-Keyed a x)) (λ x a. elem_words-Keyed params a x) (λ ts y i. inl i))
+      (either_gives (tail_of (λ card name. e.Count name card) (card_keeps depth) (λ x a. bare_elem_of _ (e.rolls-Count a x)) (λ x a. elem_words-Count params a x) (λ ts y i. inr (inl i)))
+      (no_tail e.Const (λ a. bare_elem_of _ (e.rolls-Const a)) (elem_words-Const params) (λ ts y i. inr (inr i))))
 
   elem_kind_keeps : Keeps (elem_kind params (under params m)) (elem_kind params (under params n)) bare_elem (elem_words params)
   unfolding elem_kind

@@ -1,13 +1,15 @@
 -- What the combinators keep, where their parts are kept.
-use Rattle.std.proofs.Common.{◌≡◌, true, List, [], ◌∷◌, ◌++◌, Option, Some, None, refl, sym, ap, ◌∙◌, inl, inr}
+use Rattle.std.proofs.Common.{◌≡◌, true, List, [], ◌∷◌, ◌++◌, Option, Some, None, refl, sym, ap, ap₂, ◌∙◌, inl, inr}
 use Rattle.xdg_ast.specs.declared.token.Kind.{Kind}
 use Rattle.xdg_ast.specs.Lexemes.{Lexeme}
-use Rattle.xdg_ast.specs.Language.{Language, is, token, both, either, spanned, made, behind, pair, optional}
+use Rattle.xdg_ast.specs.declared.names.Name.{Name}
+use Rattle.xdg_ast.specs.Language.{Language, is, token, nothing, both, either, spanned, made, behind, pair, optional}
 use Rattle.xdg_ast.specs.Grammar.{at_span}
-use Rattle.xdg_ast.specs.Words.{Word, mark, IsSpellable}
-use Rattle.xdg_ast.specs.Same.{bare_part, bare_option}
-use Rattle.xdg_print.proofs.AgainWritten.{Written, weaker, at_words, written_in, token_written, nothing_written, made_written, both_written, behind_written, spanned_written, stronger, token_gives, nothing_gives, made_gives, both_gives, behind_gives, either_gives, spanned_gives}
-use Rattle.xdg_print.proofs.AgainNames.{Like, Kept, Keeps}
+use Rattle.xdg_ast.specs.Words.{Word, mark, constant, IsSpellable}
+use Rattle.xdg_ast.specs.Trees.{name_word}
+use Rattle.xdg_ast.specs.Same.{bare_part, bare_option, bare_name}
+use Rattle.xdg_print.proofs.AgainWritten.{Written, weaker, at_words, written_in, token_written, nothing_written, made_written, both_written, behind_written, spanned_written, Gives, stronger, token_gives, nothing_gives, made_gives, both_gives, behind_gives, either_gives, spanned_gives}
+use Rattle.xdg_print.proofs.AgainNames.{Like, Kept, Keeps, same_text}
 
 -- a value whose words are read again
 pub kept_by : {A B : Type 0} {l m : Language A} {b : A → B} {w : A → List Word} {x : A} {ws : List Word} → Written l ws (λ y. Like b w y x) → w x ≡ ws → ((ts : List Lexeme) (y : A) → l.means ts y → m.means ts y) → Kept m b w x
@@ -84,3 +86,31 @@ signed_keeps kind g s k a eb ew incl = record {
 -- a sign that is read, and written by each form behind it
 pub unsigned_keeps : {A B C : Type 0} {l n : Language A} (m : Language C) {b : A → B} {w : A → List Word} → Keeps l n b w → Keeps (behind m l) n b w
 unsigned_keeps m a = record { all = behind_gives m a.all }
+
+-- ---- what is made of a name
+
+-- of names with one text and of values that are alike what is alike is made
+pub named_like : {A A' K B : Type 0} {b' : A → A'} {w' : A → List Word} {b : K → B} {w : K → List Word} (f : A → Name → K) (g : A' → Name → B) (frame : List Word → List Word) → ((x : A) (a : Name) → b (f x a) ≡ g (b' x) (bare_name a))
+    → ((x : A) (a : Name) → w (f x a) ≡ frame (name_word a ∷ w' x)) → (x y : A) (a c : Name) → Like b' w' y x → a.text ≡ c.text → Like b w (f y a) (f x c)
+named_like f g frame eb ew x y a c i s = record {
+  bare = eb y a ∙ (ap₂ g i.bare (same_text a c s).bare ∙ sym (eb x c));
+  words = ew y a ∙ (ap₂ (λ ws text. frame (constant text ∷ ws)) i.words s ∙ sym (ew x c));
+}
+
+-- what a tail makes of a name is written as the name and these words, in a frame; they are read as a tail that makes the same of names with one text
+pub record GoodTail {K B : Type 0} (m : Language (Name → K)) (b : K → B) (w : K → List Word) (frame : List Word → List Word) (make : Name → K) : Type 0 where
+  pub tail : List Word
+  pub words_are : (a : Name) → w (make a) ≡ frame (name_word a ∷ tail)
+  pub read_again : Written m tail (λ other. (a c : Name) → a.text ≡ c.text → Like b w (other a) (make c))
+
+module _ {K B : Type 0} {m : Language (Name → K)} {b : K → B} {w : K → List Word} {frame : List Word → List Word} where
+  pub tail_of : {A A' : Type 0} {l n : Language A} {b' : A → A'} {w' : A → List Word} {f : A → Name → K} (g : A' → Name → B) → Keeps l n b' w' → ((x : A) (a : Name) → b (f x a) ≡ g (b' x) (bare_name a))
+      → ((x : A) (a : Name) → w (f x a) ≡ frame (name_word a ∷ w' x)) → ((ts : List Lexeme) (y : Name → K) → (made f n).means ts y → m.means ts y) → Gives (made f l) (GoodTail m b w frame)
+  tail_of {w' = w'} {f = f} g k eb ew incl =
+      made_gives k.all (λ x h. record { tail = w' x; words_are = ew x; read_again = written_in (made_written h (λ y i a c s. named_like f g frame eb ew x y a c i s)) incl })
+
+  pub no_tail : {f : Name → K} (g : Name → B) → ((a : Name) → b (f a) ≡ g (bare_name a)) → ((a : Name) → w (f a) ≡ frame (name_word a ∷ [])) → ((ts : List Lexeme) (y : Name → K) → (nothing f).means ts y → m.means ts y)
+      → Gives (nothing f) (GoodTail m b w frame)
+  no_tail {f} g eb ew incl =
+      let none : Like {A = Unit {0}} {B = Unit {0}} {W = List Word} (λ z. z) (λ _. []) tt tt = record { bare = refl; words = refl } in
+      nothing_gives (record { tail = []; words_are = ew; read_again = written_in (nothing_written (λ a c s. named_like (λ _ name. f name) (λ _ name. g name) frame (λ _. eb) (λ _. ew) tt tt a c none s)) incl })

@@ -1,19 +1,19 @@
 -- Types are read again.
-use Rattle.std.proofs.Common.{◌≡◌, ℕ, List, [], ◌∷◌, ◌++◌, map, flat_map, refl, sym, ap, ◌∙◌, inl, inr}
+use Rattle.std.proofs.Common.{ℕ, List, [], ◌∷◌, ◌++◌, map, flat_map, refl, ap₂, inl, inr}
 use Rattle.xdg_ast.specs.declared.token.Kind.TheVariants as k
 use Rattle.xdg_ast.specs.declared.names.Name.{Name}
 use Rattle.xdg_ast.specs.declared.names.Pair.{Pair}
 use Rattle.xdg_ast.specs.declared.types.TypeKind.{TypeKind}
 use Rattle.xdg_ast.specs.declared.types.TypeKind.TheVariants as y
-use Rattle.xdg_ast.specs.Language.{is, token, both, made, behind}
-use Rattle.xdg_ast.specs.Grammar.{Params, TypeTerm, in_braces, in_parentheses, inside, under, name, names, type_kind, type_term, keyed_type, keyed_types, braced_tail, braced, more_types, two_types}
-use Rattle.xdg_ast.specs.Words.{Word, mark, constant}
-use Rattle.xdg_ast.specs.Trees.{name_word, names_words, pair_words, type_words, in_braces as between_braces, in_parentheses as parenthesized}
-use Rattle.xdg_ast.specs.Same.{bare_part, bare_name, bare_names, bare_pair, bare_type}
+use Rattle.xdg_ast.specs.Language.{is, token, both, behind}
+use Rattle.xdg_ast.specs.Grammar.{Params, TypeTerm, in_braces, in_parentheses, inside, under, name, type_kind, type_term, keyed_type, keyed_types, braced_tail, braced, more_types, two_types}
+use Rattle.xdg_ast.specs.Words.{Word, mark}
+use Rattle.xdg_ast.specs.Trees.{name_word, pair_words, type_words, in_braces as between_braces, in_parentheses as parenthesized}
+use Rattle.xdg_ast.specs.Same.{bare_part, bare_pair, bare_type}
 use Rattle.xdg_print.proofs.AgainTrees.{type_words-Empty, type_words-Domain, type_words-Rec, type_words-Tuple, type_words-Set, type_words-ISet, type_words-Valency, type_words-Map, type_words-Card, type_words-Bool, type_words-Int, type_words-Str, type_words-Named, bare_type_of}
-use Rattle.xdg_print.proofs.AgainWritten.{Written, written_in, nothing_written, both_written, made_written, Gives, stronger, nothing_gives, made_gives, both_gives, either_gives}
-use Rattle.xdg_print.proofs.AgainNames.{Like, Keeps, name_gives, name_written, name_keeps, names_keeps, same_text, many_keeps, keyed_keeps}
-use Rattle.xdg_print.proofs.AgainKept.{kept_by, sign_keeps, behind_keeps, either_keeps, made_keeps, both_keeps, pair_keeps, spanned_keeps}
+use Rattle.xdg_print.proofs.AgainWritten.{written_in, nothing_written, both_written, Gives, stronger, nothing_gives, both_gives, either_gives}
+use Rattle.xdg_print.proofs.AgainNames.{Keeps, name_gives, name_written, name_keeps, names_keeps, many_keeps, keyed_keeps}
+use Rattle.xdg_print.proofs.AgainKept.{kept_by, sign_keeps, behind_keeps, either_keeps, made_keeps, both_keeps, pair_keeps, spanned_keeps, named_like, GoodTail, tail_of}
 use Rattle.xdg_print.proofs.AgainLevels.{types_words, two_words, bare_two, GoodBraced, Depth, nested_gives, nested_written, parentheses_keep}
 use Rattle.xdg_ast.proofs.Bared.{bare_type_rec, bare_type_tuple, bare_type_set, bare_type_iset, bare_type_valency}
 
@@ -73,52 +73,26 @@ module _ {params : Params} {m n : ℕ} (depth : Depth params m n) where
 
   -- ---- between braces
 
+  abbrev GoodTypes : (Name → TypeKind) → Type 0
+  GoodTypes = GoodTail (braced_tail (under params n)) bare_type type_words between_braces
+
+  abbrev record_of : TypeTerm × List (Pair TypeTerm) → Name → TypeKind
+  record_of said name = y.Rec (record { key = name; value = said.0 } ∷ said.1)
+
   -- what follows the first constant is read again
-  record GoodTail (make : Name → TypeKind) : Type 0 where
-    tail : List Word
-    words_are : (a : Name) → type_words (make a) ≡ between_braces (name_word a ∷ tail)
-    read_again : Written (braced_tail (under params n)) tail (λ other. (a b : Name) → a.text ≡ b.text → Like bare_type type_words (other a) (make b))
-
-  abbrev record_of : TypeTerm → List (Pair TypeTerm) → Name → TypeKind
-  record_of value others name = y.Rec (record { key = name; value = value } ∷ others)
-
-  abbrev domain_of : List Name → Name → TypeKind
-  domain_of others name = y.Domain (name ∷ others)
-
-  record_like : (a b : Name) (x z : TypeTerm) (xs zs : List (Pair TypeTerm)) → a.text ≡ b.text → Like (bare_part bare_type) (λ v. mark k.Colon ∷ one_words v) x z → Like bare_pairs pairs_of_types xs zs
-      → Like bare_type type_words (record_of x xs a) (record_of z zs b)
-  record_like a b x z xs zs h i j = record {
-    bare = bare_type_rec (record { key = a; value = x } ∷ xs) ∙ (ap (λ c. y.Rec (record { key = c; value = bare_part bare_type x } ∷ bare_pairs xs)) (same_text a b h).bare
-        ∙ (ap (λ v. y.Rec (record { key = bare_name b; value = v } ∷ bare_pairs xs)) i.bare ∙ (ap (λ vs. y.Rec (record { key = bare_name b; value = bare_part bare_type z } ∷ vs)) j.bare ∙ sym (bare_type_rec (record { key = b; value = z } ∷ zs)))));
-    words = type_words-Rec (record { key = a; value = x } ∷ xs) ∙ (ap (λ text. between_braces (constant text ∷ ((mark k.Colon ∷ one_words x) ++ pairs_of_types xs))) h
-        ∙ (ap (λ ws. between_braces (name_word b ∷ (ws ++ pairs_of_types xs))) i.words ∙ (ap (λ ws. between_braces (name_word b ∷ ((mark k.Colon ∷ one_words z) ++ ws))) j.words ∙ sym (type_words-Rec (record { key = b; value = z } ∷ zs)))));
-  }
-
-  domain_like : (a b : Name) (xs zs : List Name) → a.text ≡ b.text → Like bare_names names_words xs zs → Like bare_type type_words (domain_of xs a) (domain_of zs b)
-  domain_like a b xs zs h j = record {
-    bare = bare_type_of _ (y.rolls-Domain (a ∷ xs)) ∙ (ap (λ c. y.Domain (c ∷ bare_names xs)) (same_text a b h).bare ∙ (ap (λ vs. y.Domain (bare_name b ∷ vs)) j.bare ∙ sym (bare_type_of _ (y.rolls-Domain (b ∷ zs)))));
-    words = type_words-Domain (a ∷ xs) ∙ (ap (λ text. between_braces (constant text ∷ names_words xs)) h ∙ (ap (λ ws. between_braces (name_word b ∷ ws)) j.words ∙ sym (type_words-Domain (b ∷ zs))));
-  }
-
-  record_tail : Gives (both {C = Name → TypeKind} record_of (behind (token (is k.Colon)) (type_term (under params m))) (keyed_types (under params m))) GoodTail
+  record_tail : Gives (both {C = Name → TypeKind} (λ value others. record_of (value, others)) (behind (token (is k.Colon)) (type_term (under params m))) (keyed_types (under params m))) GoodTypes
   unfolding braced_tail
   record_tail = both_gives (behind_keeps k.Colon (refl, refl) refl type_keeps).all keyed_types_keep.all (λ x xs g h. record {
     tail = (mark k.Colon ∷ one_words x) ++ pairs_of_types xs;
     words_are = λ a. type_words-Rec (record { key = a; value = x } ∷ xs);
-    read_again = written_in (both_written g h (λ z zs i j a b s. record_like a b z x zs xs s i j)) (λ ts z i. inl i);
+    read_again = written_in (both_written g h (λ z zs i j a c s. named_like {b' = λ said. (bare_part bare_type said.0, bare_pairs said.1)} {w' = λ said. (mark k.Colon ∷ one_words said.0) ++ pairs_of_types said.1}
+        record_of record_of between_braces (λ said name. bare_type_rec (record { key = name; value = said.0 } ∷ said.1)) (λ said name. type_words-Rec (record { key = name; value = said.0 } ∷ said.1))
+        (x, xs) (z, zs) a c (record { bare = ap₂ (λ p q. (p, q)) i.bare j.bare; words = ap₂ (λ p q. p ++ q) i.words j.words }) s)) (λ ts z i. inl i);
   })
 
-  domain_tail : Gives (made {B = Name → TypeKind} domain_of names) GoodTail
+  tail_gives : Gives (braced_tail (under params m)) GoodTypes
   unfolding braced_tail
-  domain_tail = made_gives names_keeps.all (λ xs h. record {
-    tail = names_words xs;
-    words_are = λ a. type_words-Domain (a ∷ xs);
-    read_again = written_in (made_written h (λ zs j a b s. domain_like a b zs xs s j)) (λ ts z i. inr i);
-  })
-
-  tail_gives : Gives (braced_tail (under params m)) GoodTail
-  unfolding braced_tail
-  tail_gives = either_gives record_tail domain_tail
+  tail_gives = either_gives record_tail (tail_of (λ others name. y.Domain (name ∷ others)) names_keeps (λ xs a. bare_type_of _ (y.rolls-Domain (a ∷ xs))) (λ xs a. type_words-Domain (a ∷ xs)) (λ ts z i. inr i))
 
   pub braced_gives : Gives (braced (under params m)) (GoodBraced (braced (under params n)))
   unfolding braced

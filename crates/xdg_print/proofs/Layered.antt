@@ -13,6 +13,7 @@ use Rattle.xdg_domain.specs.declared.values.Value.TheOpen.{Value-F}
 use Rattle.xdg_domain.specs.declared.values.Value.TheVariants as v
 use Rattle.xdg_types.specs.Table.{typed}
 use Rattle.xdg_domain.proofs.Shaped.{by_layer}
+use Rattle.xdg_types.proofs.Kept.{at_place}
 use Rattle.xdg_facts.proofs.Lists.{any_default}
 
 -- ---- types
@@ -34,12 +35,6 @@ of_record ty types is = ap shape is ∙ by_layer (t.Rec types) (Ty-F.Rec types) 
 -- a value of a type is one of its layer
 pub in_layer : (s s' : Shape) (x : Value) (l : Value-F Value) → s ≡ s' → out-Value x ≡ l → IsValue s x → IsIn s' l
 in_layer s s' x l same is h = subst (IsIn s') is (subst (λ r. IsIn r (out-Value x)) same h)
-
--- what holds of each element holds of the one at a place
-pub at_place : {X : Type 0} (All : List X → Type 0) (One : X → Type 0) → ((x : X) (xs : List X) → All (x ∷ xs) → One x × All xs) → (xs : List X) (i : ℕ) (x : X) → All xs → i < length xs → x ≡ get_or xs i x → One x
-at_place All One parts [] i x h within is = absurd (omega (arith, within))
-at_place All One parts (y ∷ xs) zero x h within is = subst One (sym is) (parts y xs h).0
-at_place All One parts (y ∷ xs) (suc i) x h within is = at_place All One parts xs i x (parts y xs h).1 (omega (arith, within)) is
 
 pub below_at : (bound : ℕ) (ns : List ℕ) (i : ℕ) → AllBelow bound ns → i < length ns → get_or ns i 0 < bound
 below_at bound ns i h within = at_place (AllBelow bound) (λ n. n < bound) (λ _ _ h. h) ns i (get_or ns i 0) h within (any_default ns i 0 (get_or ns i 0) within)

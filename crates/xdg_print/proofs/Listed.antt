@@ -8,12 +8,12 @@ use Rattle.xdg_domain.specs.Values.{EachSaid, IsFieldOf, IsIn}
 use Rattle.xdg_domain.specs.declared.values.Value.{out-Value}
 use Rattle.xdg_domain.specs.declared.values.Value.TheVariants as v
 use Rattle.xdg_types.specs.declared.table.DimType.{DimType}
-use Rattle.xdg_types.specs.Table.{Table, Typed, typed, AreFeatures, KeepsDim, KeepDims, ArePlaces, IsTable}
+use Rattle.xdg_types.specs.Table.{Table, typed, KeepDims, ArePlaces, IsTable}
 use Rattle.xdg_packed.specs.Lexicon.{Record, Entry}
-use Rattle.xdg_packed.specs.Entries.{IsEntry, AreEntries, TellsWordPlace}
+use Rattle.xdg_packed.specs.Entries.{IsEntry, TellsWordPlace}
 use Rattle.xdg_print.specs.declared.printer.Printer.{Printer}
 use Rattle.xdg_print.specs.Printed.{put_lines}
-use Rattle.xdg_print.proofs.Layered.{at_place}
+use Rattle.xdg_types.proofs.Kept.{keeps_at, place_below, types_of}
 use Rattle.xdg_print.proofs.Put.{put_lines_append, text_of_lines}
 use Rattle.xdg_print.specs.LexiconText.{dim_line, dim_line_at, dim_lines, entries_line, entry_lines, entries_lines, lexicon_lines, lexicon_text}
 use Rattle.xdg_print.specs.WordPlaces.{place_of_word}
@@ -35,18 +35,11 @@ place_within table (Some at) h = slice_get_within table.used at.0 h.used.0 h.use
 pub used_below : (table : Table) (dims : List DimType) (used : List ℕ) (i : ℕ) → IsTable table → dims ≡ table.dims → used ≡ table.used → i < length used → get_or used i 0 < length dims
 used_below table dims used i h same lent within =
     let places = subst (λ n. ArePlaces n used) (ap length (sym same)) (subst (ArePlaces (length table.dims)) (sym lent) h.used) in
-    at_place (ArePlaces (length dims)) (λ k. k < length dims) (λ _ _ h. (h.0.0, h.1)) used i (get_or used i 0) places within (any_default used i 0 (get_or used i 0) within)
-
-pub kept_at : (dims : List DimType) (i : ℕ) (dim : DimType) → KeepDims dims → i < length dims → dim ≡ get_or dims i dim → KeepsDim dim
-kept_at = at_place KeepDims KeepsDim (λ _ _ h. h)
-
-types_of_features : (all : Typed) → AreFeatures all → AreTypes (fields_of all)
-types_of_features [] h = tt
-types_of_features (one ∷ more) h = (h.0, types_of_features more h.1)
+    place_below (length dims) used i (get_or used i 0) places within (any_default used i 0 (get_or used i 0) within)
 
 -- the features of a used dimension have types
 pub dim_types : (table : Table) (dims : List DimType) (k : ℕ) (dim : DimType) → IsTable table → dims ≡ table.dims → k < length dims → dim ≡ get_or dims k dim → AreTypes (fields_of (typed dim.fields))
-dim_types table dims k dim h same within is = types_of_features (typed dim.fields) (kept_at dims k dim (subst KeepDims (sym same) h.dims) within is).features
+dim_types table dims k dim h same within is = types_of (typed dim.fields) (keeps_at dims k dim (subst KeepDims (sym same) h.dims) within is).features
 
 -- and the record of an entry says values of them
 pub dim_said : (table : Table) (dims : List DimType) (used : List ℕ) (entry : Entry) (i : ℕ) (dim : DimType) (m : Record) → IsEntry table entry → dims ≡ table.dims → used ≡ table.used → i < length used → get_or used i 0 < length dims
@@ -79,9 +72,6 @@ unfolding dim_lines
 all_dims dims used records i p end past before = ap (λ us. put_lines (dim_lines dims us (drop i records)) p) (sym (drop_all i used past)) ∙ before
 
 -- ---- entries
-
-pub entry_at : (table : Table) (entries : List Entry) (i : ℕ) (entry : Entry) → AreEntries table entries → i < length entries → entry ≡ get_or entries i [] → IsEntry table entry
-entry_at table entries i entry h within is = at_place (AreEntries table) (IsEntry table) (λ _ _ h. h) entries i entry h within (is ∙ any_default entries i [] entry within)
 
 -- the lines of the entry at a place were added
 pub next_entry : {q end : Printer} (p : Printer) (table : Table) (place : Option (ℕ × ℕ)) (entries : List Entry) (i : ℕ) (entry : Entry) → i < length entries → entry ≡ get_or entries i []

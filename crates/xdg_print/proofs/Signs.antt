@@ -1,5 +1,5 @@
 -- Cardinalities that a sign stands for, and the numbers of the others.
-use Rattle.std.proofs.Common.{◌≡◌, ℕ, suc, ◌<◌, ◌≤◌, ◌+◌, ◌-◌, List, [], ◌∷◌, Bool, true, false, cond, nat_lt, map, filter, refl, sym, ap, ◌∙◌, true≢false, inl, inr, arith}
+use Rattle.std.proofs.Common.{◌≡◌, ℕ, ◌<◌, ◌≤◌, ◌+◌, ◌-◌, List, [], ◌∷◌, Bool, true, false, nat_lt, map, filter, refl, sym, ap, ◌∙◌, true≢false, inl, inr, arith}
 use Rattle.std.specs.Prelude.{◌↔◌, ◌||◌, ◌==◌}
 use Rattle.std.specs.List.{range_with_len}
 use Rattle.std.specs.Str.{bytes_eq}
@@ -10,6 +10,7 @@ use Rattle.xdg_ast.specs.Words.{number}
 use Rattle.xdg_domain.specs.Cards.{cards, with_card, IsCards}
 use Rattle.xdg_print.specs.declared.printer.Printer.{Printer}
 use Rattle.xdg_print.specs.Printed.{put}
+use Rattle.xdg_packed.proofs.Writing.{cards_from, next_card, all_from}
 use Rattle.xdg_facts.proofs.Truths.{or_true}
 use Rattle.xdg_facts.specs.Rises.{has, numbers_below}
 use Rattle.xdg_facts.proofs.Rising.{numbers_agree, has_of}
@@ -56,34 +57,15 @@ zero_refused s with_it b is none with exact = (
 
 -- ---- numbers
 
--- the numbers that are allowed, from one on and below a bound
-pub cards_from : ℕ → List ℕ → ℕ → List ℕ
-cards_from bound s n = filter (has s) (range_with_len n (bound - n))
-
-from_next : (bound : ℕ) (s : List ℕ) (n : ℕ) → n < bound → cards_from bound s n ≡ cond (has s n) (n ∷ cards_from bound s (n + 1)) (cards_from bound s (n + 1))
-unfolding cards_from
-from_next bound s n within =
-    let size : bound - n ≡ suc (bound - (n + 1)) = omega (arith, within) in
-    ap (λ k. filter (has s) (range_with_len n k)) size
-
-pub card_passed : (bound : ℕ) (s : List ℕ) (n : ℕ) (p end : Printer) → n < bound → has s n ≡ false → put (map number (cards_from bound s n)) p ≡ end → put (map number (cards_from bound s (n + 1))) p ≡ end
-card_passed bound s n p end within none before =
-    ap (λ l. put (map number l) p) (sym (from_next bound s n within ∙ ap (λ b. cond b (n ∷ cards_from bound s (n + 1)) (cards_from bound s (n + 1))) none)) ∙ before
-
 pub card_put : (bound : ℕ) (s : List ℕ) (n m : ℕ) (p q end : Printer) → n < bound → has s n ≡ true → m ≡ n → q ≡ put (number m ∷ []) p → put (map number (cards_from bound s n)) p ≡ end → put (map number (cards_from bound s (n + 1))) q ≡ end
 card_put bound s n m p q end within some same added before =
-    ap (put (map number (cards_from bound s (n + 1)))) (added ∙ ap (λ k. put (number k ∷ []) p) same)
-    ∙ ap (λ l. put (map number l) p) (sym (from_next bound s n within ∙ ap (λ b. cond b (n ∷ cards_from bound s (n + 1)) (cards_from bound s (n + 1))) some)) ∙ before
+    ap (put (map number (cards_from bound s (n + 1)))) (added ∙ ap (λ k. put (number k ∷ []) p) same) ∙ next_card (λ l. put (map number l) p ≡ end) bound s n true within some before
 
 none_from : (bound n : ℕ) (s : List ℕ) → bound ≤ n → cards_from bound s n ≡ []
 unfolding cards_from
 none_from bound n s over =
     let size : bound - n ≡ 0 = omega (arith, over) in
     ap (λ k. filter (has s) (range_with_len n k)) size
-
-all_from : (s : List ℕ) → IsCards s → s ≡ cards_from 128 s 0
-unfolding cards_from numbers_below
-all_from s is = is.whole
 
 pub cards_end : (s : List ℕ) (n : ℕ) (p start : Printer) → 128 ≤ n → IsCards s → put (map number (cards_from 128 s n)) p ≡ put (map number (cards_from 128 s 0)) start → p ≡ put (map number s) start
 cards_end s n p start over is before =

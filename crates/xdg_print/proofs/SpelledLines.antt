@@ -15,6 +15,7 @@ use Rattle.xdg_ast.specs.declared.grammar.StatementKind.TheVariants as s
 use Rattle.xdg_ast.specs.declared.grammar.Grammar.{Grammar}
 use Rattle.xdg_ast.specs.Words.{Word, word_of, AreSpellable}
 use Rattle.xdg_ast.specs.Canon.{Line, indented, part_words, statement_lines, spelling, is_tight_behind, is_tight, gap, joined, line_text, lines_of, canon}
+use Rattle.xdg_print.proofs.AgainWritten.{spellable-split}
 use Rattle.xdg_print.proofs.SpelledTexts.{AreBytesOf, no_bytes, bytes_append, bytes_utf8, bytes_chars, ascii_bytes, all_pass, weaker_test}
 use Rattle.xdg_print.proofs.SpelledNames.{Says}
 use Rattle.xdg_print.proofs.SpelledWords.{characters, word_bytes, word_says, tight_stops}
@@ -87,14 +88,6 @@ AreIndented (line ∷ lines) = EachPasses is_space line.indent × AreIndented li
 abbrev words_in : List Line → List Word
 words_in lines = flat_map (λ line. line.words) lines
 
-front_spellable : (words more : List Word) → AreSpellable (words ++ more) → AreSpellable words
-front_spellable [] more good = tt
-front_spellable (word ∷ words) more good = (good.0, front_spellable words more good.1)
-
-rest_spellable : (words more : List Word) → AreSpellable (words ++ more) → AreSpellable more
-rest_spellable [] more good = good
-rest_spellable (word ∷ words) more good = rest_spellable words more good.1
-
 lines_characters : List Line → List ℕ
 lines_characters [] = []
 lines_characters (line ∷ lines) = line.indent ++ joined_characters None line.words (10 ∷ lines_characters lines)
@@ -107,8 +100,8 @@ lines_bytes (line ∷ lines) spaces good =
     subst (AreBytesOf (lines_characters (line ∷ lines)))
     (sym (append_assoc line.indent (joined None line.words ++ 10 ∷ []) more ∙ ap (λ l. line.indent ++ l) (append_assoc (joined None line.words) (10 ∷ []) more)))
     (bytes_append line.indent line.indent _ _ (spaces_bytes line.indent spaces.0)
-    (joined_bytes None line.words (10 ∷ lines_characters lines) (10 ∷ more) (front_spellable line.words (words_in lines) good)
-    (bytes_append (10 ∷ []) (10 ∷ []) (lines_characters lines) more (ascii_bytes (10 ∷ []) refl) (lines_bytes lines spaces.1 (rest_spellable line.words (words_in lines) good)))))
+    (joined_bytes None line.words (10 ∷ lines_characters lines) (10 ∷ more) (spellable-split line.words (words_in lines) good).0
+    (bytes_append (10 ∷ []) (10 ∷ []) (lines_characters lines) more (ascii_bytes (10 ∷ []) refl) (lines_bytes lines spaces.1 (spellable-split line.words (words_in lines) good).1))))
 
 nothing_says : Says [] []
 nothing_says at = ([], finished at, refl)
@@ -118,7 +111,7 @@ unfolding lines_characters
 lines_say [] spaces good = nothing_says
 lines_say (line ∷ lines) spaces good =
     spaces_say line.indent _ (words_in (line ∷ lines)) spaces.0
-    (joined_says None line.words (lines_characters lines) (words_in lines) (front_spellable line.words (words_in lines) good) (lines_say lines spaces.1 (rest_spellable line.words (words_in lines) good)))
+    (joined_says None line.words (lines_characters lines) (words_in lines) (spellable-split line.words (words_in lines) good).0 (lines_say lines spaces.1 (spellable-split line.words (words_in lines) good).1))
 
 -- lines of words that can be spelled are the text of tokens that say these words
 pub spells_again : (lines : List Line) → AreIndented lines → AreSpellable (flat_map (λ line. line.words) lines)

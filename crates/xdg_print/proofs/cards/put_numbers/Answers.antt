@@ -1,7 +1,8 @@
-use Rattle.std.proofs.Common.{refl, sym, map, arith}
+use Rattle.std.proofs.Common.{◌≡◌, false, refl, sym, map, arith}
 use Rattle.xdg_ast.specs.Words.{number}
 use Rattle.xdg_print.specs.Printed.{put}
-use Rattle.xdg_print.proofs.Signs.{card_passed, card_put, cards_end, cards_from}
+use Rattle.xdg_packed.proofs.Writing.{cards_from, next_card}
+use Rattle.xdg_print.proofs.Signs.{card_put, cards_end}
 use Rattle.xdg_print.proofs.cards.put_numbers.Goals as goal
 
 pub loop-number-init : goal.loop-number-init
@@ -9,7 +10,7 @@ loop-number-init c = (refl, λ h. absurd (omega (arith, h)))
 
 pub loop-number-preserved-then-not-contains : goal.loop-number-preserved-then-not-contains
 loop-number-preserved-then-not-contains c = (
-  card_passed 128 c.args.cards.now c.loop-number.number c.loop-number.printer (put (map number (cards_from 128 c.args.cards.now 0)) c.args.printer.now)
+  next_card (λ l. put (map number l) c.loop-number.printer ≡ put (map number (cards_from 128 c.args.cards.now 0)) c.args.printer.now) 128 c.args.cards.now c.loop-number.number false
       c.loop-number-test.true (sym c.if-not-contains.ensures.value) c.loop-number.invariant.0,
   λ h. c.contains.ensures.cards,
 )

@@ -1,5 +1,6 @@
 use Rattle.std.proofs.Common.{arith}
-use Rattle.xdg_print.proofs.Listed.{entry_at, next_entry, all_entries}
+use Rattle.xdg_packed.proofs.OfTable.{entry_at}
+use Rattle.xdg_print.proofs.Listed.{next_entry, all_entries}
 use Rattle.xdg_print.proofs.listing.put_entries.Goals as goal
 
 pub put_entry-requires-clause-entry : goal.put_entry-requires-clause-entry
