@@ -61,23 +61,19 @@ module _ (set : EntrySet) (entry : Entry) (right : AreKept (kept set) set) (equa
         columns_are : map records back.tables.items ≡ columns (kept set)
         columns_are = back_columns (kept set) entry old new.tables.items equal right.tables_are adds set.keys text right.keyed key_is there back.tables.items spelled.right long less
 
-        whole : (kept set_back ≡ kept set) × AreKept (kept set_back) set_back
-        whole = as_kept (kept set) set_back (sym (many set)) (record {
-          equal = right.equal;
-          few = right.few;
-          tables_are = columns_are;
-          spelled = subst (AreTables back.tables.items) (sym same)
-              (back_tables (kept set) entry old new.tables.items equal right.tables_are adds set.keys text right.keyed key_is there back.tables.items spelled.right long less new.spellings.items spelled);
-          counted = subst (λ all. CountsRows all set.rows) (right.tables_are ∙ sym columns_are) right.counted;
-          keyed = subst (λ ks. AreKeys back.tables.items ks (length (kept set))) (sym (stands_already set.keys keys text added told grown known).1)
-              (back_keys (kept set) entry old new.tables.items equal right.tables_are adds set.keys text right.keyed key_is there back.tables.items spelled.right long less);
-        })
-
-        pub right_back : AreKept (kept set_back) set_back
-        right_back = whole.1
-
-        pub known_entry : In (kept set) entry × (kept set_back ≡ kept set)
-        known_entry = (there, whole.0)
+        pub back_kept : AreKept (kept set_back) set_back × (In (kept set) entry × (kept set_back ≡ kept set))
+        back_kept =
+            let whole = as_kept (kept set) set_back (sym (many set)) (record {
+              equal = right.equal;
+              few = right.few;
+              tables_are = columns_are;
+              spelled = subst (AreTables back.tables.items) (sym same)
+                  (back_tables (kept set) entry old new.tables.items equal right.tables_are adds set.keys text right.keyed key_is there back.tables.items spelled.right long less new.spellings.items spelled);
+              counted = subst (λ all. CountsRows all set.rows) (right.tables_are ∙ sym columns_are) right.counted;
+              keyed = subst (λ ks. AreKeys back.tables.items ks (length (kept set))) (sym (stands_already set.keys keys text added told grown known).1)
+                  (back_keys (kept set) entry old new.tables.items equal right.tables_are adds set.keys text right.keyed key_is there back.tables.items spelled.right long less);
+            }) in
+            (whole.1, (there, whole.0))
 
       -- it is new
       module _ (new_key : added ≡ true) (rows : ℕ) (counted : CountsRows (map records new.tables.items) rows) (below : set.count < 2 ^ 32 - 1) where
@@ -87,22 +83,18 @@ module _ (set : EntrySet) (entry : Entry) (right : AreKept (kept set) set) (equa
         size : set.count + 1 ≡ length (kept set ++ entry ∷ [])
         size = ap (λ n. n + 1) (sym (many set)) ∙ sym (length-append (kept set) (entry ∷ []))
 
-        more : (kept set_more ≡ kept set ++ entry ∷ []) × AreKept (kept set_more) set_more
-        more = as_kept (kept set ++ entry ∷ []) set_more size (record {
-          equal = equal;
-          few = let e = size in omega (arith, e, below);
-          tables_are = grown_columns (kept set) entry old new.tables.items equal right.tables_are adds;
-          spelled = spelled;
-          counted = counted;
-          keyed = subst (AreKeys new.tables.items keys) (sym (length-append (kept set) (entry ∷ [])))
-              (keys_more (kept set) entry old new.tables.items equal right.tables_are adds set.keys text right.keyed key_is keys (goes_last set.keys keys text added told grown new_key).1);
-        })
+        absent : In (kept set) entry → ⊥
+        absent = fresh (kept set) entry old new.tables.items equal right.tables_are adds set.keys text right.keyed key_is spelled.right (goes_last set.keys keys text added told grown new_key).0
 
-        pub right_more : AreKept (kept set_more) set_more
-        right_more = more.1
-
-        pub new_entry : (In (kept set) entry → ⊥) × (kept set_more ≡ kept set ++ entry ∷ [])
-        new_entry = (
-          fresh (kept set) entry old new.tables.items equal right.tables_are adds set.keys text right.keyed key_is spelled.right (goes_last set.keys keys text added told grown new_key).0,
-          more.0,
-        )
+        pub more_kept : AreKept (kept set_more) set_more × ((In (kept set) entry → ⊥) × (kept set_more ≡ kept set ++ entry ∷ []))
+        more_kept =
+            let more = as_kept (kept set ++ entry ∷ []) set_more size (record {
+              equal = equal;
+              few = let e = size in omega (arith, e, below);
+              tables_are = grown_columns (kept set) entry old new.tables.items equal right.tables_are adds;
+              spelled = spelled;
+              counted = counted;
+              keyed = subst (AreKeys new.tables.items keys) (sym (length-append (kept set) (entry ∷ [])))
+                  (keys_more (kept set) entry old new.tables.items equal right.tables_are adds set.keys text right.keyed key_is keys (goes_last set.keys keys text added told grown new_key).1);
+            }) in
+            (more.1, (absent, more.0))

@@ -73,12 +73,8 @@ valency_said k (Some x) h = valency_layer k (out-Value x) h
 -- ---- whether something lacks
 
 mapped_full : (s : Shape) (said : Option Value) → IsMapped s → Lacks s said → ⊥
-mapped_full (set s) said h p = p
-mapped_full (iset s) said h p = p
-mapped_full card said h p = p
-mapped_full (valency k) said h p = p
-mapped_full (mapping k u) said h p = p
-mapped_full s said h p = h
+mapped_full (fields fs) said h p = h
+mapped_full _ said h p = absurd (assumption (h, p))
 
 abbrev Decided : Shape → Option Value → Type 0
 Decided s said = ((filled s said ≡ None) × Lacks s said) ⊎ ((Lacks s said → ⊥) × ((x : Value) × (filled s said ≡ Some x)))
@@ -139,9 +135,6 @@ FieldsRight fs place all = KeysRise place all × (EachSaid (IsAt fs place) all �
 -- what is filled is a value of the type, and says something of each key and of each field
 mutual
   pub filled_right : (s : Shape) → IsType s → (said : Option Value) → IsSaid s said → (x : Value) → filled s said ≡ Some x → IsRight s x
-  filled_right (set s) h None given x e = (default_is_value (set s) h x e, tt)
-  filled_right (iset s) h None given x e = (default_is_value (iset s) h x e, tt)
-  filled_right card h None given x e = (default_is_value card h x e, tt)
   filled_right (valency k) h said given x e =
       let m = cards_said said in
       let g : ℕ → List ℕ = λ key. or_zero (said_at m key) in
@@ -170,7 +163,7 @@ mutual
           told.1.1 all (λ q above. refl),
         )
   ]
-  filled_right s h None given x e = absurd (cc)
+  filled_right s h None given x e = (default_is_value s h x e, tt)
   filled_right s h (Some y) given x e = (subst (IsValue s) (some_same y x e) given, tt)
 
   fields_right : (fs : Fields) → AreTypes fs → (place : ℕ) (m : List (ℕ × Value)) → AreSaid place fs m → (all : List (ℕ × Value)) → filled_fields place fs m ≡ Some all → FieldsRight fs place all
@@ -195,7 +188,7 @@ pub told_lacks : (s : Shape) → IsType s → (said : Option Value) (told : Resu
 told_lacks s h said (Ok o) is = subst (λ p. (p ≡ None) ↔ Lacks s said) (sym is) (none_lacks s h said)
 told_lacks s h said (Err e) is = tt
 
-pub if_some : (P : Value → Type 0) (o : Option Value) → ((x : Value) → o ≡ Some x → P x) → IfSome o P
+pub if_some : {A : Type 0} (P : A → Type 0) (o : Option A) → ((x : A) → o ≡ Some x → P x) → IfSome o P
 if_some P None h = tt
 if_some P (Some x) h = h x refl
 

@@ -44,12 +44,11 @@ pair_told code k x told y r s e =
 -- texts of one length
 long : (a b r s : List ℕ) → length a ≡ length b → a ++ r ≡ b ++ s → (a ≡ b) × (r ≡ s)
 long [] [] r s same e = (refl, e)
-long [] (y ∷ b) r s same e = absurd (omega (arith, same))
-long (x ∷ a) [] r s same e = absurd (omega (arith, same))
 long (x ∷ a) (y ∷ b) r s same e =
     let shorter : length a ≡ length b = omega (arith, same) in
     let rest = long a b r s shorter (tail_of x y (a ++ r) (b ++ s) e) in
     (ap₂ (λ d ds. d ∷ ds) (head_of x y (a ++ r) (b ++ s) e) rest.0, rest.1)
+long _ _ r s same e = absurd (omega (arith, same))
 
 text_told : (t : List ℕ) → Told text t
 text_told t u r s e =

@@ -1,6 +1,6 @@
 -- The places of words, while further ones are added.
 use Rattle.std.proofs.Common.{◌≡◌, ℕ, suc, ◌+◌, ◌<◌, Bool, true, false, cond, ◌||◌, not, if◌then◌else◌, List, [], ◌∷◌, ◌++◌, length, get_or, map, take, filter, refl, sym, ap, ap₂, subst, inl, inr, ◌∙◌, arith, Some, None, true≢false, slice_set}
-use Rattle.std.specs.Prelude.{Option, Result, OnOk, bytes_eq, option_map}
+use Rattle.std.specs.Prelude.{Option, bytes_eq, option_map}
 use Rattle.std.specs.List.{range_with_len}
 use Rattle.std.proofs.Math.Bool.{or-false}
 use Rattle.std.proofs.Math.ListN.{get_or-append}
@@ -8,7 +8,6 @@ use Rattle.std.proofs.Math.Seq.{get_or-append_seam, take-suc}
 use Rattle.std.proofs.lemmas.Bool.{cases_Bool}
 use Rattle.std.proofs.lemmas.List.{append-nil, map-append, length-map, length-append, length-take-le, get_or-map}
 use Rattle.std.proofs.lemmas.List.Elements.{filter-append}
-use Rattle.std.proofs.lemmas.Result.{on_ok_weaker}
 use Rattle.std.proofs.lemmas.Slice.Eq.{bytes_eq-Decides}
 use Rattle.xdg_base.specs.declared.ids.EntryNo.{EntryNo}
 use Rattle.xdg_names.specs.Texts.{has_text, place_of, AllDiffer}
@@ -53,6 +52,28 @@ numbers_more words last word =
     by : (b : Bool) → map number (cond b (length words ∷ []) []) ≡ cond b (number (length words) ∷ []) []
     by true = refl
     by false = refl
+
+-- ---- places among words
+
+pub place_inside : (words : List (List ℕ)) (word : List ℕ) (place count : ℕ) → place_of words word ≡ Some place → count ≡ length words → place < count
+place_inside words word place count found same =
+    let at = place_of-Some words word place found in
+    omega (arith, at.0, same)
+
+-- as many lists as words
+pub as_many : (said words : List (List ℕ)) (numbers : List (List EntryNo)) → IsWordIndex said words numbers → length numbers ≡ length words
+as_many said words numbers index = ap length index.numbered ∙ length-map words (numbers_of said)
+
+pub word_found : (said words : List (List ℕ)) (numbers : List (List EntryNo)) (word : List ℕ) (place : ℕ) → IsWordIndex said words numbers → place_of words word ≡ Some place → get_or numbers place [] ≡ numbers_of said word
+word_found said words numbers word place index found =
+    let at = place_of-Some words word place found in
+    ap (λ ns. get_or ns place []) index.numbered ∙ get_or-map (numbers_of said) words place [] [] at.0 ∙ ap (numbers_of said) at.1
+
+pub word_unknown : (said words : List (List ℕ)) (numbers : List (List EntryNo)) (word : List ℕ) → IsWordIndex said words numbers → place_of words word ≡ None → numbers_of said word ≡ []
+word_unknown said words numbers word index found = numbers_none said word (sym (index.all word) ∙ place_of-None words word found)
+
+pub place_within : (said words : List (List ℕ)) (numbers : List (List EntryNo)) (word : List ℕ) (place : ℕ) → IsWordIndex said words numbers → place_of words word ≡ Some place → place < length numbers
+place_within said words numbers word place index found = place_inside words word place (length numbers) found (as_many said words numbers index)
 
 -- ---- one word more
 
@@ -115,44 +136,30 @@ module _ (said : List (List ℕ)) (last : List ℕ) where
     | inr f ↦ same ∙ sym (or-false (has_text said word)) ∙ sym (has_text-append said (last ∷ []) word ∙ ap (λ b. has_text said word || (b || false)) f)
   ]
 
-  pub known_word : (words : List (List ℕ)) (numbers : List (List EntryNo)) (place : ℕ) → IsWordIndex said words numbers → place_of words last ≡ Some place
-      → IsWordIndex (said ++ last ∷ []) words (slice_set numbers place (get_or numbers place [] ++ number (length said) ∷ []))
-  known_word words numbers place index found =
+  -- it stands there already, and its entry is pushed to its numbers
+  pub known_word : (words : List (List ℕ)) (numbers : List (List EntryNo)) (place : ℕ) (entry : EntryNo) (old new : List EntryNo) → old ≡ get_or numbers place old → place_of words last ≡ Some place → new ≡ old ++ entry ∷ []
+      → entry.0 ≡ length said → IsWordIndex said words numbers → IsWordIndex (said ++ last ∷ []) words (slice_set numbers place new)
+  known_word words numbers place entry old new lent found pushed is index =
       let at = place_of-Some words last place found in
-      let own : get_or numbers place [] ≡ before last = ap (λ ns. get_or ns place []) index.numbered ∙ get_or-map before words place [] [] at.0 ∙ ap before at.1 in
+      let own : old ≡ before last = lent ∙ any_default numbers place old [] (place_within said words numbers last place index found) ∙ word_found said words numbers last place index found in
       record {
         differ = index.differ;
         all = λ word. still words word (stands-has_text words last place at.0 at.1) (index.all word);
-        numbered = ap₂ (λ ns n. slice_set ns place (n ++ number (length said) ∷ [])) index.numbered own ∙ known_numbers words place index.differ found;
+        numbered = ap₂ (λ ns n. slice_set ns place n) index.numbered (pushed ∙ ap₂ (λ ns n. ns ++ n ∷ []) own (ap number is)) ∙ known_numbers words place index.differ found;
       }
 
-  pub new_word : (words : List (List ℕ)) (numbers : List (List EntryNo)) → IsWordIndex said words numbers → place_of words last ≡ None
-      → IsWordIndex (said ++ last ∷ []) (words ++ last ∷ []) (numbers ++ (number (length said) ∷ []) ∷ [])
-  new_word words numbers index found =
+  -- it is new, and has its entry alone
+  pub new_word : (words more : List (List ℕ)) (numbers grown : List (List EntryNo)) (entry : EntryNo) (added : Bool) (first : List EntryNo) → place_of words last ≡ None → first ≡ entry ∷ [] → grown ≡ numbers ++ first ∷ []
+      → added ≡ not (has_text words last) → more ≡ (if added then words ++ last ∷ [] else words) → entry.0 ≡ length said → IsWordIndex said words numbers → IsWordIndex (said ++ last ∷ []) more grown
+  new_word words more numbers grown entry added first found one pushed told is counted index =
       let none = place_of-None words last found in
-      record {
+      rw (added_last words more last added found told is, pushed) (record {
         differ = AllDiffer-append words last index.differ none;
         all = λ word. has_text-append words (last ∷ []) word ∙ ap (λ b. b || has_text (last ∷ []) word) (index.all word) ∙ sym (has_text-append said (last ∷ []) word);
         numbered = ap₂ (λ ns n. ns ++ n ∷ []) (index.numbered ∙ others words none)
-            (ap (λ l. l ++ number (length said) ∷ []) (sym (numbers_none said last (sym (index.all last) ∙ none))) ∙ sym (same_word last ((bytes_eq-Decides last last).1 refl)))
+            (one ∙ ap (λ n. n ∷ []) (ap number counted) ∙ ap (λ l. l ++ number (length said) ∷ []) (sym (numbers_none said last (sym (index.all last) ∙ none))) ∙ sym (same_word last ((bytes_eq-Decides last last).1 refl)))
             ∙ sym (map-append after words (last ∷ []));
-      }
-
--- ---- looking up
-
-pub word_found : (said words : List (List ℕ)) (numbers : List (List EntryNo)) (word : List ℕ) (place : ℕ) → IsWordIndex said words numbers → place_of words word ≡ Some place → get_or numbers place [] ≡ numbers_of said word
-word_found said words numbers word place index found =
-    let at = place_of-Some words word place found in
-    ap (λ ns. get_or ns place []) index.numbered ∙ get_or-map (numbers_of said) words place [] [] at.0 ∙ ap (numbers_of said) at.1
-
-pub word_unknown : (said words : List (List ℕ)) (numbers : List (List EntryNo)) (word : List ℕ) → IsWordIndex said words numbers → place_of words word ≡ None → numbers_of said word ≡ []
-word_unknown said words numbers word index found = numbers_none said word (sym (index.all word) ∙ place_of-None words word found)
-
-pub place_within : (said words : List (List ℕ)) (numbers : List (List EntryNo)) (word : List ℕ) (place : ℕ) → IsWordIndex said words numbers → place_of words word ≡ Some place → place < length numbers
-place_within said words numbers word place index found =
-    let at = place_of-Some words word place found in
-    let size : length numbers ≡ length words = ap length index.numbered ∙ length-map words (numbers_of said) in
-    omega (arith, at.0, size)
+      })
 
 -- ---- the loop over entries
 
@@ -163,34 +170,6 @@ words_more dim field entries i entry within is =
     ∙ ap (map (word_of dim field)) (take-suc entries i entry within ∙ ap (λ e. take i entries ++ e ∷ []) is)
     ∙ map-append (word_of dim field) (take i entries) (entry ∷ [])
 
--- ---- one word more, in the code
-
-pub place_inside : (words : List (List ℕ)) (word : List ℕ) (place count : ℕ) → place_of words word ≡ Some place → count ≡ length words → place < count
-place_inside words word place count found same =
-    let at = place_of-Some words word place found in
-    omega (arith, at.0, same)
-
-named : (entry : EntryNo) (said : List (List ℕ)) → entry.0 ≡ length said → entry ≡ number (length said)
-named entry said is = ap number is
-
-pub known_pushed : {T E : Type 0} (r : Result T E) (words : List (List ℕ)) (numbers : List (List EntryNo)) (last : List ℕ) (place : ℕ) (entry : EntryNo) (old new : List EntryNo) → old ≡ get_or numbers place old → place_of words last ≡ Some place
-    → OnOk r (new ≡ old ++ entry ∷ []) → OnOk r ((before : List (List ℕ)) → entry.0 ≡ length before → IsWordIndex before words numbers → IsWordIndex (before ++ last ∷ []) words (slice_set numbers place new))
-known_pushed r words numbers last place entry old new lent found ok =
-    on_ok_weaker r
-    (λ e said is index. subst (λ ns. IsWordIndex (said ++ last ∷ []) words (slice_set numbers place ns))
-    (sym (e ∙ ap₂ (λ ns n. ns ++ n ∷ []) (lent ∙ any_default numbers place old [] (place_within said words numbers last place index found)) (named entry said is)))
-    (known_word said last words numbers place index found))
-    ok
-
-pub new_pushed : (words more : List (List ℕ)) (numbers grown : List (List EntryNo)) (last : List ℕ) (entry : EntryNo) (added : Bool) (first : List EntryNo) → place_of words last ≡ None → first ≡ entry ∷ [] → grown ≡ numbers ++ first ∷ []
-    → added ≡ not (has_text words last) → more ≡ (if added then words ++ last ∷ [] else words)
-    → (before : List (List ℕ)) → entry.0 ≡ length before → IsWordIndex before words numbers → IsWordIndex (before ++ last ∷ []) more grown
-new_pushed words more numbers grown last entry added first found one pushed is e said counted index =
-    let more_is : more ≡ words ++ last ∷ [] = added_last words more last added found is e in
-    let grown_is : grown ≡ numbers ++ (number (length said) ∷ []) ∷ [] = pushed ∙ ap (λ ns. numbers ++ ns ∷ []) (one ∙ ap (λ n. n ∷ []) (named entry said counted)) in
-    subst (λ ws. IsWordIndex (said ++ last ∷ []) ws grown) (sym more_is)
-    (subst (λ ns. IsWordIndex (said ++ last ∷ []) (words ++ last ∷ []) ns) (sym grown_is) (new_word said last words numbers index found))
-
 pub index_next : (dim field : ℕ) (entries : List Entry) (i : ℕ) (entry held : Entry) (word : List ℕ) (words more : List (List ℕ)) (numbers grown : List (List EntryNo)) → i < length entries
     → entry ≡ get_or entries i entry → held ≡ entry → word ≡ word_of dim field held
     → ((before : List (List ℕ)) → i ≡ length before → IsWordIndex before words numbers → IsWordIndex (before ++ word ∷ []) more grown)
@@ -200,10 +179,6 @@ index_next dim field entries i entry held word words more numbers grown within i
     subst (λ said. IsWordIndex said more grown)
     (ap (λ w. map (word_of dim field) (take i entries) ++ w ∷ []) (told ∙ ap (word_of dim field) lent) ∙ sym (words_more dim field entries i entry within (sym is)))
     (step (map (word_of dim field) (take i entries)) size index)
-
--- as many lists as words
-pub as_many : (said words : List (List ℕ)) (numbers : List (List EntryNo)) → IsWordIndex said words numbers → length numbers ≡ length words
-as_many said words numbers index = ap length index.numbered ∙ length-map words (numbers_of said)
 
 -- as many lists as words, still
 pub still_as_many : (words more : List (List ℕ)) (last : List ℕ) (added : Bool) (count grown : ℕ) → place_of words last ≡ None → added ≡ not (has_text words last) → more ≡ (if added then words ++ last ∷ [] else words) → count ≡ length words → grown ≡ count + 1 → grown ≡ length more
