@@ -1,9 +1,23 @@
 -- Bindings of names to nodes of the sentence.
-use Rattle.std.proofs.Common.{◌≡◌, ℕ, ◌<◌, Bool, true, false, cond, sym, subst}
-use Rattle.std.specs.Prelude.{◌==◌}
+use Rattle.std.proofs.Common.{◌≡◌, ℕ, ◌<◌, Bool, true, false, cond, List, replicate, sym, ◌∙◌, ap, subst}
+use Rattle.std.specs.Prelude.{◌==◌, slice_index}
+use Rattle.std.proofs.lemmas.Bool.{eq-eqb, eqb-true, false_from_ne_true}
+use Rattle.xdg_facts.proofs.Numbers.{zeros}
 use Rattle.xdg_problem.specs.declared.parts.Parts.{Parts}
 use Rattle.xdg_problem.specs.Places.{nodes}
 use Rattle.xdg_problem.specs.Truths.{bound, unbound, AreNodes}
+
+-- the name that is bound stands for the node, and each other for what it stood for
+
+pub bound_here : (b : ℕ → ℕ) (name node other : ℕ) → other ≡ name → bound b name node other ≡ node
+bound_here b name node other same = ap (λ t. cond t node (b other)) (eq-eqb other name same)
+
+pub bound_else : (b : ℕ → ℕ) (name node other : ℕ) → (other ≡ name → ⊥) → bound b name node other ≡ b other
+bound_else b name node other differ = ap (λ t. cond t node (b other)) (false_from_ne_true (other == name) (λ t. differ (eqb-true other name t)))
+
+-- a table of zeros binds no name
+pub unbound_table : (table : List ℕ) (count : ℕ) → table ≡ replicate count 0 → (λ name. slice_index table name) ≡ unbound
+unbound_table table count is = λ i name. (ap (λ t. slice_index t name) is ∙ zeros count name) i
 
 chosen : (n : ℕ) (is : Bool) (node other : ℕ) → node < n → other < n → cond is node other < n
 chosen n true node other l m = l

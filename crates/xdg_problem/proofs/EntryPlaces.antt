@@ -1,5 +1,5 @@
 -- Entries, and their places among the candidates.
-use Rattle.std.proofs.Common.{◌≡◌, ℕ, ◌<◌, ◌≤◌, inl, inr, List, [], ◌∷◌, ◌++◌, length, get_or, take, refl, ap, ap₂, sym, ◌∙◌, arith, subst, zero, suc, map, cond}
+use Rattle.std.proofs.Common.{◌≡◌, ℕ, ◌<◌, ◌≤◌, inl, inr, List, [], ◌∷◌, ◌++◌, length, get_or, take, refl, ap, ap₂, ◌∙◌, arith, zero, suc, map, cond}
 use Rattle.std.specs.Prelude.{Contains}
 use Rattle.std.specs.List.{AllByRecursion}
 use Rattle.std.proofs.lemmas.Bool.{cases_eq, ne_eqb, eq-eqb}
@@ -29,25 +29,22 @@ place_back (c ∷ cs) (suc k) d o l =
     let b : c.0 < (get_or cs k d).0 = each_at (EntryBefore c) cs k d m o.0 in
     ap (λ b. cond b 0 (suc (place_among cs (get_or cs k d)))) (ne_eqb c.0 (get_or cs k d).0 (λ e. omega (arith, b, e))) ∙ ap suc (place_back cs k d o.1 m)
 
-pub place_within : (candidates : List EntryNo) (e : EntryNo) → Contains candidates e → place_among candidates e < length candidates
-place_within [] e c = absurd (contains_none e c)
-place_within (x ∷ xs) e c = elim (cases_eq x.0 e.0) [
-  | inl s ↦ subst (λ b. cond b 0 (suc (place_among xs e)) < suc (length xs)) (sym (eq-eqb x.0 e.0 s)) (omega arith)
-  | inr n ↦ subst (λ b. cond b 0 (suc (place_among xs e)) < suc (length xs)) (sym (ne_eqb x.0 e.0 n)) (elim (contains_cases x xs e c) [
+-- a candidate stands at its place
+pub entry_found : (candidates : List EntryNo) (e d : EntryNo) → Contains candidates e → (place_among candidates e < length candidates) × (get_or candidates (place_among candidates e) d ≡ e)
+entry_found [] e d c = absurd (contains_none e c)
+entry_found (x ∷ xs) e d c = elim (cases_eq x.0 e.0) [
+  | inl s ↦ rw (eq-eqb x.0 e.0 s) (omega arith, entry_equal x e s)
+  | inr n ↦ rw (ne_eqb x.0 e.0 n) (elim (contains_cases x xs e c) [
     | inl s ↦ absurd (n (ap (λ (z : EntryNo). z.0) s))
-    | inr d ↦ (let h = place_within xs e d in omega (arith, h))
+    | inr h ↦ (let r = entry_found xs e d h in ((let q = r.0 in omega (arith, q)), r.1))
   ])
 ]
 
+pub place_within : (candidates : List EntryNo) (e : EntryNo) → Contains candidates e → place_among candidates e < length candidates
+place_within candidates e c = (entry_found candidates e e c).0
+
 pub entry_back : (candidates : List EntryNo) (e d : EntryNo) → Contains candidates e → get_or candidates (place_among candidates e) d ≡ e
-entry_back [] e d c = absurd (contains_none e c)
-entry_back (x ∷ xs) e d c = elim (cases_eq x.0 e.0) [
-  | inl s ↦ subst (λ b. get_or (x ∷ xs) (cond b 0 (suc (place_among xs e))) d ≡ e) (sym (eq-eqb x.0 e.0 s)) (entry_equal x e s)
-  | inr n ↦ subst (λ b. get_or (x ∷ xs) (cond b 0 (suc (place_among xs e))) d ≡ e) (sym (ne_eqb x.0 e.0 n)) (elim (contains_cases x xs e c) [
-    | inl s ↦ absurd (n (ap (λ (z : EntryNo). z.0) s))
-    | inr h ↦ entry_back xs e d h
-  ])
-]
+entry_back candidates e d c = (entry_found candidates e d c).1
 
 abbrev none : EntryNo
 none = numbered 0

@@ -15,11 +15,9 @@ use Rattle.xdg_problem.specs.Relations.{IsKept}
 use Rattle.xdg_problem.proofs.Tuples.{none_kept, one_kept, two_kept, three_kept, chosen_kept}
 use Rattle.xdg_problem.proofs.Passing.{PassesAt}
 use Rattle.xdg_problem.proofs.EachTest.{Each}
-use Rattle.xdg_problem.proofs.TreeTests.{cycle_tests, root_tests, mother_tests, pair_tests}
-use Rattle.xdg_problem.proofs.ValencyTests.{in_tests, out_tests}
-use Rattle.xdg_problem.proofs.OrderTests.{order_tests, between_tests}
-use Rattle.xdg_problem.proofs.AgreeTests.{agr_tests, agree_tests, govern_tests, below_tests, blocked_tests}
-use Rattle.xdg_problem.proofs.LinkTests.{linked_tests, unlinked_tests}
+use Rattle.xdg_problem.proofs.TreeTests.{cycle_tests, root_tests, mother_tests, in_tests, out_tests}
+use Rattle.xdg_problem.proofs.AskedTests.{pair_tests, order_tests, between_tests, agr_tests, agree_tests, govern_tests, below_tests, blocked_tests, linked_tests, unlinked_tests}
+use Rattle.xdg_problem.proofs.Looking.{asked_alike}
 use Rattle.xdg_facts.proofs.Facts.{then_iff}
 use Rattle.xdg_problem.specs.Principles.{conditions_for, linking_of, way_in}
 
@@ -48,7 +46,7 @@ module _ (parts : Parts) (group : Group) (candidates attrs : List ℕ) (edges : 
   kept_tests principles.Entries is = alone _ _ (none_kept Kept)
   kept_tests principles.Tree is = alone _ _ (
       let cycle = cycle_tests parts group candidates attrs edges some mothers in
-      let root = root_tests parts group candidates attrs edges some mothers in
+      let root = root_tests parts group candidates attrs edges some in
       let mother = mother_tests parts group candidates attrs edges some mothers in
       let all = three_kept Kept conditions.Cycle conditions.Roots conditions.Mothers in (
         λ each. all.0 (cycle.0 each.1, root.0 each.2, mother.0 each.0),
@@ -56,8 +54,8 @@ module _ (parts : Parts) (group : Group) (candidates attrs : List ℕ) (edges : 
       ))
   kept_tests principles.Dag is = alone _ _ (
       let cycle = cycle_tests parts group candidates attrs edges some mothers in
-      let root = root_tests parts group candidates attrs edges some mothers in
-      let pair = pair_tests parts group candidates attrs edges some mothers in
+      let root = root_tests parts group candidates attrs edges some in
+      let pair = pair_tests parts group candidates attrs edges in
       let all = chosen_kept Kept (truth_of group.truths 0) (truth_of group.truths 1) conditions.Cycle conditions.Roots conditions.Pair in (
         λ each. all.0 (cycle.0 each.0, λ e. root.0 (each.1 e), λ e. pair.0 (each.2 e)),
         λ kept. (let k = all.1 kept in (cycle.1 k.0, λ e. root.1 (k.1 e), λ e. pair.1 (k.2 e))),
@@ -79,4 +77,4 @@ module _ (parts : Parts) (group : Group) (candidates attrs : List ℕ) (edges : 
   kept_tests principles.LinkingNotDaughter is = one _ conditions.Link (unlinked_tests parts group candidates attrs edges is)
   kept_tests (principles.Rule formula) is = then_iff _ _ _ (by_empty (principles.Rule formula) is) (one_kept Kept conditions.Rule)
   kept_tests (principles.Bound costs bound) is = then_iff _ _ _ (by_empty (principles.Bound costs bound) is) (one_kept Kept conditions.Bound)
-  kept_tests principle is = one _ conditions.Link (linked_tests parts group candidates attrs edges principle (way_in (linking_of principle)) is (λ c u l v es. (λ asks. asks, λ asks. asks)))
+  kept_tests principle is = one _ conditions.Link (linked_tests parts group candidates attrs edges principle (way_in (linking_of principle)) is (λ c u l v few many same. asked_alike _ _ _ _ (λ some. some, λ some. some) same))

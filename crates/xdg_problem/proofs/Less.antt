@@ -1,8 +1,8 @@
 -- The order of analyses, part by part.
-use Rattle.std.proofs.Common.{◌≡◌, ℕ, ◌<◌, ◌⊎◌, inl, inr, List, [], ◌∷◌, ◌++◌, length, refl, ap, sym, ◌∙◌, arith, subst, suc, map, cond, rules}
-use Rattle.std.specs.Prelude.{Contains, ◌↔◌, ◌==◌}
+use Rattle.std.proofs.Common.{◌≡◌, ℕ, ◌<◌, ◌⊎◌, inl, inr, List, [], ◌∷◌, ◌++◌, length, get_or, refl, ap, sym, ◌∙◌, arith, subst, map, cond, rules}
+use Rattle.std.specs.Prelude.{Contains, ◌↔◌}
 use Rattle.std.specs.List.{AllByRecursion}
-use Rattle.std.proofs.lemmas.Bool.{ne_eqb, eq-eqb}
+use Rattle.std.proofs.lemmas.Bool.{cases_order}
 use Rattle.std.proofs.lemmas.List.Elements.{recursion_from_All}
 use Rattle.xdg_base.specs.declared.ids.EntryNo.{EntryNo}
 use Rattle.xdg_facts.specs.Order.{Less}
@@ -16,9 +16,9 @@ use Rattle.xdg_problem.specs.Vectors.{place_among, entry_places, presence, vecto
 use Rattle.xdg_problem.specs.Analyses.{HasCandidates, Before, IsAnalysis}
 use Rattle.xdg_problem.specs.EdgeOrder.{EdgesLess}
 use Rattle.xdg_problem.specs.Problems.{IsProblem, AreCandidates}
-use Rattle.xdg_problem.proofs.Ordered.{Ordered, each_contained, contains_cases, contains_none, ordered_from_pairs}
+use Rattle.xdg_problem.proofs.Ordered.{Ordered, contains_none, ordered_from_pairs, ordered_pairs}
 use Rattle.xdg_problem.proofs.Edges.{before_irreflexive, before_transitive, before_total}
-use Rattle.xdg_problem.proofs.EntryPlaces.{EntryBefore, entry_equal, length_entry_places}
+use Rattle.xdg_problem.proofs.EntryPlaces.{EntryBefore, entry_equal, entry_found, length_entry_places}
 pub use Rattle.xdg_problem.proofs.Presence.{narrow}
 use Rattle.xdg_problem.proofs.Presence.{rise_ordered, head_cases, present_head, absent_before, presence_skip}
 use Rattle.xdg_problem.proofs.PlaceOrder.{places_ordered}
@@ -38,22 +38,21 @@ less_front x y v w e l = absurd l
 
 -- entries
 
+-- a place that isn't before another has no lesser entry
 place_order : (candidates : List EntryNo) (a b : EntryNo) → Ordered EntryBefore candidates → Contains candidates a → Contains candidates b → a.0 < b.0 → place_among candidates a < place_among candidates b
-place_order [] a b o c d l = absurd (contains_none a c)
-place_order (x ∷ xs) a b o c d l = elim (contains_cases x xs b d) [
-  | inl e ↦ elim (contains_cases x xs a c) [
-    | inl f ↦ (let n : a.0 ≡ b.0 = ap (λ (z : EntryNo). z.0) (sym f ∙ e) in absurd (omega arith))
-    | inr h ↦ (let n : x.0 < a.0 = each_contained (EntryBefore x) xs a o.0 h in let m : x.0 ≡ b.0 = ap (λ (z : EntryNo). z.0) e in absurd (omega arith))
-  ]
-  | inr k ↦ (let p : x.0 < b.0 = each_contained (EntryBefore x) xs b o.0 k in
-      subst (λ z. cond (x.0 == a.0) 0 (suc (place_among xs a)) < cond z 0 (suc (place_among xs b))) (sym (ne_eqb x.0 b.0 (λ e. omega (arith, p, e))))
-      (elim (contains_cases x xs a c) [
-        | inl f ↦ subst (λ z. cond z 0 (suc (place_among xs a)) < suc (place_among xs b)) (sym (eq-eqb x.0 a.0 (ap (λ (z : EntryNo). z.0) f))) (omega arith)
-        | inr h ↦ (let n : x.0 < a.0 = each_contained (EntryBefore x) xs a o.0 h in
-            subst (λ z. cond z 0 (suc (place_among xs a)) < suc (place_among xs b)) (sym (ne_eqb x.0 a.0 (λ e. omega (arith, n, e))))
-            (let q = place_order xs a b o.1 h k l in omega (arith, q)))
-      ]))
-]
+place_order candidates a b o c d l =
+    let i = place_among candidates a in
+    let j = place_among candidates b in
+    let first = entry_found candidates a a c in
+    let other = entry_found candidates b a d in
+    let number : ℕ → ℕ = λ k. (get_or candidates k a).0 in
+    let one : number i ≡ a.0 = ap (λ (z : EntryNo). z.0) first.1 in
+    let two : number j ≡ b.0 = ap (λ (z : EntryNo). z.0) other.1 in
+    elim (cases_order i j) [
+      | inl same ↦ absurd (let k = ap number same in omega (arith, k, one, two, l))
+      | inr (inl less) ↦ less
+      | inr (inr more) ↦ absurd (let less = ordered_pairs EntryBefore candidates o j i a more first.0 in omega (arith, less, one, two, l))
+    ]
 
 entries_order : (candidates : List (List EntryNo)) (a b : List EntryNo) → AllByRecursion AreCandidates candidates → HasCandidates candidates a → HasCandidates candidates b → Less (entry_numbers a) (entry_numbers b) → Less (entry_places candidates a) (entry_places candidates b)
 entries_order (x ∷ xs) (e ∷ a) (f ∷ b) c h k (inl l) = inl (place_order x e f (ordered_from_pairs EntryBefore x c.0.rising) h.0 k.0 l)

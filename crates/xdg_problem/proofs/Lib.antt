@@ -13,10 +13,8 @@ pub mod Looking
 pub mod Tuples
 pub mod EachTest
 pub mod TreeTests
-pub mod OrderTests
-pub mod AgreeTests
 pub mod LinkTests
-pub mod ValencyTests
+pub mod AskedTests
 pub mod KeptTests
 pub mod AttrPlaces
 pub mod WholeTests
@@ -56,6 +54,7 @@ pub mod Turning
 pub mod RowReads
 pub mod Walks
 pub mod Numbered
+pub mod PairsMapped
 pub mod BoxPlaces
 pub mod BoxWithout
 pub mod PlaceFound

@@ -1,16 +1,15 @@
 -- What is left of the edges of a dimension, if only the edges that a test looks at are kept.
-use Rattle.std.proofs.Common.{◌≡◌, ℕ, ◌<◌, ◌≤◌, ◌+◌, ◌↔◌, arith, subst, Bool, true, false, ◌&&◌, List, length, refl, sym, ap, ◌∙◌}
-use Rattle.std.specs.Prelude.{filter, All, nat_le, Contains, count_by, ◌==◌}
+use Rattle.std.proofs.Common.{◌≡◌, ℕ, ◌↔◌, Bool, true, false, ◌&&◌, List, length, refl, sym, ap, ◌∙◌}
+use Rattle.std.specs.Prelude.{filter, Contains, count_by, ◌==◌}
 use Rattle.std.specs.List.{Any}
-use Rattle.std.proofs.lemmas.Bool.{and_parts, eq-eqb, le-leb}
-use Rattle.std.proofs.lemmas.List.Elements.{All-weaker, filter_agree}
+use Rattle.std.proofs.lemmas.Bool.{eq-eqb}
 use Rattle.xdg_problem.specs.declared.analysis.Edge.{Edge}
 use Rattle.xdg_problem.specs.declared.parts.Group.{Group}
 use Rattle.xdg_problem.specs.Arguments.{first_dim, second_dim}
 use Rattle.xdg_problem.specs.Paths.{edges_on, IsDaughterBy}
 use Rattle.xdg_problem.specs.Tests.{Test, looks_first, looks_second, looks_at}
 use Rattle.xdg_facts.proofs.Truths.{either_true}
-use Rattle.xdg_problem.proofs.FilterFacts.{filter_both, count_of_filter, filter_alike, filter_fewer, filter_contained}
+use Rattle.xdg_problem.proofs.FilterFacts.{filter_both, count_of_filter, filter_alike, filter_contained}
 use Rattle.xdg_problem.proofs.Ordered.{contains_filter}
 
 -- truth values
@@ -20,7 +19,7 @@ and_given true b h = refl
 and_given false true h = h refl
 and_given false false h = refl
 
-and_true : (a b : Bool) → b ≡ true → (a && b) ≡ a
+pub and_true : (a b : Bool) → b ≡ true → (a && b) ≡ a
 and_true true b h = h
 and_true false b h = refl
 
@@ -62,27 +61,6 @@ module _ (looks : Edge → Bool) (dim : ℕ) (edges : List Edge) where
       sym (count_of_filter p (λ e. e.dim.0 == dim) (filter looks edges))
       ∙ ap length (filter_both (λ e. (e.dim.0 == dim) && p e) looks edges ∙ filter_alike (λ e. looks e && ((e.dim.0 == dim) && p e)) (λ e. (e.dim.0 == dim) && p e) edges (λ k d l. and_given (looks _) ((_ == dim) && p _) (h _)))
       ∙ count_of_filter p (λ e. e.dim.0 == dim) edges
-
--- the edges of which another node is at most k, among those that pass a test
-module _ (n k : ℕ) (far : Edge → ℕ) (all : Edge → Bool) (edges : List Edge) where
-  -- where k is the last node, they are all
-  pub upto_last : k + 1 ≡ n → All (λ e. far e < n) edges → filter (λ e. all e && nat_le (far e) k) edges ≡ filter all edges
-  upto_last last within = filter_alike (λ e. all e && nat_le (far e) k) all edges (All-weaker (λ e. far e < n) (λ e. (all e && nat_le (far e) k) ≡ all e)
-      (λ e below. and_true (all e) (nat_le (far e) k) (le-leb (far e) k (omega arith))) edges within)
-
-  pub upto_part : (e : Edge) → (all e && nat_le (far e) k) ≡ true → all e ≡ true
-  upto_part e looks = (and_parts (all e) (nat_le (far e) k) looks).0
-
--- their number, where the test is one of the edges of a dimension
-module _ (n k dim : ℕ) (far : Edge → ℕ) (all test : Edge → Bool) (same : (e : Edge) → all e ≡ ((e.dim.0 == dim) && test e)) (edges : List Edge) where
-  all_counted : length (filter all edges) ≡ count_by test (edges_on dim edges)
-  all_counted = ap length (filter_agree all (λ e. (e.dim.0 == dim) && test e) same edges) ∙ count_of_filter test (λ e. e.dim.0 == dim) edges
-
-  pub count_last : k + 1 ≡ n → All (λ e. far e < n) edges → length (filter (λ e. all e && nat_le (far e) k) edges) ≡ count_by test (edges_on dim edges)
-  count_last last within = ap length (upto_last n k far all edges last within) ∙ all_counted
-
-  pub count_part : length (filter (λ e. all e && nat_le (far e) k) edges) ≤ count_by test (edges_on dim edges)
-  count_part = subst (λ m. length (filter (λ e. all e && nat_le (far e) k) edges) ≤ m) all_counted (filter_fewer (λ e. all e && nat_le (far e) k) all edges (upto_part n k far all edges))
 
 -- an edge that is as a place says, is looked at by the test of that place
 

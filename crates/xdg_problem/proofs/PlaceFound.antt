@@ -1,5 +1,5 @@
 -- An edge stands at its place among the places, so two edges of one place are the same.
-use Rattle.std.proofs.Common.{◌≡◌, ℕ, ◌<◌, true, inl, inr, cond, List, [], ◌∷◌, length, get_or, suc, ap, sym, ◌∙◌, arith, subst}
+use Rattle.std.proofs.Common.{◌≡◌, ◌<◌, true, inl, inr, cond, List, [], ◌∷◌, length, get_or, suc, ap, sym, ◌∙◌, arith, subst}
 use Rattle.std.specs.Prelude.{Contains}
 use Rattle.std.proofs.lemmas.Bool.{cases_Bool}
 use Rattle.std.proofs.lemmas.List.{get_or_default}

@@ -12,62 +12,11 @@ use Rattle.xdg_problem.specs.Analyses.{IsPlace, Before}
 use Rattle.xdg_problem.proofs.Ordered.{Ordered, each_weaker, each_append, each_map, each_filter, each_passed, each_both, each_of_all, each_across, each_contained, each_flat_map, ordered_pairs, ordered_append, ordered_map, ordered_filter, ordered_flat_map, numbers_within, numbers_ordered, contains_map, contains_filter, contains_flat_map, contains_numbers}
 use Rattle.xdg_problem.proofs.PlacePlans.{dim_within, plan_read}
 
--- where the places of one label, of one mother and of one dimension stand
+-- what stands among the places
 
-out_at : (dim n mother label : ℕ) → AllByRecursion (λ e. (e.dim.0 ≡ dim) × (e.mother.0 ≡ mother) × (e.label.0 ≡ label)) (places_out dim n mother label)
-out_at dim n mother label = each_map (λ (e : Edge). (e.dim.0 ≡ dim) × (e.mother.0 ≡ mother) × (e.label.0 ≡ label)) (λ daughter. edge dim mother label daughter) (others n mother) (each_of_all (λ daughter. (dim ≡ dim) × (mother ≡ mother) × (label ≡ label)) (others n mother) (λ daughter. (refl, refl, refl)))
-
-out_ordered : (dim n mother label : ℕ) → Ordered Before (places_out dim n mother label)
-out_ordered dim n mother label = ordered_map (λ i j. i < j) Before (λ daughter. edge dim mother label daughter) (others n mother) (λ i j l. inr (refl, inr (refl, inr (refl, l)))) (ordered_filter (λ i j. i < j) (λ other. not (other == mother)) (below n) (numbers_ordered 0 n))
-
+-- the places out of a mother
 abbrev out_of : ℕ → ℕ → ℕ → ℕ → List Edge
 out_of dim n labels mother = flat_map (λ label. places_out dim n mother label) (below labels)
-
-mother_at : (dim n labels mother : ℕ) → AllByRecursion (λ e. (e.dim.0 ≡ dim) × (e.mother.0 ≡ mother)) (out_of dim n labels mother)
-mother_at dim n labels mother = each_flat_map (λ (e : Edge). (e.dim.0 ≡ dim) × (e.mother.0 ≡ mother)) (λ label. places_out dim n mother label) 0 labels (λ label l m. each_weaker (λ (e : Edge). (e.dim.0 ≡ dim) × (e.mother.0 ≡ mother) × (e.label.0 ≡ label)) (λ e. (e.dim.0 ≡ dim) × (e.mother.0 ≡ mother)) (places_out dim n mother label) (λ e h. (h.0, h.1)) (out_at dim n mother label))
-
-mother_ordered : (dim n labels mother : ℕ) → Ordered Before (out_of dim n labels mother)
-mother_ordered dim n labels mother = ordered_flat_map Before (λ label e. (e.dim.0 ≡ dim) × (e.mother.0 ≡ mother) × (e.label.0 ≡ label)) (λ label. places_out dim n mother label) 0 labels (λ label. out_ordered dim n mother label) (λ label. out_at dim n mother label)
-    (λ i j x y l p q. inr (p.0 ∙ sym q.0, inr (p.1 ∙ sym q.1, inl (let a : x.label.0 ≡ i = p.2 in let b : y.label.0 ≡ j = q.2 in omega arith))))
-
-dim_at : (dim n labels : ℕ) → AllByRecursion (λ e. e.dim.0 ≡ dim) (places_of dim n labels)
-dim_at dim n labels = each_flat_map (λ (e : Edge). e.dim.0 ≡ dim) (out_of dim n labels) 0 n (λ mother l m. each_weaker (λ (e : Edge). (e.dim.0 ≡ dim) × (e.mother.0 ≡ mother)) (λ e. e.dim.0 ≡ dim) (out_of dim n labels mother) (λ e h. h.0) (mother_at dim n labels mother))
-
-dim_ordered : (dim n labels : ℕ) → Ordered Before (places_of dim n labels)
-dim_ordered dim n labels = ordered_flat_map Before (λ mother e. (e.dim.0 ≡ dim) × (e.mother.0 ≡ mother)) (out_of dim n labels) 0 n (λ mother. mother_ordered dim n labels mother) (λ mother. mother_at dim n labels mother)
-    (λ i j x y l p q. inr (p.0 ∙ sym q.0, inl (let a : x.mother.0 ≡ i = p.1 in let b : y.mother.0 ≡ j = q.1 in omega arith)))
-
-plan_at : (dim n : ℕ) (plan : DimPlan) → AllByRecursion (λ e. e.dim.0 ≡ dim) (cond plan.graph (places_of dim n (length plan.labels)) [])
-plan_at dim n plan = elim (cases_Bool plan.graph) [
-  | inl e ↦ subst (λ b. AllByRecursion (λ (e : Edge). e.dim.0 ≡ dim) (cond b (places_of dim n (length plan.labels)) [])) (sym e) (dim_at dim n (length plan.labels))
-  | inr e ↦ subst (λ b. AllByRecursion (λ (e : Edge). e.dim.0 ≡ dim) (cond b (places_of dim n (length plan.labels)) [])) (sym e) tt
-]
-
-plan_ordered : (dim n : ℕ) (plan : DimPlan) → Ordered Before (cond plan.graph (places_of dim n (length plan.labels)) [])
-plan_ordered dim n plan = elim (cases_Bool plan.graph) [
-  | inl e ↦ subst (λ b. Ordered Before (cond b (places_of dim n (length plan.labels)) [])) (sym e) (dim_ordered dim n (length plan.labels))
-  | inr e ↦ subst (λ b. Ordered Before (cond b (places_of dim n (length plan.labels)) [])) (sym e) tt
-]
-
-from_at : (dim n : ℕ) (plans : List DimPlan) → AllByRecursion (λ e. dim ≤ e.dim.0) (places_from dim n plans)
-from_at dim n [] = tt
-from_at dim n (plan ∷ plans) = each_append (λ (e : Edge). dim ≤ e.dim.0) (cond plan.graph (places_of dim n (length plan.labels)) []) (places_from (suc dim) n plans)
-    (each_weaker (λ (e : Edge). e.dim.0 ≡ dim) (λ e. dim ≤ e.dim.0) (cond plan.graph (places_of dim n (length plan.labels)) []) (λ e h. omega (arith, h)) (plan_at dim n plan))
-    (each_weaker (λ (e : Edge). suc dim ≤ e.dim.0) (λ e. dim ≤ e.dim.0) (places_from (suc dim) n plans) (λ e h. omega (arith, h)) (from_at (suc dim) n plans))
-
-from_ordered : (dim n : ℕ) (plans : List DimPlan) → Ordered Before (places_from dim n plans)
-from_ordered dim n [] = tt
-from_ordered dim n (plan ∷ plans) = ordered_append Before (cond plan.graph (places_of dim n (length plan.labels)) []) (places_from (suc dim) n plans) (plan_ordered dim n plan) (from_ordered (suc dim) n plans)
-    (each_across Before (λ e. e.dim.0 ≡ dim) (λ e. suc dim ≤ e.dim.0) (cond plan.graph (places_of dim n (length plan.labels)) []) (places_from (suc dim) n plans) (λ x y p q. inl (omega (arith, p, q))) (plan_at dim n plan) (from_at (suc dim) n plans))
-
-pub places_ordered : (parts : Parts) → Ordered Before (places parts)
-places_ordered parts = from_ordered 0 (nodes parts) parts.dims
-
--- the places stand strictly in the order in which edges are decided
-pub places_before : (parts : Parts) → AllPairs Before (places parts)
-places_before parts = ordered_pairs Before (places parts) (places_ordered parts)
-
--- what stands among the places
 
 others_at : (n mother : ℕ) → AllByRecursion (λ i. (i < n) × (i ≡ mother → ⊥)) (others n mother)
 others_at n mother = each_weaker (λ i. (i < n) × (not (i == mother) ≡ true)) (λ i. (i < n) × (i ≡ mother → ⊥)) (others n mother) (λ i h. (h.0, λ e. eqb-false i mother (not-true (i == mother) h.1) e))
@@ -107,6 +56,41 @@ from_are dim n (plan ∷ plans) = each_append (IsPlaceFrom dim n (plan ∷ plans
     (each_weaker (IsPlaceFrom (suc dim) n plans) (IsPlaceFrom dim n (plan ∷ plans)) (places_from (suc dim) n plans)
     (λ e h. record { place = suc h.place; plan = h.plan; plan_is = h.plan_is; dim_is = (let d : e.dim.0 ≡ suc dim + h.place = h.dim_is in omega arith); graph = h.graph; label = h.label; mother = h.mother; daughter = h.daughter; differ = h.differ })
     (from_are (suc dim) n plans))
+
+-- the order of the places of one label, of one mother, of one dimension and of all
+
+out_at : (dim n mother label : ℕ) → AllByRecursion (λ e. (e.dim.0 ≡ dim) × (e.mother.0 ≡ mother) × (e.label.0 ≡ label)) (places_out dim n mother label)
+out_at dim n mother label = each_map (λ (e : Edge). (e.dim.0 ≡ dim) × (e.mother.0 ≡ mother) × (e.label.0 ≡ label)) (λ daughter. edge dim mother label daughter) (others n mother) (each_of_all (λ daughter. (dim ≡ dim) × (mother ≡ mother) × (label ≡ label)) (others n mother) (λ daughter. (refl, refl, refl)))
+
+out_ordered : (dim n mother label : ℕ) → Ordered Before (places_out dim n mother label)
+out_ordered dim n mother label = ordered_map (λ i j. i < j) Before (λ daughter. edge dim mother label daughter) (others n mother) (λ i j l. inr (refl, inr (refl, inr (refl, l)))) (ordered_filter (λ i j. i < j) (λ other. not (other == mother)) (below n) (numbers_ordered 0 n))
+
+mother_at : (dim n labels mother : ℕ) → AllByRecursion (λ e. (e.dim.0 ≡ dim) × (e.mother.0 ≡ mother)) (out_of dim n labels mother)
+mother_at dim n labels mother = each_flat_map (λ (e : Edge). (e.dim.0 ≡ dim) × (e.mother.0 ≡ mother)) (λ label. places_out dim n mother label) 0 labels (λ label l m. each_weaker (λ (e : Edge). (e.dim.0 ≡ dim) × (e.mother.0 ≡ mother) × (e.label.0 ≡ label)) (λ e. (e.dim.0 ≡ dim) × (e.mother.0 ≡ mother)) (places_out dim n mother label) (λ e h. (h.0, h.1)) (out_at dim n mother label))
+
+mother_ordered : (dim n labels mother : ℕ) → Ordered Before (out_of dim n labels mother)
+mother_ordered dim n labels mother = ordered_flat_map Before (λ label e. (e.dim.0 ≡ dim) × (e.mother.0 ≡ mother) × (e.label.0 ≡ label)) (λ label. places_out dim n mother label) 0 labels (λ label. out_ordered dim n mother label) (λ label. out_at dim n mother label)
+    (λ i j x y l p q. inr (p.0 ∙ sym q.0, inr (p.1 ∙ sym q.1, inl (let a : x.label.0 ≡ i = p.2 in let b : y.label.0 ≡ j = q.2 in omega arith))))
+
+dim_ordered : (dim n labels : ℕ) → Ordered Before (places_of dim n labels)
+dim_ordered dim n labels = ordered_flat_map Before (λ mother e. (e.dim.0 ≡ dim) × (e.mother.0 ≡ mother)) (out_of dim n labels) 0 n (λ mother. mother_ordered dim n labels mother) (λ mother. mother_at dim n labels mother)
+    (λ i j x y l p q. inr (p.0 ∙ sym q.0, inl (let a : x.mother.0 ≡ i = p.1 in let b : y.mother.0 ≡ j = q.1 in omega arith)))
+
+from_ordered : (dim n : ℕ) (plans : List DimPlan) → Ordered Before (places_from dim n plans)
+from_ordered dim n [] = tt
+from_ordered dim n (plan ∷ plans) = elim (cases_Bool plan.graph) [
+  | inl e ↦ rw e (ordered_append Before (places_of dim n (length plan.labels)) (places_from (suc dim) n plans) (dim_ordered dim n (length plan.labels)) (from_ordered (suc dim) n plans)
+      (each_across Before (IsOf dim n (length plan.labels)) (IsPlaceFrom (suc dim) n plans) (places_of dim n (length plan.labels)) (places_from (suc dim) n plans)
+      (λ x y p q. inl (let here = p.dim_is in let later = q.dim_is in omega (arith, here, later))) (places_of_are dim n (length plan.labels)) (from_are (suc dim) n plans)))
+  | inr e ↦ rw e (from_ordered (suc dim) n plans)
+]
+
+pub places_ordered : (parts : Parts) → Ordered Before (places parts)
+places_ordered parts = from_ordered 0 (nodes parts) parts.dims
+
+-- the places stand strictly in the order in which edges are decided
+pub places_before : (parts : Parts) → AllPairs Before (places parts)
+places_before parts = ordered_pairs Before (places parts) (places_ordered parts)
 
 is_place_from : (parts : Parts) (e : Edge) → IsPlaceFrom 0 (nodes parts) parts.dims e → IsPlace parts e
 is_place_from parts e h =

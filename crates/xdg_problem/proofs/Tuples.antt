@@ -5,38 +5,31 @@ use Rattle.std.proofs.lemmas.Bool.{false≢true}
 use Rattle.std.proofs.lemmas.List.Elements.{All-nil, All-cons, All-head, All-tail}
 use Rattle.xdg_problem.specs.Conditions.{AreBelow}
 
-pub tuples_1 : (P : List ℕ → Type 0) (a : ℕ) → ((u : ℕ) → u < a → P (u ∷ [])) → (tuple : List ℕ) → AreBelow (a ∷ []) tuple → P tuple
-tuples_1 P a h [] is = absurd is
-tuples_1 P a h (u ∷ []) is = h u is.0
-tuples_1 P a h (u ∷ v ∷ more) is = absurd is.1
+-- what holds of each number below the first size, each below the second, and so on
+abbrev pub EachBelow : List ℕ → (List ℕ → Type 0) → Type 0
+EachBelow [] P = P []
+EachBelow (size ∷ sizes) P = (u : ℕ) → u < size → EachBelow sizes (λ tuple. P (u ∷ tuple))
 
-pub tuples_2 : (P : List ℕ → Type 0) (a b : ℕ) → ((u : ℕ) → u < a → (v : ℕ) → v < b → P (u ∷ v ∷ [])) → (tuple : List ℕ) → AreBelow (a ∷ b ∷ []) tuple → P tuple
-tuples_2 P a b h [] is = absurd is
-tuples_2 P a b h (u ∷ rest) is = tuples_1 (λ tuple. P (u ∷ tuple)) b (h u is.0) rest is.1
+-- so it holds of all tuples of the range
+pub tuples_of : (sizes : List ℕ) (P : List ℕ → Type 0) → EachBelow sizes P → (tuple : List ℕ) → AreBelow sizes tuple → P tuple
+tuples_of [] P each [] is = each
+tuples_of (size ∷ sizes) P each (u ∷ tuple) is = tuples_of sizes (λ t. P (u ∷ t)) (each u is.0) tuple is.1
+tuples_of sizes P each tuple is = absurd is
 
-pub tuples_3 : (P : List ℕ → Type 0) (a b c : ℕ) → ((u : ℕ) → u < a → (l : ℕ) → l < b → (v : ℕ) → v < c → P (u ∷ l ∷ v ∷ [])) → (tuple : List ℕ) → AreBelow (a ∷ b ∷ c ∷ []) tuple → P tuple
-tuples_3 P a b c h [] is = absurd is
-tuples_3 P a b c h (u ∷ rest) is = tuples_2 (λ tuple. P (u ∷ tuple)) b c (h u is.0) rest is.1
+below_of : (sizes : List ℕ) (P : List ℕ → Type 0) → ((tuple : List ℕ) → AreBelow sizes tuple → P tuple) → EachBelow sizes P
+below_of [] P kept = kept [] tt
+below_of (size ∷ sizes) P kept = λ u below. below_of sizes (λ t. P (u ∷ t)) (λ tuple is. kept (u ∷ tuple) (below, is))
 
--- what is said of each number, pair or triple, and of all tuples
-
-pub singles : (P : List ℕ → Type 0) (Q : ℕ → Type 0) (a : ℕ) → ((u : ℕ) → Q u ↔ P (u ∷ [])) → ((u : ℕ) → u < a → Q u) ↔ ((tuple : List ℕ) → AreBelow (a ∷ []) tuple → P tuple)
-singles P Q a same = (
-  λ q. tuples_1 P a (λ u l. (same u).0 (q u l)),
-  λ p u l. (same u).1 (p (u ∷ []) (l, tt)),
+like : (sizes : List ℕ) (Q P : List ℕ → Type 0) → EachBelow sizes (λ tuple. Q tuple ↔ P tuple) → EachBelow sizes Q ↔ EachBelow sizes P
+like [] Q P same = same
+like (size ∷ sizes) Q P same = (
+  λ each u below. (like sizes (λ t. Q (u ∷ t)) (λ t. P (u ∷ t)) (same u below)).0 (each u below),
+  λ each u below. (like sizes (λ t. Q (u ∷ t)) (λ t. P (u ∷ t)) (same u below)).1 (each u below),
 )
 
-pub pairs : (P : List ℕ → Type 0) (Q : ℕ → ℕ → Type 0) (a b : ℕ) → ((u v : ℕ) → Q u v ↔ P (u ∷ v ∷ [])) → ((u : ℕ) → u < a → (v : ℕ) → v < b → Q u v) ↔ ((tuple : List ℕ) → AreBelow (a ∷ b ∷ []) tuple → P tuple)
-pairs P Q a b same = (
-  λ q. tuples_2 P a b (λ u l v m. (same u v).0 (q u l v m)),
-  λ p u l v m. (same u v).1 (p (u ∷ v ∷ []) (l, (m, tt))),
-)
-
-pub triples : (P : List ℕ → Type 0) (Q : ℕ → ℕ → ℕ → Type 0) (a b c : ℕ) → ((u l v : ℕ) → Q u l v ↔ P (u ∷ l ∷ v ∷ [])) → ((u : ℕ) → u < a → (l : ℕ) → l < b → (v : ℕ) → v < c → Q u l v) ↔ ((tuple : List ℕ) → AreBelow (a ∷ b ∷ c ∷ []) tuple → P tuple)
-triples P Q a b c same = (
-  λ q. tuples_3 P a b c (λ u x l y v z. (same u l v).0 (q u x l y v z)),
-  λ p u x l y v z. (same u l v).1 (p (u ∷ l ∷ v ∷ []) (x, (y, (z, tt)))),
-)
+-- and in other words
+pub tuples : (sizes : List ℕ) (Q P : List ℕ → Type 0) → EachBelow sizes (λ tuple. Q tuple ↔ P tuple) → EachBelow sizes Q ↔ ((tuple : List ℕ) → AreBelow sizes tuple → P tuple)
+tuples sizes Q P same = (λ each. tuples_of sizes P ((like sizes Q P same).0 each), λ kept. (like sizes Q P same).1 (below_of sizes P kept))
 
 -- lists of one, two and three, and one whose later members are chosen
 

@@ -23,7 +23,7 @@ use Rattle.xdg_problem.proofs.DecidingAsks.{decided_asked}
 abbrev Least : List ℕ → (List ℕ → Type 0) → Type 0
 Least sizes P = (tuple : List ℕ) × AreBelow sizes tuple × P tuple × ((other : List ℕ) → AreBelow sizes other → P other → AtMost tuple other)
 
-at_most_more : (u : ℕ) (x y : List ℕ) → AtMost x y → AtMost (u ∷ x) (u ∷ y)
+pub at_most_more : (u : ℕ) (x y : List ℕ) → AtMost x y → AtMost (u ∷ x) (u ∷ y)
 at_most_more u x y (inl e) = inl (ap (λ z. u ∷ z) e)
 at_most_more u x y (inr l) = inr (inr (refl, l))
 

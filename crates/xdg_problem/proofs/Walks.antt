@@ -4,7 +4,7 @@ use Rattle.std.specs.List.{Any}
 use Rattle.std.specs.Prelude.{All, Contains}
 use Rattle.std.proofs.lemmas.List.Elements.{All-weaker, All-nil, All-cons, All-head, All-tail, All-append}
 use Rattle.xdg_problem.specs.declared.analysis.Edge.{Edge}
-use Rattle.xdg_problem.specs.Paths.{Leads, Above, AboveByLast}
+use Rattle.xdg_problem.specs.Paths.{Leads, Above, AboveByLast, IsDaughter}
 
 pub leads_append : (p q : List Edge) (u v w : ℕ) → Leads u p v → Leads v q w → Leads u (p ++ q) w
 leads_append [] q u v w a b = subst (λ x. Leads x q w) (sym a) b
@@ -30,6 +30,9 @@ above_more few many among u v above = record {
 pub above_edge : (edges : List Edge) (e : Edge) → Contains edges e → Above edges e.mother.0 e.daughter.0
 above_edge edges e c = record { path = e ∷ []; some = omega arith; along = All-cons (Contains edges) e [] c (All-nil (Contains edges)); leads = (refl, refl) }
 
+pub daughter_above : (edges : List Edge) (u v : ℕ) → IsDaughter edges u v → Above edges u v
+daughter_above edges u v (k, e, l, at, (m, d)) = subst (λ x. Above edges x v) m (subst (Above edges e.mother.0) d (above_edge edges e (k, l, at)))
+
 -- nodes that no edge leads out of: what is reached from u along edges stays within a closed set
 pub closed_reach : (edges : List Edge) (u : ℕ) (In : ℕ → Type 0) → ((e : Edge) → Contains edges e → (e.mother.0 ≡ u) ⊎ In e.mother.0 → In e.daughter.0) → (path : List Edge) (a b : ℕ) → All (Contains edges) path → Leads a path b → In a → In b
 closed_reach edges u In closed [] a b along leads h = subst In leads h
@@ -43,6 +46,10 @@ closed_path edges u b In closed (e ∷ path) some along (m, leads) = closed_reac
 
 pub closed_above : (edges : List Edge) (u b : ℕ) (In : ℕ → Type 0) → ((e : Edge) → Contains edges e → (e.mother.0 ≡ u) ⊎ In e.mother.0 → In e.daughter.0) → Above edges u b → In b
 closed_above edges u b In closed above = closed_path edges u b In closed above.path above.some above.along above.leads
+
+-- what each edge leads through, and what goes on along an edge, a path leads through
+pub above_in : (R : ℕ → ℕ → Type 0) (edges : List Edge) (u v : ℕ) → ((e : Edge) → Contains edges e → R e.mother.0 e.daughter.0) → ((e : Edge) → Contains edges e → R u e.mother.0 → R u e.daughter.0) → Above edges u v → R u v
+above_in R edges u v here on = closed_above edges u v (R u) (λ e is from. elim from [ inl first ↦ subst (λ x. R x e.daughter.0) first (here e is) | inr later ↦ on e is later ])
 
 pub split_leads : (front : List Edge) (e : Edge) (u v : ℕ) → Leads u (front ++ e ∷ []) v → Leads u front e.mother.0 × (e.daughter.0 ≡ v)
 split_leads [] e u v (m, d) = (sym m, d)
