@@ -1,7 +1,6 @@
 -- The conditions of principles over tuples of numbers, and the same said of nodes and edges in other words.
 use Rattle.std.proofs.Common.{◌≡◌, ℕ, ◌<◌, ◌↔◌, true, List, [], ◌∷◌, ◌++◌, length, get_or, map, refl, sym, ap, ◌∙◌, subst, arith}
 use Rattle.std.specs.Prelude.{◌≤◌, All, Any, AllPairs, Contains, slice_index}
-use Rattle.std.proofs.lemmas.List.{get_or-map, length-map}
 use Rattle.std.proofs.lemmas.List.Elements.{All-contains, Contains-push}
 use Rattle.xdg_problem.specs.declared.analysis.Edge.{Edge}
 use Rattle.xdg_problem.specs.declared.conditions.Condition.{Condition}
@@ -11,36 +10,14 @@ use Rattle.xdg_problem.specs.declared.parts.Parts.{Parts}
 use Rattle.xdg_problem.specs.declared.parts.Linking.TheVariants as linkings
 use Rattle.xdg_problem.specs.declared.parts.Principle.{Principle}
 use Rattle.xdg_problem.specs.Arguments.{first_dim, second_dim, label_count, order_of, truth_of, attr_of, attr_place}
-use Rattle.xdg_problem.specs.Asking.{IsBetween, IsInItem, IsLinked, AsksLink, Asks}
-use Rattle.xdg_problem.specs.Conditions.{AreBelow}
+use Rattle.xdg_problem.specs.Asking.{first, second, third, IsBetween, IsInItem, IsLinked, AsksLink, Asks}
 use Rattle.xdg_problem.specs.Features.{in_row, out_row, set_row, map_row}
 use Rattle.xdg_problem.specs.Paths.{edges_on, edges_into, edges_out_of, edges_joining, mothers, roots, IsDaughterBy, IsDaughterByAny, Above, AboveByFirst, AboveByLast}
 use Rattle.xdg_problem.specs.Places.{nodes}
 use Rattle.xdg_problem.specs.Relations.{IsKept}
-use Rattle.xdg_problem.proofs.Tuples.{tuples_1, tuples_2, tuples_3}
+use Rattle.xdg_problem.proofs.PairsMapped.{pairs_mapped}
+use Rattle.xdg_problem.proofs.Tuples.{tuples_of, tuples}
 use Rattle.xdg_build.specs.Principles.{StartsBy, EndsBy}
-
--- ---- what is said of numbers in range, and of all tuples
-
-pub singles_within : (P : List ℕ → Type 0) (Q : ℕ → Type 0) (a : ℕ) → ((u : ℕ) → u < a → Q u ↔ P (u ∷ [])) → ((u : ℕ) → u < a → Q u) ↔ ((tuple : List ℕ) → AreBelow (a ∷ []) tuple → P tuple)
-singles_within P Q a same = (
-  λ q. tuples_1 P a (λ u l. (same u l).0 (q u l)),
-  λ p u l. (same u l).1 (p (u ∷ []) (l, tt)),
-)
-
-pub pairs_within : (P : List ℕ → Type 0) (Q : ℕ → ℕ → Type 0) (a b : ℕ) → ((u : ℕ) → u < a → (v : ℕ) → v < b → Q u v ↔ P (u ∷ v ∷ []))
-    → ((u : ℕ) → u < a → (v : ℕ) → v < b → Q u v) ↔ ((tuple : List ℕ) → AreBelow (a ∷ b ∷ []) tuple → P tuple)
-pairs_within P Q a b same = (
-  λ q. tuples_2 P a b (λ u l v m. (same u l v m).0 (q u l v m)),
-  λ p u l v m. (same u l v m).1 (p (u ∷ v ∷ []) (l, (m, tt))),
-)
-
-pub triples_within : (P : List ℕ → Type 0) (Q : ℕ → ℕ → ℕ → Type 0) (a b c : ℕ) → ((u : ℕ) → u < a → (v : ℕ) → v < b → (w : ℕ) → w < c → Q u v w ↔ P (u ∷ v ∷ w ∷ []))
-    → ((u : ℕ) → u < a → (v : ℕ) → v < b → (w : ℕ) → w < c → Q u v w) ↔ ((tuple : List ℕ) → AreBelow (a ∷ b ∷ c ∷ []) tuple → P tuple)
-triples_within P Q a b c same = (
-  λ q. tuples_3 P a b c (λ u x v y w z. (same u x v y w z).0 (q u x v y w z)),
-  λ p u x v y w z. (same u x v y w z).1 (p (u ∷ v ∷ w ∷ []) (x, (y, (z, tt)))),
-)
 
 -- ---- what is said of edges
 
@@ -92,25 +69,11 @@ ends_same edges P labels u v same = (
 
 pub pairs_named : (name : ℕ → List ℕ) (ks : List ℕ) (labels : ℕ) (I : List ℕ → ℕ → Type 0) (J : ℕ → ℕ → Type 0) (x y : ℕ) → All (λ k. k < labels) ks → ((l : ℕ) → l < labels → (z : ℕ) → I (name l) z ↔ J l z)
     → AllPairs (λ l m. I l x → I m y → x < y) (map name ks) ↔ AllPairs (λ l m. J l x → J m y → x < y) ks
-pairs_named name ks labels I J x y small same = (
-  λ h i j d before within.
-      let inside : i < length ks = omega (arith, before, within) in
-      let l : ℕ = get_or ks i d in
-      let m : ℕ = get_or ks j d in
-      let here : get_or (map name ks) i [] ≡ name l = get_or-map name ks i d [] inside in
-      let there : get_or (map name ks) j [] ≡ name m = get_or-map name ks j d [] within in
-      let one : I (name l) x → I (name m) y → x < y = subst (λ s. I (name l) x → I s y → x < y) there (subst (λ s. I s x → I (get_or (map name ks) j []) y → x < y) here (h i j [] before (subst (λ n. j < n) (sym (length-map ks name)) within))) in
-      λ p q. one ((same l (small i d inside) x).1 p) ((same m (small j d within) y).1 q),
-  λ h i j d before within.
-      let last : j < length ks = subst (λ n. j < n) (length-map ks name) within in
-      let inside : i < length ks = omega (arith, before, last) in
-      let l : ℕ = get_or ks i 0 in
-      let m : ℕ = get_or ks j 0 in
-      let here : get_or (map name ks) i d ≡ name l = get_or-map name ks i 0 d inside in
-      let there : get_or (map name ks) j d ≡ name m = get_or-map name ks j 0 d last in
-      let one : I (name l) x → I (name m) y → x < y = λ p q. h i j 0 before last ((same l (small i 0 inside) x).0 p) ((same m (small j 0 last) y).0 q) in
-      subst (λ s. I (get_or (map name ks) i d) x → I s y → x < y) (sym there) (subst (λ s. I s x → I (name m) y → x < y) (sym here) one),
-)
+pairs_named name ks labels I J x y small same =
+    let named = pairs_mapped (λ l m. I l x → I m y → x < y) name ks in (
+      λ h i j d before within p q. named.0 h i j d before within ((same _ (small i d (omega (arith, before, within))) x).1 p) ((same _ (small j d within) y).1 q),
+      λ h. named.1 (λ i j d before within p q. h i j d before within ((same _ (small i d (omega (arith, before, within))) x).0 p) ((same _ (small j d within) y).0 q)),
+    )
 
 -- ---- conditions
 
@@ -127,6 +90,9 @@ module _ (parts : Parts) (group : Group) (candidates attrs : List ℕ) (edges : 
   abbrev labels : ℕ
   labels = label_count parts (first_dim group)
 
+  abbrev Asked : Condition → List ℕ → Type 0
+  Asked condition = Asks condition parts group candidates attrs edges
+
   abbrev pub Kept : Condition → Type 0
   Kept condition = IsKept parts group candidates attrs edges condition
 
@@ -138,7 +104,7 @@ module _ (parts : Parts) (group : Group) (candidates attrs : List ℕ) (edges : 
   candidate v = slice_index candidates v
 
   pub agr_same : (Q : ℕ → Type 0) → ((v : ℕ) → v < n → Q v ↔ Contains (set_row group v (candidate v)) (value v 0)) → ((v : ℕ) → v < n → Q v) ↔ Kept conditions.Agr
-  agr_same Q same = singles_within (Asks conditions.Agr parts group candidates attrs edges) Q n same
+  agr_same Q same = tuples (n ∷ []) (λ t. Q (first t)) (Asked conditions.Agr) same
 
   -- what is said of each condition, of the edges of both dimensions and of the number of labels
   abbrev Says : Type 1
@@ -183,31 +149,31 @@ module _ (parts : Parts) (group : Group) (candidates attrs : List ℕ) (edges : 
 
     pub cycle_at : ((v : ℕ) → v < n → Above E1 v v → ⊥) ↔ Kept conditions.Cycle
     cycle_at = lend (λ E F b. ((v : ℕ) → v < n → Above E v v → ⊥) ↔ Kept conditions.Cycle)
-        (singles_within (Asks conditions.Cycle parts group candidates attrs edges) (λ v. Above on_first v v → ⊥) n (λ v l. (λ p. p, λ p. p)))
+        (tuples (n ∷ []) (λ t. Above on_first (first t) (first t) → ⊥) (Asked conditions.Cycle) (λ v l. (λ p. p, λ p. p)))
 
     pub roots_at : (length (roots n E1) ≡ 1) ↔ Kept conditions.Roots
     roots_at = lend (λ E F b. (length (roots n E) ≡ 1) ↔ Kept conditions.Roots) (λ one tuple is. ap (λ (t : List ℕ). get_or t 0 0) is ∙ one, λ kept. kept (length (roots n on_first) ∷ []) refl)
 
     pub mothers_at : ((v : ℕ) → v < n → mothers E1 v ≤ 1) ↔ Kept conditions.Mothers
     mothers_at = lend (λ E F b. ((v : ℕ) → v < n → mothers E v ≤ 1) ↔ Kept conditions.Mothers)
-        (singles_within (Asks conditions.Mothers parts group candidates attrs edges) (λ v. mothers on_first v ≤ 1) n (λ v l. (λ p. p, λ p. p)))
+        (tuples (n ∷ []) (λ t. mothers on_first (first t) ≤ 1) (Asked conditions.Mothers) (λ v l. (λ p. p, λ p. p)))
 
     pub pair_at : ((x : ℕ) → x < n → (v : ℕ) → v < n → edges_joining E1 x v ≤ 1) ↔ Kept conditions.Pair
     pair_at = lend (λ E F b. ((x : ℕ) → x < n → (v : ℕ) → v < n → edges_joining E x v ≤ 1) ↔ Kept conditions.Pair)
-        (pairs_within (Asks conditions.Pair parts group candidates attrs edges) (λ x v. edges_joining on_first x v ≤ 1) n n (λ x l v m. (λ p. p, λ p. p)))
+        (tuples (n ∷ n ∷ []) (λ t. edges_joining on_first (first t) (second t) ≤ 1) (Asked conditions.Pair) (λ x l v m. (λ p. p, λ p. p)))
 
     pub in_at : (Has : ℕ → ℕ → ℕ → Type 0) → SaysIn Has E1 E2 L
-    in_at Has = lend (SaysIn Has) (λ same. pairs_within (Asks conditions.InCount parts group candidates attrs edges) (λ v l. Has v l (edges_into on_first v l)) n labels (λ v x l y. same v x l y (edges_into on_first v l)))
+    in_at Has = lend (SaysIn Has) (λ same. tuples (n ∷ labels ∷ []) (λ t. Has (first t) (second t) (edges_into on_first (first t) (second t))) (Asked conditions.InCount) (λ v x l y. same v x l y (edges_into on_first v l)))
 
     pub out_at : (Has : ℕ → ℕ → ℕ → Type 0) → SaysOut Has E1 E2 L
-    out_at Has = lend (SaysOut Has) (λ same. pairs_within (Asks conditions.OutCount parts group candidates attrs edges) (λ v l. Has v l (edges_out_of on_first v l)) n labels (λ v x l y. same v x l y (edges_out_of on_first v l)))
+    out_at Has = lend (SaysOut Has) (λ same. tuples (n ∷ labels ∷ []) (λ t. Has (first t) (second t) (edges_out_of on_first (first t) (second t))) (Asked conditions.OutCount) (λ v x l y. same v x l y (edges_out_of on_first v l)))
 
     pub order_at : (Q : ℕ → ℕ → ℕ → Type 0) → SaysOrder Q E1 E2 L
-    order_at Q = lend (SaysOrder Q) (triples_within (Asks conditions.Order parts group candidates attrs edges) Q n n n)
+    order_at Q = lend (SaysOrder Q) (tuples (n ∷ n ∷ n ∷ []) (λ t. Q (first t) (second t) (third t)) (Asked conditions.Order))
 
     pub between_at : SaysBetween E1 E2 L
     between_at = lend SaysBetween (λ within. (
-      λ h. tuples_3 (Asks conditions.Between parts group candidates attrs edges) n n n (λ u x v y w z d.
+      λ h. tuples_of (n ∷ n ∷ n ∷ []) (Asked conditions.Between) (λ u x v y w z d.
           let e : Edge = d.1 in
           subst (λ k. IsBetween u k w → Above on_first u w) d.4.1 (subst (λ k. IsBetween k e.daughter.0 w → Above on_first k w) d.4.0 (h e (d.0, d.2, d.3) w z))),
       λ kept e is w z. kept (e.mother.0 ∷ e.daughter.0 ∷ w ∷ []) (within.mother e is, (within.daughter e is, (z, tt))) (is.0, e, is.1, is.2, (refl, refl)),
@@ -222,26 +188,26 @@ module _ (parts : Parts) (group : Group) (candidates attrs : List ℕ) (edges : 
 
     pub agree_at : (B : Edge → Type 0) → SaysEdges B AsksAgree conditions.Agree E1 E2 L
     agree_at B = edges_at B AsksAgree conditions.Agree
-        (triples_within (Asks conditions.Agree parts group candidates attrs edges) (λ u l v. IsDaughterBy on_first u l v → AsksAgree on_second u l v) n labels n (λ u x l y v z. (λ p. p, λ p. p)))
+        (tuples (n ∷ labels ∷ n ∷ []) (λ t. IsDaughterBy on_first (first t) (second t) (third t) → AsksAgree on_second (first t) (second t) (third t)) (Asked conditions.Agree) (λ u x l y v z. (λ p. p, λ p. p)))
 
     pub govern_at : (B : Edge → Type 0) → SaysEdges B AsksGovern conditions.Govern E1 E2 L
     govern_at B = edges_at B AsksGovern conditions.Govern
-        (triples_within (Asks conditions.Govern parts group candidates attrs edges) (λ u l v. IsDaughterBy on_first u l v → AsksGovern on_second u l v) n labels n (λ u x l y v z. (λ p. p, λ p. p)))
+        (tuples (n ∷ labels ∷ n ∷ []) (λ t. IsDaughterBy on_first (first t) (second t) (third t) → AsksGovern on_second (first t) (second t) (third t)) (Asked conditions.Govern) (λ u x l y v z. (λ p. p, λ p. p)))
 
     pub link_at : (q : Principle) (B : Edge → Type 0) → group.principle ≡ q → SaysEdges B (λ F u l v. AsksLink q group (candidate u) F u l v) conditions.Link E1 E2 L
     link_at q B is = edges_at B (λ F u l v. AsksLink q group (candidate u) F u l v) conditions.Link
-        (triples_within (Asks conditions.Link parts group candidates attrs edges) (λ u l v. IsDaughterBy on_first u l v → AsksLink q group (candidate u) on_second u l v) n labels n (λ u x l y v z. (
+        (tuples (n ∷ labels ∷ n ∷ []) (λ t. IsDaughterBy on_first (first t) (second t) (third t) → AsksLink q group (candidate (first t)) on_second (first t) (second t) (third t)) (Asked conditions.Link) (λ u x l y v z. (
           λ p d. subst (λ (r : Principle). AsksLink r group (candidate u) on_second u l v) (sym is) (p d),
           λ p d. subst (λ (r : Principle). AsksLink r group (candidate u) on_second u l v) is (p d),
         )))
 
     pub below_at : ((x : ℕ) → x < n → (v : ℕ) → v < n → Above E1 x v → Above E2 x v) ↔ Kept conditions.Below
     below_at = lend (λ E F b. ((x : ℕ) → x < n → (v : ℕ) → v < n → Above E x v → Above F x v) ↔ Kept conditions.Below)
-        (pairs_within (Asks conditions.Below parts group candidates attrs edges) (λ x v. Above on_first x v → Above on_second x v) n n (λ x l v m. (λ p. p, λ p. p)))
+        (tuples (n ∷ n ∷ []) (λ t. Above on_first (first t) (second t) → Above on_second (first t) (second t)) (Asked conditions.Below) (λ x l v m. (λ p. p, λ p. p)))
 
     pub blocked_at : (P : ℕ → Edge → Type 0) → SaysBlocked P E1 E2 L
     blocked_at P = lend (SaysBlocked P) (λ same.
-        pairs_within (Asks conditions.Blocked parts group candidates attrs edges) (λ w v. EndsBy on_second w (P w) v → Above on_first w v) n n (λ w l v m.
+        tuples (n ∷ n ∷ []) (λ t. EndsBy on_second (first t) (P (first t)) (second t) → Above on_first (first t) (second t)) (Asked conditions.Blocked) (λ w l v m.
         let ends = ends_same on_second (P w) (set_row group w (candidate w)) w v (same w l) in
         (λ p h. p (ends.1 h), λ p h. p (ends.0 h))))
 
