@@ -1,8 +1,7 @@
 -- Decisions that have one value left.
-use Rattle.std.proofs.Common.{◌≡◌, ℕ, ◌<◌, ◌+◌, ◌*◌, ◌/◌, ◌%◌, ◌↔◌, inl, inr, Bool, true, false, not, IsTrue, List, [], ◌∷◌, ◌++◌, length, get_or, map, refl, ap, ap₂, sym, ◌∙◌, arith, subst, zero, suc}
-use Rattle.std.specs.List.{AllByRecursion, flat_map}
+use Rattle.std.proofs.Common.{◌≡◌, ℕ, ◌<◌, ◌+◌, ◌*◌, ◌/◌, ◌%◌, ◌↔◌, inl, inr, Bool, true, false, not, IsTrue, List, [], length, get_or, refl, ap, ap₂, sym, ◌∙◌, arith, subst, zero, suc}
 use Rattle.std.proofs.lemmas.Bool.{cases_eq, false_from_ne_true, not_from_false, not-true}
-use Rattle.std.proofs.lemmas.List.{get_or_default, length-map}
+use Rattle.std.proofs.lemmas.List.{get_or_default}
 use Rattle.std.proofs.lemmas.Nat.{div-add-mod', div-mul-add, div_below, mod-mul-add, mod_below, row_fits}
 use Rattle.xdg_base.specs.declared.ids.EntryNo.{EntryNo}
 use Rattle.xdg_problem.specs.declared.analysis.Edge.{Edge}
@@ -10,20 +9,21 @@ use Rattle.xdg_problem.specs.declared.parts.AttrPlan.{AttrPlan}
 use Rattle.xdg_problem.specs.declared.parts.DimPlan.{DimPlan}
 use Rattle.xdg_problem.specs.declared.parts.Parts.{Parts}
 use Rattle.xdg_problem.specs.Analyses.{IsPlace}
-use Rattle.xdg_problem.specs.Arguments.{label_count, no_attr, no_plan, value_count}
-use Rattle.xdg_problem.specs.Boxes.{IsSingle, attr_decision, edge_decision, entry_decision}
-use Rattle.xdg_problem.specs.Places.{below, edge, nodes, numbers_from, places}
+use Rattle.xdg_problem.specs.Arguments.{label_count, no_attr, no_plan}
+use Rattle.xdg_problem.specs.Boxes.{IsSingle}
+use Rattle.xdg_problem.specs.Places.{edge, nodes}
 use Rattle.xdg_problem.specs.Problems.{IsProblem}
 use Rattle.xdg_problem.proofs.BoxPlaces.{has_decision}
-use Rattle.xdg_problem.proofs.Ordered.{each_append, each_at, each_flat_map, each_map, each_weaker, numbers_length}
-use Rattle.xdg_problem.proofs.PlaceOrder.{each_is_place}
 use Rattle.xdg_problem.proofs.PlacePlans.{dim_within, plan_read}
-use Rattle.xdg_store.specs.Layout.{attr_bits, attr_row, bits_of, block, box_in, edge_bit, entry_bits, entry_row, is_set, pair_bits, row_bits}
+use Rattle.xdg_store.specs.Decisions.{IsDecision}
+use Rattle.xdg_store.specs.Layout.{bits_of, block, box_in, edge_bit, is_set}
 use Rattle.xdg_store.specs.Rows.{HasOther}
 use Rattle.xdg_store.specs.Singles.{AreAttrsAlone, AreEdgesAlone, AreEntriesAlone, AreNodesAlone, IsAlone, IsNodeAlone}
 use Rattle.xdg_store.proofs.Daughters.{out_is_place}
-use Rattle.xdg_store.proofs.Located.{Located, attr_located, edge_located, entry_located, number_at}
-use Rattle.xdg_store.proofs.Removals.{has_bit, row_size}
+use Rattle.xdg_store.specs.declared.decision.Decision.{Decision}
+use Rattle.xdg_store.specs.declared.decision.Decision.TheVariants as decisions
+use Rattle.xdg_store.proofs.Deciding.{HasBits, bit_of, has_bits, named_bits, pair_bit, size_of}
+use Rattle.xdg_store.proofs.Removals.{has_bit, has_size, length_box_in}
 
 -- ---- a row
 
@@ -60,92 +60,45 @@ values_at attrs item attr size l i s = s ∙ ap (λ (q : AttrPlan). length q.val
 pub plan_at : (dims : List DimPlan) (item : DimPlan) (at n : ℕ) → 0 < n → at < length dims * n → item ≡ get_or dims (at / n) item → item ≡ get_or dims (at / n) no_plan
 plan_at dims item at n some l i = i ∙ get_or_default dims (at / n) item no_plan (div_below at n (length dims) some l)
 
--- ---- decisions as lists of bits
+-- ---- decisions by their bits
 
--- of no two bits of a list both are set
-abbrev pub AreAlone : List ℕ → List ℕ → Type 0
-AreAlone words row = (x y : ℕ) → x < length row → y < length row → is_set words (get_or row x 0) ≡ true → is_set words (get_or row y 0) ≡ true → y ≡ x
-
-row_alone : (words : List ℕ) (start size : ℕ) → IsAlone words start size → AreAlone words (numbers_from start size)
-row_alone words start size alone x y l m e f =
-    let s = numbers_length start size in
-    let a : x < size = omega (arith, s, l) in
-    let b : y < size = omega (arith, s, m) in
-    alone x y a b (ap (is_set words) (sym (number_at start size x 0 a)) ∙ e) (ap (is_set words) (sym (number_at start size y 0 b)) ∙ f)
-
-alone_row : (words : List ℕ) (start size : ℕ) → AreAlone words (numbers_from start size) → IsAlone words start size
-alone_row words start size alone x y l m e f =
-    let s = numbers_length start size in
-    alone x y (omega (arith, s, l)) (omega (arith, s, m)) (ap (is_set words) (number_at start size x 0 l) ∙ e) (ap (is_set words) (number_at start size y 0 m) ∙ f)
+-- of no two bits of a decision both are set
+abbrev pub AreAlone : List ℕ → ℕ → (ℕ → ℕ) → Type 0
+AreAlone words size bit = (x y : ℕ) → x < size → y < size → is_set words (bit x) ≡ true → is_set words (bit y) ≡ true → y ≡ x
 
 abbrev IsClosed : List ℕ → ℕ → Type 0
 IsClosed words bit = is_set words bit ≡ true → is_set words (bit + 128) ≡ true → ⊥
 
-pair_alone : (words : List ℕ) (n : ℕ) (e : Edge) → IsClosed words (edge_bit n e) → AreAlone words (pair_bits n e)
-pair_alone words n e closed zero zero l m h k = refl
-pair_alone words n e closed zero (suc zero) l m h k = absurd (closed h k)
-pair_alone words n e closed (suc zero) zero l m h k = absurd (closed k h)
-pair_alone words n e closed (suc zero) (suc zero) l m h k = refl
-pair_alone words n e closed zero (suc (suc y)) l m h k = absurd (omega (arith, m))
-pair_alone words n e closed (suc zero) (suc (suc y)) l m h k = absurd (omega (arith, m))
-pair_alone words n e closed (suc (suc x)) y l m h k = absurd (omega (arith, l))
-
-alone_pair : (words : List ℕ) (n : ℕ) (e : Edge) → AreAlone words (pair_bits n e) → IsClosed words (edge_bit n e)
-alone_pair words n e alone h k = (let q : 1 ≡ 0 = alone 0 1 (omega arith) (omega arith) h k in omega (arith, q))
-
--- ---- the box
-
-length_box_in : (bits : List (List ℕ)) (words : List ℕ) → length (box_in bits words) ≡ length bits
-unfolding box_in
-length_box_in bits words = length-map bits (λ row. map (is_set words) row)
-
 module _ (parts : Parts) (words : List ℕ) where
+  pair_alone : (e : Edge) → IsClosed words (edge_bit (nodes parts) e) → AreAlone words 2 (pair_bit parts e)
+  pair_alone e closed zero zero l m h k = refl
+  pair_alone e closed zero (suc zero) l m h k = absurd (closed h k)
+  pair_alone e closed (suc zero) zero l m h k = absurd (closed k h)
+  pair_alone e closed (suc zero) (suc zero) l m h k = refl
+  pair_alone e closed zero (suc (suc y)) l m h k = absurd (omega (arith, m))
+  pair_alone e closed (suc zero) (suc (suc y)) l m h k = absurd (omega (arith, m))
+  pair_alone e closed (suc (suc x)) y l m h k = absurd (omega (arith, l))
+
+  alone_pair : (e : Edge) → AreAlone words 2 (pair_bit parts e) → IsClosed words (edge_bit (nodes parts) e)
+  alone_pair e alone h k = (let q : 1 ≡ 0 = alone 0 1 (omega arith) (omega arith) h k in omega (arith, q))
+
   abbrev box : List (List Bool)
   box = box_in (bits_of parts) words
 
   -- a decision of which no two values remain has no two bits that are set
-  at_decision : (d : ℕ) (row : List ℕ) → IsSingle box → Located parts d row → AreAlone words row
-  at_decision d row single at x y l m e f = single d x y (has_bit parts d x row words at l ∙ e) (has_bit parts d y row words at m ∙ f)
+  at_decision : {d size : ℕ} {bit : ℕ → ℕ} → IsSingle box → HasBits parts d size bit → AreAlone words size bit
+  at_decision {d} single at x y l m e f = single d x y (has_bit at words x l ∙ e) (has_bit at words y m ∙ f)
 
   -- and back, of all of them
-  of_rows : AllByRecursion (AreAlone words) (bits_of parts) → IsSingle box
-  of_rows all d v x h k =
+  of_decisions : IsProblem parts → ((decision : Decision) → IsDecision parts decision → AreAlone words (size_of parts decision) (bit_of parts decision)) → IsSingle box
+  of_decisions p all d v x h k =
       let count = length_box_in (bits_of parts) words in
       let there = has_decision box d v h in
-      let within : d < length (bits_of parts) = omega (arith, count, there) in
-      let row = get_or (bits_of parts) d [] in
-      let at : Located parts d row = record { within = within; is = refl } in
-      let l = row_size parts d v row words at h in
-      let m = row_size parts d x row words at k in
-      each_at (AreAlone words) (bits_of parts) d [] within all v x l m (sym (has_bit parts d v row words at l) ∙ h) (sym (has_bit parts d x row words at m) ∙ k)
-
--- ---- entries
-
-entry_rows : (words : List ℕ) (first : ℕ) (cs : List (List EntryNo)) → ((node : ℕ) → node < length cs → IsAlone words (entry_row (first + node)) (length (get_or cs node []))) → AllByRecursion (AreAlone words) (entry_bits first cs)
-entry_rows words first [] h = tt
-entry_rows words first (c ∷ cs) h =
-    let z : first + 0 ≡ first = omega arith in (
-      row_alone words (entry_row first) (length c) (subst (λ i. IsAlone words (entry_row i) (length c)) z (h 0 (omega arith))),
-      entry_rows words (suc first) cs (λ node l. (let s : first + suc node ≡ suc first + node = omega arith in subst (λ i. IsAlone words (entry_row i) (length (get_or cs node []))) s (h (suc node) (omega (arith, l))))),
-    )
-
--- ---- attributes
-
-attr_rows : (words : List ℕ) (start : ℕ) (attrs : List AttrPlan) → AreAttrsAlone words start attrs → AllByRecursion (AreAlone words) (row_bits start attrs)
-attr_rows words start [] h = tt
-attr_rows words start (a ∷ attrs) h =
-    let z : start + 0 * 1024 ≡ start = omega arith in (
-      row_alone words start (length a.values) (subst (λ i. IsAlone words i (length a.values)) z (h 0 (omega arith))),
-      attr_rows words (start + 1024) attrs (λ attr l. (let s : start + suc attr * 1024 ≡ (start + 1024) + attr * 1024 = omega arith in subst (λ i. IsAlone words i (length (get_or attrs attr no_attr).values)) s (h (suc attr) (omega (arith, l))))),
-    )
-
-plan_rows : (words : List ℕ) (n dim : ℕ) (plans : List DimPlan) → ((d node : ℕ) → d < length plans → node < n → AreAttrsAlone words (block n (dim + d) node) (get_or plans d no_plan).attrs) → AllByRecursion (AreAlone words) (attr_bits n dim plans)
-plan_rows words n dim [] h = tt
-plan_rows words n dim (plan ∷ plans) h =
-    let z : dim + 0 ≡ dim = omega arith in
-    each_append (AreAlone words) (flat_map (λ node. row_bits (block n dim node) plan.attrs) (below n)) (attr_bits n (suc dim) plans)
-    (each_flat_map (AreAlone words) (λ node. row_bits (block n dim node) plan.attrs) 0 n (λ node low l. attr_rows words (block n dim node) plan.attrs (subst (λ i. AreAttrsAlone words (block n i node) plan.attrs) z (h 0 node (omega arith) (omega (arith, l))))))
-    (plan_rows words n (suc dim) plans (λ d node l m. (let s : dim + suc d ≡ suc dim + d = omega arith in subst (λ i. AreAttrsAlone words (block n i node) (get_or plans d no_plan).attrs) s (h (suc d) node (omega (arith, l)) m))))
+      let name = named_bits parts p d (omega (arith, count, there)) in
+      let at = name.3 in
+      let l = has_size at words v h in
+      let m = has_size at words x k in
+      all name.0 name.1 v x l m (sym (has_bit at words v l) ∙ h) (sym (has_bit at words x m) ∙ k)
 
 -- ---- all
 
@@ -160,12 +113,10 @@ module _ (parts : Parts) (words : List ℕ) (p : IsProblem parts) where
   plan_of dim = get_or parts.dims dim no_plan
 
   entries_from : IsSingle (box_in (bits_of parts) words) → AreEntriesAlone words parts.candidates
-  entries_from single node l =
-      let each = p.candidates_each in
-      alone_row words (node * 1024) (length (get_or parts.candidates node [])) (at_decision parts words (entry_decision node) _ single (entry_located parts each node (omega (arith, each, l))))
+  entries_from single node l = (let each = p.candidates_each in at_decision parts words single (has_bits parts p (decisions.Entry (record { 0 = node })) (omega (arith, each, l))))
 
   attrs_from : IsSingle (box_in (bits_of parts) words) → (dim node : ℕ) → dim < length parts.dims → node < n → AreAttrsAlone words (block n dim node) (plan_of dim).attrs
-  attrs_from single dim node d l attr a = alone_row words (attr_row n dim node attr) (value_count parts dim attr) (at_decision parts words (attr_decision parts dim node attr) _ single (attr_located parts p.candidates_each dim node attr d l a))
+  attrs_from single dim node d l attr a = at_decision parts words single (has_bits parts p (decisions.Attr (record { 0 = dim }) (record { 0 = node }) (record { 0 = attr })) (d, l, a))
 
   -- the place of a label and a daughter
   edges_from : IsSingle (box_in (bits_of parts) words) → (dim mother : ℕ) → dim < length parts.dims → mother < n → (plan_of dim).graph ≡ true → AreEdgesAlone words (block n dim mother + 8192) (length (plan_of dim).labels) n mother
@@ -178,7 +129,7 @@ module _ (parts : Parts) (words : List ℕ) (p : IsProblem parts) where
       let daughter_in : daughter < n = mod_below place n some in
       let is : IsPlace parts e = out_is_place parts dim mother label daughter (record { dim_in = d; graph = graph; node_in = l; label_in = label_in }) daughter_in (λ same. other (sym same)) in
       let bit : block n dim mother + 8192 + label * 256 + daughter ≡ edge_bit n e = regroup (block n dim mother) label daughter in
-      alone_pair words n e (at_decision parts words (edge_decision parts e) (pair_bits n e) single (edge_located parts p.candidates_each e is)) (ap (is_set words) (sym bit) ∙ may) (ap (λ i. is_set words (i + 128)) (sym bit) ∙ absent)
+      alone_pair parts words e (at_decision parts words single (has_bits parts p (decisions.Place e) is)) (ap (is_set words) (sym bit) ∙ may) (ap (λ i. is_set words (i + 128)) (sym bit) ∙ absent)
 
   -- the nodes of all dimensions, one behind another
   nodes_from : IsSingle (box_in (bits_of parts) words) → AreNodesAlone words parts.dims n
@@ -202,7 +153,7 @@ module _ (parts : Parts) (words : List ℕ) (p : IsProblem parts) where
       subst (λ i. IsNodeAlone words (plan_of i) (block n dim node) n node) (div-mul-add dim n node l)
       (subst (λ i. IsNodeAlone words (plan_of ((dim * n + node) / n)) (block n dim node) n i) (mod-mul-add dim n node l) (all (dim * n + node) place))
 
-  edge_at : AreNodesAlone words parts.dims n → (e : Edge) → IsPlace parts e → AreAlone words (pair_bits n e)
+  edge_at : AreNodesAlone words parts.dims n → (e : Edge) → IsPlace parts e → AreAlone words 2 (pair_bit parts e)
   edge_at all e is =
       let plan : plan_of e.dim.0 ≡ is.plan = plan_read parts e is no_plan in
       let here = node_at all e.dim.0 e.mother.0 (dim_within parts e is) is.mother in
@@ -215,17 +166,15 @@ module _ (parts : Parts) (words : List ℕ) (p : IsProblem parts) where
       let b : place % n ≡ e.daughter.0 = mod-mul-add e.label.0 n e.daughter.0 daughter in
       let start = block n e.dim.0 e.mother.0 in
       let bit : start + 8192 + place / n * 256 + place % n ≡ edge_bit n e = ap₂ (λ i j. start + 8192 + i * 256 + j) a b ∙ regroup start e.label.0 e.daughter.0 in
-      pair_alone words n e (λ may absent. edges place (omega (arith, row, daughter)) (λ same. is.differ (sym (sym b ∙ same))) (ap (is_set words) bit ∙ may) (ap (λ i. is_set words (i + 128)) bit ∙ absent))
+      pair_alone parts words e (λ may absent. edges place (omega (arith, row, daughter)) (λ same. is.differ (sym (sym b ∙ same))) (ap (is_set words) bit ∙ may) (ap (λ i. is_set words (i + 128)) bit ∙ absent))
+
+  each_alone : AreEntriesAlone words parts.candidates → AreNodesAlone words parts.dims n → (decision : Decision) → IsDecision parts decision → AreAlone words (size_of parts decision) (bit_of parts decision)
+  each_alone entries all (decisions.Entry node) is = (let each = p.candidates_each in entries node.0 (omega (arith, each, is)))
+  each_alone entries all (decisions.Attr dim node attr) (d, l, a) = (node_at all dim.0 node.0 d l).attrs attr.0 a
+  each_alone entries all (decisions.Place e) is = edge_at all e is
 
   pub single_exact : (AreEntriesAlone words parts.candidates × AreNodesAlone words parts.dims n) ↔ IsSingle (box_in (bits_of parts) words)
-  single_exact = (
-    λ (entries, all). of_rows parts words (each_append (AreAlone words) (entry_bits 0 parts.candidates) (attr_bits n 0 parts.dims ++ map (pair_bits n) (places parts))
-        (entry_rows words 0 parts.candidates (λ node l. (let z : node ≡ 0 + node = omega arith in subst (λ i. IsAlone words (entry_row i) (length (get_or parts.candidates node []))) z (entries node l))))
-        (each_append (AreAlone words) (attr_bits n 0 parts.dims) (map (pair_bits n) (places parts))
-        (plan_rows words n 0 parts.dims (λ d node l m. (let z : d ≡ 0 + d = omega arith in subst (λ i. AreAttrsAlone words (block n i node) (plan_of d).attrs) z (node_at all d node l m).attrs)))
-        (each_map (AreAlone words) (pair_bits n) (places parts) (each_weaker (IsPlace parts) (λ e. AreAlone words (pair_bits n e)) (places parts) (edge_at all) (each_is_place parts))))),
-    λ single. (entries_from single, nodes_from single),
-  )
+  single_exact = (λ (entries, all). of_decisions parts words p (each_alone entries all), λ single. (entries_from single, nodes_from single))
 
 -- as the code goes
 pub single_told : (parts : Parts) (words : List ℕ) (candidates : List (List EntryNo)) (dims : List DimPlan) (n : ℕ) (entries rest : Bool) → IsProblem parts → candidates ≡ parts.candidates → dims ≡ parts.dims → n ≡ nodes parts

@@ -3,7 +3,6 @@ use Rattle.std.proofs.Common.{◌≡◌, ◌≢◌, ℕ, ◌<◌, ◌≤◌, ◌
 use Rattle.std.specs.Prelude.{All}
 use Rattle.std.proofs.lemmas.Nat.{row_fits}
 use Rattle.std.proofs.lemmas.List.{get_or_default, get_or-drop, get_or-set_other, get_or-set_same, get_or-take, length-drop, length-take-le}
-use Rattle.std.proofs.lemmas.Option.{slice_get-get_or}
 use Rattle.xdg_problem.specs.declared.analysis.Edge.{Edge}
 use Rattle.xdg_problem.specs.declared.parts.DimPlan.{DimPlan}
 use Rattle.xdg_problem.specs.declared.parts.Parts.{Parts}
@@ -11,7 +10,7 @@ use Rattle.xdg_problem.specs.Analyses.{IsPlace}
 use Rattle.xdg_problem.specs.Arguments.{attr_count, no_plan}
 use Rattle.xdg_problem.specs.Boxes.{May, Must, entry_decision, attr_decision, edge_decision, place_in}
 use Rattle.xdg_problem.specs.Places.{edge, nodes, places}
-use Rattle.xdg_problem.specs.Problems.{IsDim, IsProblem}
+use Rattle.xdg_problem.specs.Problems.{IsProblem}
 use Rattle.xdg_problem.proofs.AttrPlaces.{attr_within}
 use Rattle.xdg_problem.proofs.BoxPlaces.{has_decision}
 use Rattle.xdg_problem.proofs.PlaceOrder.{place_is}
@@ -32,12 +31,14 @@ use Rattle.xdg_store.specs.declared.change.Change.TheVariants as changes
 use Rattle.xdg_store.specs.declared.decision.Decision.{Decision}
 use Rattle.xdg_store.specs.declared.decision.Decision.TheVariants as decisions
 use Rattle.xdg_store.proofs.Renewed.{daughter_is, kept_beside}
+use Rattle.xdg_store.proofs.Apart.{bit_in_range, few_labels}
 use Rattle.xdg_store.proofs.Boxed.{has_place}
 use Rattle.xdg_store.proofs.Noting.{IsOneStep, Leaves, LeavesOne, one_step, same_or_named}
 use Rattle.xdg_store.proofs.Histories.{cut_last, history_cut, history_length, known_of, seen}
-use Rattle.xdg_store.proofs.Located.{edge_located, place_found}
+use Rattle.xdg_store.proofs.Daughters.{out_is_place}
+use Rattle.xdg_store.proofs.Deciding.{has_bits}
+use Rattle.xdg_store.proofs.Located.{place_found}
 use Rattle.xdg_store.proofs.Pairs.{IsPair, edge_is_pair, may_has, may_read, must_has, must_read}
-use Rattle.xdg_store.proofs.Removals.{bit_in_range}
 use Rattle.xdg_store.proofs.Starting.{ones_set}
 use Rattle.xdg_facts.specs.Rises.{has}
 
@@ -64,12 +65,6 @@ on_edge parts (decisions.Place f) e p place is same = ap (λ g. decisions.Place 
 
 -- ---- an edge's place
 
-pub few_labels : (parts : Parts) (e : Edge) → IsProblem parts → IsPlace parts e → e.label.0 < 32
-few_labels parts e p is =
-    let most = (subst IsDim (plan_read parts e is is.plan) (p.dims e.dim.0 is.plan (dim_within parts e is))).labels_most in
-    let label = is.label in
-    omega (arith, most, label)
-
 pub place_fits : (parts : Parts) (rows : ℕ) (e : Edge) → IsProblem parts → IsPlace parts e → row_count parts ≤ rows → Fits (nodes parts) rows e
 place_fits parts rows e p is long =
     let few = few_labels parts e p is in
@@ -84,7 +79,7 @@ place_fits parts rows e p is long =
 
 bits_fit : (parts : Parts) (words : ℕ) (e : Edge) → IsProblem parts → IsPlace parts e → bit_count parts ≤ 64 * words → edge_bit (nodes parts) e + 128 < 64 * words
 bits_fit parts words e p is wide =
-    let bit : edge_bit (nodes parts) e + 128 < bit_count parts = bit_in_range parts (edge_decision parts e) 1 _ p (edge_located parts p.candidates_each e is) (omega arith) in
+    let bit : edge_bit (nodes parts) e + 128 < bit_count parts = bit_in_range parts p (has_bits parts p (decisions.Place e) is) 1 (omega arith) in
     omega (arith, bit, wide)
 
 pub decision_fits : (parts : Parts) (decision : Decision) (rows words : ℕ) → IsProblem parts → IsDecision parts decision → row_count parts ≤ rows → bit_count parts ≤ 64 * words → FitsIn (nodes parts) rows words decision
@@ -102,14 +97,6 @@ place_has parts e is =
       node_in = is.daughter;
       label_in = subst (λ (q : DimPlan). e.label.0 < length q.labels) (sym read) is.label;
     }
-
--- the code's count of them
-pub rows_are : (parts shown : Parts) (n d : ℕ) → shown ≡ parts → n ≡ length shown.words → d ≡ length shown.dims → row_count parts ≤ d * n * 32
-rows_are parts shown n d s e f =
-    let a : n ≡ nodes parts = e ∙ ap (λ (q : Parts). length q.words) s in
-    let b : d ≡ length parts.dims = f ∙ ap (λ (q : Parts). length q.dims) s in
-    let c : d * n ≡ length parts.dims * nodes parts = ap (λ i. i * n) b ∙ ap (λ i. length parts.dims * i) a in
-    omega (arith, c)
 
 -- ---- words that say the same of an edge
 
@@ -197,15 +184,7 @@ module _ (parts : Parts) (p : IsProblem parts) where
   -- ---- where a daughter's mothers stand
 
   into_is_place : (dim node label daughter : ℕ) → HasEdges parts dim daughter label → node < nodes parts → node ≢ daughter → IsPlace parts (edge dim node label daughter)
-  into_is_place dim node label daughter h l n = record {
-    plan = get_or parts.dims dim no_plan;
-    plan_is = slice_get-get_or parts.dims dim no_plan h.dim_in;
-    graph = h.graph;
-    label = h.label_in;
-    mother = l;
-    daughter = h.node_in;
-    differ = n;
-  }
+  into_is_place dim node label daughter h l n = out_is_place parts dim node label daughter (record { dim_in = h.dim_in; graph = h.graph; node_in = l; label_in = h.label_in }) h.node_in n
 
   label_small : (dim daughter label : ℕ) → HasEdges parts dim daughter label → label < 32
   label_small dim daughter label h =

@@ -1,5 +1,5 @@
 -- The bits of labels.
-use Rattle.std.proofs.Common.{◌≡◌, ◌≢◌, ℕ, ◌<◌, ◌≤◌, ◌-◌, ◌*◌, ◌%◌, ◌^◌, ◌↔◌, ◌⊎◌, inl, inr, Bool, true, false, IsTrue, List, [], ◌∷◌, length, get_or, set, refl, ap, sym, ◌∙◌, arith}
+use Rattle.std.proofs.Common.{◌≡◌, ◌≢◌, ℕ, ◌<◌, ◌≤◌, ◌-◌, ◌*◌, ◌%◌, ◌^◌, ◌↔◌, ◌⊎◌, inl, inr, Bool, true, false, IsTrue, List, [], ◌∷◌, length, get_or, set, refl, ap, sym, ◌∙◌, arith, subst}
 use Rattle.std.specs.Prelude.{◌==◌, nat_lt}
 use Rattle.std.specs.Int.{bit_at, bit_not, w32}
 use lib.Bits.{bit_and, bit_or}
@@ -122,13 +122,6 @@ labelled_like P Q old new k l some more same is = record {
 
 -- ---- one side of a row
 
-marks_like : (P Q : ℕ → Type 0) (label : ℕ) (old old' new new' : Labels) → old ≡ old' → new ≡ new' → ((m : ℕ) → P m ↔ Q m) → Marks P label old new → Marks Q label old' new'
-marks_like P Q label old old' new new' was now same marks = record {
-  here = labelled_like P Q new new' label label (ap (λ (z : Labels). bit_at z.some label) (sym now)) (ap (λ (z : Labels). bit_at z.more label) (sym now)) same marks.here;
-  some_others = λ l other. ap (λ (z : Labels). bit_at z.some l) (sym now) ∙ marks.some_others l other ∙ ap (λ (z : Labels). bit_at z.some l) was;
-  more_others = λ l other. ap (λ (z : Labels). bit_at z.more l) (sym now) ∙ marks.more_others l other ∙ ap (λ (z : Labels). bit_at z.more l) was;
-}
-
 -- one that isn't looked at
 pub side_stays : (e : Edge) (wanted : Bool) (set : List ℕ) (labels : Labels) → has set e.mother.0 ≡ wanted → RenewsSide e wanted set set labels labels
 side_stays e wanted set labels is = record { here = is; others = λ m other. refl; labels = inl (refl, refl) }
@@ -161,13 +154,10 @@ module _ (n : ℕ) (e : Edge) (rows : List Mothers) (row row' : Mothers) (place 
     side_sets : Sets (λ xs i m. has (look (get_or xs i no_mothers)) m) n e wanted rows (set rows place row')
     side_sets = record { here = ap (λ r. has (look r) e.mother.0) now_row ∙ side.here; others = side_others }
 
-    mother_in : (m : ℕ) → IsTrue (has (look row') m) ↔ IsTrue (has (look (get_or (set rows place row') (edge_at n e) no_mothers)) m)
-    mother_in m = (λ h. ap (λ r. has (look r) m) now_row ∙ h, λ h. ap (λ r. has (look r) m) (sym now_row) ∙ h)
-
     side_says : (was now : Labels) → before ≡ was → after ≡ now → SaysAgain (λ xs i m. has (look (get_or xs i no_mothers)) m) n e rows (set rows place row') was now
     side_says was now was_is now_is = elim side.labels [
       | inl stays ↦ inl ((λ m. ap (λ r. has (look r) m) now_row ∙ ap (λ xs. has xs m) stays.0 ∙ ap (λ r. has (look r) m) (sym was_row)), sym now_is ∙ stays.1 ∙ was_is)
-      | inr marks ↦ inr (marks_like (λ m. IsTrue (has (look row') m)) _ e.label.0 before was after now was_is now_is mother_in marks)
+      | inr marks ↦ inr (subst (λ r. Marks (λ m. IsTrue (has (look r) m)) e.label.0 was now) (sym now_row) (subst (Marks (λ m. IsTrue (has (look row') m)) e.label.0 was) now_is (subst (λ z. Marks (λ m. IsTrue (has (look row') m)) e.label.0 z after) was_is marks)))
     ]
 
   module _ (into : List LabelsInto) (labels labels' : LabelsInto) (at : ℕ) (at_is : at ≡ labels_at n e.dim.0 e.daughter.0) (there : at < length into) (labels_is : labels ≡ get_or into at labels) (possible certain : Bool) (may_side : RenewsSide e possible row.may row'.may labels.may labels'.may) (must_side : RenewsSide e certain row.must row'.must labels.must labels'.must) where

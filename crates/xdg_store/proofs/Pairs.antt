@@ -1,5 +1,5 @@
 -- Edge places: decisions with two bits.
-use Rattle.std.proofs.Common.{◌≡◌, ℕ, ◌<◌, ◌≤◌, ◌+◌, ◌-◌, ◌*◌, ◌↔◌, Bool, true, false, not, IsTrue, List, [], length, get_or, ap, sym, ◌∙◌, arith, subst, refl}
+use Rattle.std.proofs.Common.{◌≡◌, ◌≢◌, ℕ, ◌<◌, ◌≤◌, ◌+◌, ◌-◌, ◌*◌, ◌↔◌, Bool, true, false, not, IsTrue, List, [], length, get_or, ap, sym, ◌∙◌, arith, subst, refl}
 use Rattle.xdg_problem.specs.declared.analysis.Edge.{Edge}
 use Rattle.xdg_problem.specs.declared.parts.Parts.{Parts}
 use Rattle.xdg_problem.specs.Analyses.{IsPlace}
@@ -7,26 +7,29 @@ use Rattle.xdg_problem.specs.Boxes.{May, Must, edge_decision}
 use Rattle.xdg_problem.specs.Places.{nodes}
 use Rattle.xdg_problem.specs.Problems.{IsProblem}
 use Rattle.xdg_trail.specs.Trailed.{Trailed}
-use Rattle.xdg_store.specs.Layout.{bits_of, box_in, edge_bit, edge_row, is_set, pair_bits}
+use Rattle.xdg_store.specs.Layout.{bits_of, box_in, edge_bit, edge_row, is_set}
 use Rattle.xdg_store.specs.Rows.{Takes}
 use Rattle.xdg_store.specs.States.{State, Keeps}
 use Rattle.xdg_store.specs.declared.change.Change.{Change}
+use Rattle.xdg_store.specs.declared.change.Change.TheVariants as changes
 use Rattle.xdg_store.specs.declared.decision.Decision.TheVariants as decisions
+use Rattle.xdg_store.proofs.Apart.{bit_in_range}
+use Rattle.xdg_store.proofs.Deciding.{HasBits, has_bits, pair_bit}
 use Rattle.xdg_store.proofs.Histories.{seen}
-use Rattle.xdg_store.proofs.Located.{Located, edge_located}
-use Rattle.xdg_store.proofs.Noting.{LeavesOne, one_step}
-use Rattle.xdg_store.proofs.Removals.{OtherIn, bit_in_range, has_bit, has_room, removes, keeps_taken}
+use Rattle.xdg_store.proofs.Noting.{LeavesOne}
+use Rattle.xdg_store.proofs.OneBit.{one_taken}
+use Rattle.xdg_store.proofs.Removals.{has_bit, has_room}
 
 -- an edge place, and the bit that says whether its edge may be present
 pub record IsPair (parts : Parts) (e : Edge) (present : ℕ) : Type 0 where
   pub is : IsPlace parts e
-  pub located : Located parts (edge_decision parts e) (pair_bits (nodes parts) e)
+  pub bits : HasBits parts (edge_decision parts e) 2 (pair_bit parts e)
   pub present_is : present ≡ edge_bit (nodes parts) e
 
 pub edge_is_pair : (parts : Parts) (e : Edge) (n row present : ℕ) → IsProblem parts → IsPlace parts e → n ≡ nodes parts → row ≡ edge_row n e.dim.0 e.mother.0 e.label.0 → present ≡ row + e.daughter.0 → IsPair parts e present
 edge_is_pair parts e n row present p is m r b = record {
   is = is;
-  located = edge_located parts p.candidates_each e is;
+  bits = has_bits parts p (decisions.Place e) is;
   present_is = b ∙ ap (λ i. i + e.daughter.0) (r ∙ ap (λ i. edge_row i e.dim.0 e.mother.0 e.label.0) m);
 }
 
@@ -38,25 +41,19 @@ edge_seen {parts} {e = e} {n} {row} keeps is place m r = edge_is_pair parts e n 
 -- the bit of a value of an edge place, and that of the other value
 pub record AreBits (parts : Parts) (e : Edge) (v bit other : ℕ) : Type 0 where
   pub is : IsPlace parts e
-  pub located : Located parts (edge_decision parts e) (pair_bits (nodes parts) e)
+  pub bits : HasBits parts (edge_decision parts e) 2 (pair_bit parts e)
   pub small : v < 2
-  pub bit_is : bit ≡ get_or (pair_bits (nodes parts) e) v 0
-  pub other_is : other ≡ get_or (pair_bits (nodes parts) e) (1 - v) 0
+  pub bit_is : bit ≡ pair_bit parts e v
+  pub other_is : other ≡ pair_bit parts e (1 - v)
 
 module _ {parts : Parts} {e : Edge} {present : ℕ} (at : IsPair parts e present) where
   pub forbid_bits : AreBits parts e 0 present (present + 128)
-  forbid_bits = record { is = at.is; located = at.located; small = omega arith; bit_is = at.present_is; other_is = ap (λ i. i + 128) at.present_is }
+  forbid_bits = record { is = at.is; bits = at.bits; small = omega arith; bit_is = at.present_is; other_is = ap (λ i. i + 128) at.present_is }
 
   pub force_bits : AreBits parts e 1 (present + 128) present
-  force_bits = record { is = at.is; located = at.located; small = omega arith; bit_is = ap (λ i. i + 128) at.present_is; other_is = at.present_is }
+  force_bits = record { is = at.is; bits = at.bits; small = omega arith; bit_is = ap (λ i. i + 128) at.present_is; other_is = at.present_is }
 
 module _ {parts : Parts} {t : Trailed} {e : Edge} {v bit other : ℕ} (keeps : Keeps parts t) (at : AreBits parts e v bit other) where
-  abbrev row : List ℕ
-  row = pair_bits (nodes parts) e
-
-  abbrev d : ℕ
-  d = edge_decision parts e
-
   abbrev Other : Type 0
   Other = is_set t.words other ≡ true
 
@@ -64,34 +61,35 @@ module _ {parts : Parts} {t : Trailed} {e : Edge} {v bit other : ℕ} (keeps : K
   pub pair_within : (bit < 64 * length t.words) × (other < 64 * length t.words)
   pair_within =
       let small = at.small in
-      let this = bit_in_range parts d v row keeps.problem at.located small in
-      let that = bit_in_range parts d (1 - v) row keeps.problem at.located (omega arith) in
+      let this = bit_in_range parts keeps.problem at.bits v small in
+      let that = bit_in_range parts keeps.problem at.bits (1 - v) (omega arith) in
       let long = keeps.long in
       let b = at.bit_is in
       let o = at.other_is in
       (omega (arith, this, long, b), omega (arith, that, long, o))
 
-  to_other : Other → OtherIn t.words row v
+  abbrev OtherOne : Type 0
+  OtherOne = (x : ℕ) × (x < 2) × (x ≢ v) × (is_set t.words (pair_bit parts e x) ≡ true)
+
+  to_other : Other → OtherOne
   to_other h = (let small = at.small in (1 - v, omega arith, (λ s. omega (arith, s, small)), subst (λ b. is_set t.words b ≡ true) at.other_is h))
 
-  from_other : OtherIn t.words row v → Other
+  from_other : OtherOne → Other
   from_other (x, l, n, h) =
       let small = at.small in
       let s : x ≡ 1 - v = omega (arith, l, n, small) in
-      ap (is_set t.words) at.other_is ∙ ap (λ i. is_set t.words (get_or row i 0)) (sym s) ∙ h
+      ap (is_set t.words) at.other_is ∙ ap (λ i. is_set t.words (pair_bit parts e i)) (sym s) ∙ h
 
   pub pair_room : is_set t.words bit ≡ true → is_set t.words other ≡ true → 1 ≤ t.spare
-  pair_room h h' = has_room parts t d v row keeps at.located at.small (subst (λ b. is_set t.words b ≡ true) at.bit_is h) (to_other h')
+  pair_room h h' = has_room at.bits v keeps at.small (subst (λ b. is_set t.words b ≡ true) at.bit_is h) (to_other h')
 
   pub pair_taken : {u : Trailed} {change : Change} {turns : ℕ} → Takes change t u bit Other → LeavesOne parts change t u turns (decisions.Place e) v
-  pair_taken {u} {change} {turns} takes =
-      let removal = removes parts t d v row keeps at.located at.small u bit Other at.bit_is to_other from_other change turns takes in record {
-        is = at.is;
-        kept = keeps;
-        removes = removal;
-        keeps = keeps_taken parts t d v row keeps at.located at.small u bit Other at.bit_is to_other from_other change takes;
-        step = one_step change (seen parts t turns) (seen parts u turns) d v removal;
-      }
+  pair_taken {u} {change} takes = one_taken v keeps at.is at.bits at.small (subst (λ b. Takes change t u b OtherOne) at.bit_is (of_other change takes))
+    where
+      of_other : (change : Change) → Takes change t u bit Other → Takes change t u bit OtherOne
+      of_other changes.Same takes = takes
+      of_other changes.Changed (e, other, clears) = (e, to_other other, clears)
+      of_other changes.Emptied (e, none, same) = (e, λ x. none (from_other x), same)
 
 -- what the bits say of an edge
 
@@ -105,10 +103,10 @@ true_not false h = refl
 
 module _ {parts : Parts} {e : Edge} {present : ℕ} (words : List ℕ) (at : IsPair parts e present) where
   pub may_read : get_or (get_or (box_in (bits_of parts) words) (edge_decision parts e) []) 0 false ≡ is_set words present
-  may_read = has_bit parts (edge_decision parts e) 0 (pair_bits (nodes parts) e) words at.located (omega arith) ∙ ap (is_set words) (sym at.present_is)
+  may_read = has_bit at.bits words 0 (omega arith) ∙ ap (is_set words) (sym at.present_is)
 
   pub must_read : get_or (get_or (box_in (bits_of parts) words) (edge_decision parts e) []) 1 false ≡ is_set words (present + 128)
-  must_read = has_bit parts (edge_decision parts e) 1 (pair_bits (nodes parts) e) words at.located (omega arith) ∙ ap (λ i. is_set words (i + 128)) (sym at.present_is)
+  must_read = has_bit at.bits words 1 (omega arith) ∙ ap (λ i. is_set words (i + 128)) (sym at.present_is)
 
   pub may_has : {result : Bool} → result ≡ is_set words present → IsTrue result ↔ May parts (box_in (bits_of parts) words) e
   may_has h = let q = h ∙ sym may_read in (λ i. sym q ∙ i, λ i. q ∙ i)

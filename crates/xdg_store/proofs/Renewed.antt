@@ -2,7 +2,7 @@
 use Rattle.std.proofs.Common.{◌≡◌, ◌≢◌, ◌⊎◌, ℕ, ◌<◌, ◌≤◌, ◌+◌, ◌*◌, ◌/◌, ◌%◌, inl, inr, Bool, not, List, [], length, get_or, set, refl, ap, sym, ◌∙◌, arith, subst}
 use Rattle.std.specs.Prelude.{◌&&◌, ◌==◌, Contains, nat_lt}
 use Rattle.std.proofs.lemmas.Bool.{and_from, and_parts, cases_eq, cases_lt, eqb-false, lt-ltb, ltb-true, ne_eqb, not-true}
-use Rattle.std.proofs.lemmas.Nat.{mod-mul-add, row_fits}
+use Rattle.std.proofs.lemmas.Nat.{div-mul-add, mod-mul-add}
 use Rattle.std.proofs.lemmas.List.{get_or_default, get_or-set_other, get_or-set_same, length-set}
 use Rattle.xdg_base.specs.declared.ids.AttrId.{AttrId}
 use Rattle.xdg_base.specs.declared.ids.DimId.{DimId}
@@ -10,25 +10,19 @@ use Rattle.xdg_base.specs.declared.ids.NodeId.{NodeId}
 use Rattle.xdg_facts.specs.Rises.{has}
 use Rattle.xdg_problem.specs.declared.analysis.Edge.{Edge}
 use Rattle.xdg_problem.proofs.Edges.{edge_equal}
-use Rattle.xdg_store.specs.Across.{Fits, FitsIn, IsFull, IsKept, OnlyOthers, Renews, RenewsAll, RenewsBy, RenewsOf, Sets, daughter_at, edge_at, in_may, in_must, mothers_at, no_mothers}
+use Rattle.xdg_store.specs.Across.{Fits, FitsIn, IsFull, IsKept, OnlyOthers, Renews, RenewsAll, RenewsBy, RenewsOf, Sets, daughter_at, edge_at, in_may, in_must, mothers_at}
 use Rattle.xdg_store.specs.declared.across.Mothers.{Mothers}
 use Rattle.xdg_store.specs.declared.decision.Decision.{Decision}
 use Rattle.xdg_store.specs.declared.decision.Decision.TheVariants as decisions
 
 -- ---- edges that stand at one place
 
--- of two places in a table of rows that are the same the rows are the same
-pub same_row : (m a n b w : ℕ) → a < w → b < w → m * w + a ≡ n * w + b → m ≡ n
-same_row m a n b w l k e = elim (cases_eq m n) [
-  | inl q ↦ q
-  | inr f ↦ elim (cases_lt m n) [
-    | inl less ↦ absurd (let r = row_fits m w n w less (omega arith) in omega (arith, r, e, l))
-    | inr more ↦ absurd (let less : n < m = omega (arith, more, f) in let r = row_fits n w m w less (omega arith) in omega (arith, r, e, k))
-  ]
-]
+-- of two places in a table of rows that are the same the rows are the same, and the places in them
+pub row_and_column : (m a n b w : ℕ) → a < w → b < w → m * w + a ≡ n * w + b → (m ≡ n) × (a ≡ b)
+row_and_column m a n b w l k e = (sym (div-mul-add m w a l) ∙ ap (λ i. i / w) e ∙ div-mul-add n w b k, sym (mod-mul-add m w a l) ∙ ap (λ i. i % w) e ∙ mod-mul-add n w b k)
 
-pub row_of : (x y l m : ℕ) → l < 32 → m < 32 → x * 32 + l ≡ y * 32 + m → (x ≡ y) × (l ≡ m)
-row_of x y l m p q e = (omega (arith, p, q, e), omega (arith, p, q, e))
+pub same_row : (m a n b w : ℕ) → a < w → b < w → m * w + a ≡ n * w + b → m ≡ n
+same_row m a n b w l k e = (row_and_column m a n b w l k e).0
 
 -- the daughter whose mothers stand there
 pub daughter_is : (n dim daughter label : ℕ) → daughter < n → label < 32 → daughter_at n (mothers_at n dim daughter label) ≡ daughter
@@ -38,11 +32,9 @@ daughter_is n dim daughter label l m =
 
 pub same_cell : (n rows : ℕ) (e f : Edge) → Fits n rows e → Fits n rows f → edge_at n e ≡ edge_at n f → e.mother.0 ≡ f.mother.0 → e ≡ f
 same_cell n rows e f p q at mother =
-    let r = row_of (e.dim.0 * n + e.daughter.0) (f.dim.0 * n + f.daughter.0) e.label.0 f.label.0 p.label q.label at in
-    let sum = r.0 in
-    let dim : e.dim.0 ≡ f.dim.0 = same_row e.dim.0 e.daughter.0 f.dim.0 f.daughter.0 n p.daughter q.daughter sum in
-    let front : e.dim.0 * n ≡ f.dim.0 * n = ap (λ i. i * n) dim in
-    edge_equal e f dim mother r.1 (omega (arith, sum, front))
+    let row = row_and_column (e.dim.0 * n + e.daughter.0) e.label.0 (f.dim.0 * n + f.daughter.0) f.label.0 32 p.label q.label at in
+    let block = row_and_column e.dim.0 e.daughter.0 f.dim.0 f.daughter.0 n p.daughter q.daughter row.0 in
+    edge_equal e f block.0 mother row.1 block.1
 
 -- ---- an edge that is made anew
 
@@ -164,12 +156,14 @@ row_full n daughter all may must whole taken none = record {
   must = none;
 }
 
--- one row more
-pub rows_more : (n : ℕ) (old rows : List Mothers) (k : ℕ) (row : Mothers) → length rows ≡ length old → k < length old → IsFull n (daughter_at n k) row → ((i : ℕ) → i < k → IsFull n (daughter_at n i) (get_or rows i no_mothers)) → (length (set rows k row) ≡ length old) × ((i : ℕ) → i < k + 1 → IsFull n (daughter_at n i) (get_or (set rows k row) i no_mothers))
-rows_more n old rows k row same l here before = (
-  length-set rows k row ∙ same,
+-- ---- one item of a list more
+
+pub one_set : {X : Type 0} (P : ℕ → X → Type 0) (xs : List X) (k : ℕ) (x none : X) {count : ℕ} → length xs ≡ count → k < count → P k x → ((i : ℕ) → i < k → P i (get_or xs i none))
+    → (length (set xs k x) ≡ count) × ((i : ℕ) → i < k + 1 → P i (get_or (set xs k x) i none))
+one_set P xs k x none same l here before = (
+  length-set xs k x ∙ same,
   λ i m. elim (cases_eq i k) [
-    | inl e ↦ subst (λ j. IsFull n (daughter_at n j) (get_or (set rows k row) j no_mothers)) (sym e) (subst (IsFull n (daughter_at n k)) (sym (get_or-set_same rows k row no_mothers (omega (arith, l, same)))) here)
-    | inr other ↦ subst (IsFull n (daughter_at n i)) (sym (get_or-set_other rows k i row no_mothers other)) (before i (omega (arith, m, other)))
+    | inl e ↦ subst (λ j. P j (get_or (set xs k x) j none)) (sym e) (subst (P k) (sym (get_or-set_same xs k x none (omega (arith, l, same)))) here)
+    | inr other ↦ subst (P i) (sym (get_or-set_other xs k i x none other)) (before i (omega (arith, m, other)))
   ],
 )

@@ -1,5 +1,5 @@
 -- Entries and attributes: decisions whose bits stand in a row.
-use Rattle.std.proofs.Common.{◌≡◌, ℕ, ◌<◌, ◌≤◌, ◌+◌, ◌/◌, ◌%◌, ◌↔◌, Bool, true, false, IsTrue, List, [], length, get_or, refl, ap, ap₂, sym, ◌∙◌, arith, subst}
+use Rattle.std.proofs.Common.{◌≡◌, ℕ, ◌<◌, ◌≤◌, ◌+◌, ◌/◌, ◌%◌, ◌↔◌, Bool, true, IsTrue, List, [], length, get_or, refl, ap, ap₂, sym, ◌∙◌, arith, subst}
 use Rattle.std.specs.Int.{bit_at}
 use Rattle.std.proofs.lemmas.Bool.{eq-eqb, eqb-true}
 use Rattle.std.proofs.lemmas.List.{get_or_default}
@@ -12,69 +12,56 @@ use Rattle.xdg_problem.specs.declared.parts.DimPlan.{DimPlan}
 use Rattle.xdg_problem.specs.declared.parts.Parts.{Parts}
 use Rattle.xdg_problem.specs.Arguments.{no_plan, no_attr, value_count}
 use Rattle.xdg_problem.specs.Boxes.{Has, entry_decision}
-use Rattle.xdg_problem.specs.Places.{nodes, numbers_from}
-use Rattle.xdg_problem.proofs.Ordered.{numbers_length}
+use Rattle.xdg_problem.specs.Places.{nodes}
 use Rattle.xdg_trail.specs.Trailed.{Trailed}
+use Rattle.xdg_store.specs.Change.{IsTaken}
 use Rattle.xdg_store.specs.Decisions.{IsDecision, number_of}
 use Rattle.xdg_store.specs.InRange.{HasCandidate, HasValue}
-use Rattle.xdg_store.specs.Layout.{attr_row, bits_of, box_in, entry_row, is_set}
-use Rattle.xdg_store.specs.Rows.{HasOther, Takes}
+use Rattle.xdg_store.specs.Layout.{attr_row, entry_row, is_set}
+use Rattle.xdg_store.specs.Rows.{HasOther, Takes, TakesAll}
 use Rattle.xdg_store.specs.States.{State, Keeps}
 use Rattle.xdg_store.specs.declared.change.Change.{Change}
+use Rattle.xdg_store.specs.declared.change.Change.TheVariants as changes
 use Rattle.xdg_store.specs.declared.decision.Decision.{Decision}
 use Rattle.xdg_store.specs.declared.decision.Decision.TheVariants as decisions
+use Rattle.xdg_store.proofs.Deciding.{HasBits, has_bits}
 use Rattle.xdg_store.proofs.Histories.{seen}
-use Rattle.xdg_store.proofs.Located.{Located, entry_located, attr_located, number_at}
-use Rattle.xdg_store.proofs.Noting.{LeavesOne, one_step}
-use Rattle.xdg_store.proofs.Removals.{OtherIn, has_bit, has_room, removes, keeps_taken}
+use Rattle.xdg_store.proofs.Noting.{LeavesAll, LeavesOne}
+use Rattle.xdg_store.proofs.OneBit.{one_taken}
+use Rattle.xdg_store.proofs.OneBlock.{taken_or}
+use Rattle.xdg_store.proofs.Removals.{has_bit, has_room}
+use Rattle.xdg_store.proofs.Several.{TakesThose, all_taken}
 
 -- the bits of a decision are a row, and it has the value
 pub record IsRow (parts : Parts) (decision : Decision) (start size v : ℕ) : Type 0 where
   pub is : IsDecision parts decision
-  pub located : Located parts (number_of parts decision) (numbers_from start size)
+  pub bits : HasBits parts (number_of parts decision) size (λ x. start + x)
   pub within : v < size
 
 module _ {parts : Parts} {t : Trailed} {decision : Decision} {start size v : ℕ} (keeps : Keeps parts t) (at : IsRow parts decision start size v) where
-  abbrev row : List ℕ
-  row = numbers_from start size
-
-  within_row : (x : ℕ) → x < size → x < length row
-  within_row x l = let e = numbers_length start size in omega (arith, e, l)
-
-  bit_is : (x : ℕ) → x < size → start + x ≡ get_or row x 0
-  bit_is x l = sym (number_at start size x 0 l)
-
-  to_row : HasOther t.words start size v → OtherIn t.words row v
-  to_row (x, l, n, e) = (x, within_row x l, n, subst (λ b. is_set t.words b ≡ true) (bit_is x l) e)
-
-  from_row : OtherIn t.words row v → HasOther t.words start size v
-  from_row (x, l, n, e) =
-      let s = numbers_length start size in
-      let m : x < size = omega (arith, s, l) in
-      (x, m, n, subst (λ b. is_set t.words b ≡ true) (sym (bit_is x m)) e)
+  -- a removal finds room
+  pub block_room : (x : ℕ) → x < size → is_set t.words (start + x) ≡ true → HasOther t.words start size x → 1 ≤ t.spare
+  block_room x l e other = has_room at.bits x keeps l e other
 
   pub row_room : is_set t.words (start + v) ≡ true → HasOther t.words start size v → 1 ≤ t.spare
-  row_room e other = has_room parts t (number_of parts decision) v row keeps at.located (within_row v at.within) (subst (λ b. is_set t.words b ≡ true) (bit_is v at.within) e) (to_row other)
+  row_room = block_room v at.within
 
   pub row_taken : {u : Trailed} {change : Change} {turns : ℕ} → Takes change t u (start + v) (HasOther t.words start size v) → LeavesOne parts change t u turns decision v
-  row_taken {u} {change} {turns} takes =
-      let removal = removes parts t (number_of parts decision) v row keeps at.located (within_row v at.within) u (start + v) (HasOther t.words start size v) (bit_is v at.within) to_row from_row change turns takes in record {
-        is = at.is;
-        kept = keeps;
-        removes = removal;
-        keeps = keeps_taken parts t (number_of parts decision) v row keeps at.located (within_row v at.within) u (start + v) (HasOther t.words start size v) (bit_is v at.within) to_row from_row change takes;
-        step = one_step change (seen parts t turns) (seen parts u turns) (number_of parts decision) v removal;
-      }
+  row_taken takes = one_taken v keeps at.is at.bits at.within takes
+
+  pub block_taken : {u : Trailed} {change : Change} {turns : ℕ} (block taken : ℕ) → TakesAll change t u start size block taken → LeavesAll parts change t u turns decision (IsTaken block taken)
+  block_taken {u} {change} block taken takes = all_taken (IsTaken block taken) (taken_or block taken) keeps at.is at.bits (as_those change takes)
+    where
+      as_those : (change : Change) → TakesAll change t u start size block taken → TakesThose change t u size (λ x. start + x) (IsTaken block taken)
+      as_those changes.Same (none, same) = (λ (x, l, g, h). none x l g h, same)
+      as_those changes.Changed (found, left, c) = (found, left, record { count = c.count; gone = c.gone; others = c.others; past_is = c.past_is; room = c.room })
+      as_those changes.Emptied takes = takes
 
 -- what the code reads of a value
 pub row_has : {parts : Parts} {t : Trailed} {turns : ℕ} {s : State} {decision : Decision} {start size v : ℕ} {result : Bool}
     → Keeps parts t → seen parts t turns ≡ s → IsRow parts decision start size v → result ≡ is_set t.words (start + v) → IsTrue result ↔ Has s.now (number_of s.parts decision) v
-row_has {parts} {t} {decision = decision} {start} {size} {v} {result} keeps is at e =
-    let n = numbers_length start size in
-    let w = at.within in
-    let l : v < length (numbers_from start size) = omega (arith, n, w) in
-    let q : result ≡ get_or (get_or (box_in (bits_of parts) t.words) (number_of parts decision) []) v false = e ∙ ap (is_set t.words) (sym (number_at start size v 0 w))
-    ∙ sym (has_bit parts (number_of parts decision) v (numbers_from start size) t.words at.located l) in
+row_has {t = t} {decision = decision} {v = v} {result} keeps is at e =
+    let q = e ∙ sym (has_bit at.bits t.words v at.within) in
     subst (λ s. IsTrue result ↔ Has s.now (number_of s.parts decision) v) is (λ h. sym q ∙ h, λ h. q ∙ h)
 
 -- ---- entries
@@ -85,8 +72,8 @@ module _ {parts : Parts} {t : Trailed} {turns : ℕ} {s : State} (keeps : Keeps 
       let h = subst (λ s. HasCandidate s.parts node.0 place) (sym is) has in
       record {
         is = h.node_in;
-        located = subst (λ i. Located parts (entry_decision node.0) (numbers_from i size)) (sym s)
-            (subst (λ i. Located parts (entry_decision node.0) (numbers_from (entry_row node.0) i)) (sym l) (entry_located parts keeps.problem.candidates_each node.0 h.node_in));
+        bits = subst (λ i. HasBits parts (entry_decision node.0) size (λ x. i + x)) (sym s)
+            (subst (λ i. HasBits parts (entry_decision node.0) i (λ x. entry_row node.0 + x)) (sym l) (has_bits parts keeps.problem (decisions.Entry node) h.node_in));
         within = (let w = h.place_in in omega (arith, w, l));
       }
 
@@ -127,8 +114,8 @@ module _ {parts : Parts} {t : Trailed} {turns : ℕ} {s : State} (keeps : Keeps 
         let h = has_value in
         record {
           is = (h.dim_in, h.node_in, h.attr_in);
-          located = subst (λ i. Located parts d (numbers_from i size)) (sym (at ∙ ap (λ i. attr_row i dim.0 node.0 attr.0) m))
-              (subst (λ i. Located parts d (numbers_from (attr_row (nodes parts) dim.0 node.0 attr.0) i)) (sym l) (attr_located parts keeps.problem.candidates_each dim.0 node.0 attr.0 h.dim_in h.node_in h.attr_in));
+          bits = subst (λ i. HasBits parts d size (λ x. i + x)) (sym (at ∙ ap (λ i. attr_row i dim.0 node.0 attr.0) m))
+              (subst (λ i. HasBits parts d i (λ x. attr_row (nodes parts) dim.0 node.0 attr.0 + x)) (sym l) (has_bits parts keeps.problem (decisions.Attr dim node attr) (h.dim_in, h.node_in, h.attr_in)));
           within = (let w = h.value_in in omega (arith, w, l));
         }
 

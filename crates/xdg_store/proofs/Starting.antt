@@ -1,21 +1,19 @@
 -- The box of all values.
-use Rattle.std.proofs.Common.{◌≡◌, ℕ, ◌<◌, ◌≤◌, ◌+◌, ◌*◌, ◌/◌, ◌%◌, true, List, [], length, map, replicate, ap, sym, ◌∙◌, arith, subst}
+use Rattle.std.proofs.Common.{◌≡◌, ℕ, ◌<◌, ◌≤◌, ◌+◌, ◌*◌, ◌/◌, ◌%◌, true, List, [], length, get_or, map, replicate, ap, sym, ◌∙◌, arith, subst}
 use Rattle.std.specs.Prelude.{nat_eq, sum}
 use Rattle.std.specs.Int.{bit_at}
-use Rattle.std.specs.List.{AllByRecursion}
 use Rattle.std.proofs.lemmas.List.{get_or-replicate, length-replicate}
 use Rattle.std.proofs.lemmas.Nat.Bits.{bit_at_ones}
 use Rattle.xdg_problem.specs.declared.parts.Parts.{Parts}
 use Rattle.xdg_problem.specs.Boxes.{IsBox, full}
-use Rattle.xdg_problem.specs.Places.{nodes}
 use Rattle.xdg_problem.specs.Problems.{IsProblem}
 use Rattle.xdg_problem.specs.Vectors.{shape}
-use Rattle.xdg_problem.proofs.Ordered.{each_weaker}
 use Rattle.xdg_trail.specs.Trailed.{Trailed, states}
 use Rattle.xdg_store.specs.Layout.{bit_count, bits_of, box_in, is_set}
 use Rattle.xdg_store.specs.States.{Keeps, Sound, remaining}
-use Rattle.xdg_store.proofs.Apart.{bits_within}
+use Rattle.xdg_store.proofs.Apart.{bit_in_range}
 use Rattle.xdg_store.proofs.Boxed.{full_is_box, remaining_full}
+use Rattle.xdg_store.proofs.Deciding.{own_bits}
 use Rattle.xdg_store.proofs.Separate.{all_rows_set}
 use Rattle.xdg_store.proofs.Sizes.{bits_sizes}
 
@@ -29,9 +27,7 @@ ones_set count b words e l =
 pub full_words : (parts : Parts) (count : ℕ) (words : List ℕ) → IsProblem parts → bit_count parts ≤ 64 * count → words ≡ replicate count 18446744073709551615 → box_in (bits_of parts) words ≡ full (shape parts)
 unfolding box_in
 full_words parts count words p l e =
-    all_rows_set (is_set words) (bits_of parts)
-    (each_weaker (λ row. AllByRecursion (λ b. b < bit_count parts) row) (λ row. AllByRecursion (λ b. is_set words b ≡ true) row) (bits_of parts)
-    (λ row a. each_weaker (λ b. b < bit_count parts) (λ b. is_set words b ≡ true) row (λ b w. ones_set count b words e (omega (arith, w, l))) a) (bits_within parts p))
+    all_rows_set (is_set words) (bits_of parts) (λ d v k m. ones_set count (get_or (get_or (bits_of parts) d []) v 0) words e (let w = bit_in_range parts p (own_bits k) v m in omega (arith, w, l)))
     ∙ ap (map (λ size. replicate size true)) (bits_sizes parts)
 
 pub keeps_start : (parts : Parts) (t : Trailed) (free count : ℕ) → IsProblem parts → bit_count parts ≤ 64 * count → t.words ≡ replicate count 18446744073709551615 → t.records ≡ [] → free + length (shape parts) ≡ sum (shape parts) → free ≤ t.spare → Keeps parts t
@@ -47,11 +43,3 @@ keeps_start parts t free count p l words none all room =
         tt,
       );
     }
-
--- the code's count of words
-pub words_are : (parts shown : Parts) (n d : ℕ) → shown ≡ parts → n ≡ length shown.words → d ≡ length shown.dims → bit_count parts ≤ 64 * (n * 16 + d * n * 256)
-words_are parts shown n d s e f =
-    let a : n ≡ nodes parts = e ∙ ap (λ (q : Parts). length q.words) s in
-    let b : d ≡ length parts.dims = f ∙ ap (λ (q : Parts). length q.dims) s in
-    let c : d * n ≡ length parts.dims * nodes parts = ap (λ i. i * n) b ∙ ap (λ i. length parts.dims * i) a in
-    omega (arith, a, c)

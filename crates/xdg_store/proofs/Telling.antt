@@ -3,7 +3,7 @@ use Rattle.std.proofs.Common.{◌≡◌, ◌≢◌, ◌⊎◌, ℕ, ◌<◌, ◌
 use Rattle.std.specs.Prelude.{IsTrue, slice_get}
 use Rattle.std.specs.Int.{bit_at}
 use Rattle.std.proofs.lemmas.Bool.{cases_eq, cases_lt, false≢true}
-use Rattle.std.proofs.lemmas.List.{get_or_default, get_or-drop, get_or-set_other, get_or-set_same, get_or-take, get_or_past, length-drop, length-replicate, length-set, length-take-le}
+use Rattle.std.proofs.lemmas.List.{get_or_default, get_or-drop, get_or-take, get_or_past, length-drop, length-replicate, length-take-le}
 use Rattle.std.proofs.lemmas.Nat.{div_below, div-mul-add, row_fits}
 use Rattle.std.proofs.lemmas.Nat.Bits.{bit_at-zero}
 use Rattle.std.proofs.lemmas.Option.{slice_get-get_or}
@@ -17,7 +17,7 @@ use Rattle.xdg_problem.specs.Places.{edge, nodes}
 use Rattle.xdg_problem.specs.Problems.{IsProblem}
 use Rattle.xdg_store.specs.Across.{AreFull, AreKept, Fits, IsFull, OnlyOthers, Renews, Sets, daughter_at, edge_at, in_may, in_must, mothers_at, no_mothers, row_count}
 use Rattle.xdg_store.specs.InRange.{HasEdges}
-use Rattle.xdg_store.specs.Labels.{AreFirst, AreLabels, AreLabelsOf, AreTold, InRows, IsLabelled, LeadsInto, Marks, Relabels, RenewsSide, SaysAgain, StaysTold, at_place, labels_at, no_labels}
+use Rattle.xdg_store.specs.Labels.{AreFirst, AreLabels, AreLabelsOf, AreTold, InRows, IsLabelled, LeadsInto, Relabels, RenewsSide, SaysAgain, StaysTold, at_place, labels_at, no_labels}
 use Rattle.xdg_store.specs.Layout.{bits_of, box_in}
 use Rattle.xdg_facts.specs.Rises.{has}
 use Rattle.xdg_store.specs.States.{State, Keeps}
@@ -26,9 +26,10 @@ use Rattle.xdg_store.specs.declared.across.Mothers.{Mothers}
 use Rattle.xdg_store.proofs.Histories.{seen}
 use Rattle.xdg_store.specs.declared.labels.Labels.{Labels}
 use Rattle.xdg_store.specs.declared.labels.LabelsInto.{LabelsInto}
-use Rattle.xdg_store.proofs.Kept.{few_labels, full_at, may_says, must_says, place_has}
+use Rattle.xdg_store.proofs.Apart.{few_labels}
+use Rattle.xdg_store.proofs.Kept.{full_at, may_says, must_says, place_has}
 use Rattle.xdg_store.proofs.Labelled.{labelled_like, relabels_row, renews_row, side_stays, was_row}
-use Rattle.xdg_store.proofs.Renewed.{daughter_is, others_stay, row_of, same_row}
+use Rattle.xdg_store.proofs.Renewed.{daughter_is, one_set, others_stay, row_and_column}
 
 -- ---- after an edge was made anew
 
@@ -57,19 +58,16 @@ module _ (parts : Parts) (p : IsProblem parts) (e : Edge) (is : IsPlace parts e)
       where
         apart : label < 32 → mothers_at n dim daughter label ≢ edge_at n e
         apart l q =
-            let r = row_of (labels_at n dim daughter) at label e.label.0 l (few_labels parts e p is) q in
+            let r = row_and_column (labels_at n dim daughter) label at e.label.0 32 l (few_labels parts e p is) q in
             elim w [ inl other ↦ other r.0 | inr other ↦ other r.1 ]
 
         same : IsPlace parts (edge dim m label daughter) → has_mother rows' (mothers_at n dim daughter label) m ≡ has_mother rows (mothers_at n dim daughter label) m
         same place = sets.others (mothers_at n dim daughter label) m (inl (apart (few_labels parts (edge dim m label daughter) p place)))
 
     -- the row of the edge
-    module _ (marks : Marks Here e.label.0 (side (at_place into at)) (side (at_place into' at))) (same_at : labels_at n dim daughter ≡ at) (same_label : label ≡ e.label.0) where
-      same_dim : dim ≡ e.dim.0
-      same_dim = same_row dim daughter e.dim.0 e.daughter.0 n within is.daughter same_at
-
-      same_daughter : daughter ≡ e.daughter.0
-      same_daughter = (let front : dim * n ≡ e.dim.0 * n = ap (λ i. i * n) same_dim in omega (arith, same_at, front))
+    module _ (same_at : labels_at n dim daughter ≡ at) (same_label : label ≡ e.label.0) where
+      same_block : (dim ≡ e.dim.0) × (daughter ≡ e.daughter.0)
+      same_block = row_and_column dim daughter e.dim.0 e.daughter.0 n within is.daughter same_at
 
       same_place : mothers_at n dim daughter label ≡ edge_at n e
       same_place = ap₂ (λ i l. i * 32 + l) same_at same_label
@@ -79,60 +77,41 @@ module _ (parts : Parts) (p : IsProblem parts) (e : Edge) (is : IsPlace parts e)
         λ h. (let other = only (edge_at n e) m h in (
           record {
             plan = is.plan;
-            plan_is = ap (slice_get parts.dims) same_dim ∙ is.plan_is;
+            plan_is = ap (slice_get parts.dims) same_block.0 ∙ is.plan_is;
             graph = is.graph;
             label = subst (λ i. i < length is.plan.labels) (sym same_label) is.label;
             mother = other.0;
             daughter = within;
-            differ = λ s. other.1 (s ∙ same_daughter ∙ sym (daughter_is n e.dim.0 e.daughter.0 e.label.0 is.daughter (few_labels parts e p is)));
+            differ = λ s. other.1 (s ∙ same_block.1 ∙ sym (daughter_is n e.dim.0 e.daughter.0 e.label.0 is.daughter (few_labels parts e p is)));
           },
           ap (λ i. has_mother rows' i m) same_place ∙ h,
         )),
         λ x. ap (λ i. has_mother rows' i m) (sym same_place) ∙ x.1,
       )
 
-      made_anew : IsLabelled After (side (at_place into' (labels_at n dim daughter))) label
-      made_anew = labelled_like Here After (side (at_place into' at)) (side (at_place into' (labels_at n dim daughter))) e.label.0 label
-          (ap₂ (λ i l. bit_at (side (at_place into' i)).some l) same_at same_label)
-          (ap₂ (λ i l. bit_at (side (at_place into' i)).more l) same_at same_label)
-          its_mothers marks.here
-
-    told_by : Marks Here e.label.0 (side (at_place into at)) (side (at_place into' at)) → IsLabelled Before (side (at_place into (labels_at n dim daughter))) label → IsLabelled After (side (at_place into' (labels_at n dim daughter))) label
-    told_by marks before = elim (cases_eq (labels_at n dim daughter) at) [
-      | inl same ↦ elim (cases_eq label e.label.0) [
-        | inl this ↦ made_anew marks same this
-        | inr other ↦ labelled_like Before After (side (at_place into (labels_at n dim daughter))) (side (at_place into' (labels_at n dim daughter))) label label
-            (ap (λ i. bit_at (side (at_place into' i)).some label) same ∙ marks.some_others label other ∙ ap (λ i. bit_at (side (at_place into i)).some label) (sym same))
-            (ap (λ i. bit_at (side (at_place into' i)).more label) same ∙ marks.more_others label other ∙ ap (λ i. bit_at (side (at_place into i)).more label) (sym same))
-            (elsewhere (inr other)) before
-      ]
-      | inr other ↦ labelled_like Before After (side (at_place into (labels_at n dim daughter))) (side (at_place into' (labels_at n dim daughter))) label label
-          (ap (λ (z : LabelsInto). bit_at (side z).some label) (others (labels_at n dim daughter) other))
-          (ap (λ (z : LabelsInto). bit_at (side z).more label) (others (labels_at n dim daughter) other))
-          (elsewhere (inl other)) before
+    -- the row of the edge stays
+    rows_stay : ((m : ℕ) → has_mother rows' (edge_at n e) m ≡ has_mother rows (edge_at n e) m) → (m : ℕ) → has_mother rows' (mothers_at n dim daughter label) m ≡ has_mother rows (mothers_at n dim daughter label) m
+    rows_stay stay m = elim (cases_eq (mothers_at n dim daughter label) (edge_at n e)) [
+      | inl here ↦ ap (λ i. has_mother rows' i m) here ∙ stay m ∙ ap (λ i. has_mother rows i m) (sym here)
+      | inr other ↦ sets.others (mothers_at n dim daughter label) m (inl other)
     ]
 
-    -- where the row stays
-    unchanged : ((m : ℕ) → has_mother rows' (edge_at n e) m ≡ has_mother rows (edge_at n e) m) → side (at_place into' at) ≡ side (at_place into at) → IsLabelled Before (side (at_place into (labels_at n dim daughter))) label → IsLabelled After (side (at_place into' (labels_at n dim daughter))) label
-    unchanged row_stays labels_stay before = labelled_like Before After (side (at_place into (labels_at n dim daughter))) (side (at_place into' (labels_at n dim daughter))) label label
-        (ap (λ (z : Labels). bit_at z.some label) bits) (ap (λ (z : Labels). bit_at z.more label) bits) (λ m. (λ x. (x.0, rows_stay m ∙ x.1), λ x. (x.0, sym (rows_stay m) ∙ x.1))) before
-      where
-        rows_stay : (m : ℕ) → has_mother rows' (mothers_at n dim daughter label) m ≡ has_mother rows (mothers_at n dim daughter label) m
-        rows_stay m = elim (cases_eq (mothers_at n dim daughter label) (edge_at n e)) [
-          | inl here ↦ ap (λ i. has_mother rows' i m) here ∙ row_stays m ∙ ap (λ i. has_mother rows i m) (sym here)
-          | inr other ↦ sets.others (mothers_at n dim daughter label) m (inl other)
-        ]
-
-        bits : side (at_place into' (labels_at n dim daughter)) ≡ side (at_place into (labels_at n dim daughter))
-        bits = elim (cases_eq (labels_at n dim daughter) at) [
-          | inl here ↦ ap (λ i. side (at_place into' i)) here ∙ labels_stay ∙ ap (λ i. side (at_place into i)) (sym here)
-          | inr other ↦ ap side (others (labels_at n dim daughter) other)
-        ]
+    -- at the place of the edge
+    told_here : labels_at n dim daughter ≡ at → IsLabelled Before (side (at_place into at)) label → IsLabelled After (side (at_place into' at)) label
+    told_here same before = elim says [
+      | inl (stay, labels) ↦ labelled_like Before After _ _ label label (ap (λ (z : Labels). bit_at z.some label) labels) (ap (λ (z : Labels). bit_at z.more label) labels)
+          (λ m. (λ x. (x.0, rows_stay stay m ∙ x.1), λ x. (x.0, sym (rows_stay stay m) ∙ x.1))) before
+      | inr marks ↦ elim (cases_eq label e.label.0) [
+        | inl this ↦ labelled_like Here After _ _ e.label.0 label (ap (bit_at (side (at_place into' at)).some) this) (ap (bit_at (side (at_place into' at)).more) this) (its_mothers same this) marks.here
+        | inr other ↦ labelled_like Before After _ _ label label (marks.some_others label other) (marks.more_others label other) (elsewhere (inr other)) before
+      ]
+    ]
 
     pub label_told : IsLabelled Before (side (at_place into (labels_at n dim daughter))) label → IsLabelled After (side (at_place into' (labels_at n dim daughter))) label
-    label_told before = elim says [
-      | inl stays ↦ unchanged stays.0 stays.1 before
-      | inr marks ↦ told_by marks before
+    label_told before = elim (cases_eq (labels_at n dim daughter) at) [
+      | inl same ↦ subst (λ i. IsLabelled After (side (at_place into' i)) label) (sym same) (told_here same (subst (λ i. IsLabelled Before (side (at_place into i)) label) same before))
+      | inr other ↦ labelled_like Before After _ _ label label (ap (λ (z : LabelsInto). bit_at (side z).some label) (others (labels_at n dim daughter) other))
+          (ap (λ (z : LabelsInto). bit_at (side z).more label) (others (labels_at n dim daughter) other)) (elsewhere (inl other)) before
     ]
 
 stays_told : (n : ℕ) (e : Edge) (possible certain : Bool) (rows rows' : List Mothers) (into into' : List LabelsInto) → Renews n e possible certain rows rows' → Relabels n e rows rows' into into' → StaysTold n (λ parts. IsPlace parts e) rows into rows' into'
@@ -189,17 +168,9 @@ positive (suc n) d l m = omega arith
 
 -- one daughter more
 pub first_more : (n : ℕ) (dims : List DimPlan) (old into : List LabelsInto) (k : ℕ) (plan : DimPlan) (labels : LabelsInto) → length old ≡ length dims * n → length into ≡ length old → k < length old → plan ≡ get_or dims (k / n) plan → AreFirst n plan labels → ((i : ℕ) → i < k → AreFirst n (get_or dims (i / n) no_plan) (at_place into i)) → (length (set into k labels) ≡ length old) × ((i : ℕ) → i < k + 1 → AreFirst n (get_or dims (i / n) no_plan) (at_place (set into k labels) i))
-first_more n dims old into k plan labels count same l plan_is here before = (
-  length-set into k labels ∙ same,
-  λ i m. elim (cases_eq i k) [
-    | inl e ↦
-        let there : k / n < length dims = div_below k n (length dims) (positive n (length dims) k (omega (arith, l, count))) (omega (arith, l, count)) in
-        subst (λ j. AreFirst n (get_or dims (j / n) no_plan) (at_place (set into k labels) j)) (sym e)
-        (subst (λ q. AreFirst n q (at_place (set into k labels) k)) (plan_is ∙ get_or_default dims (k / n) plan no_plan there)
-        (subst (AreFirst n plan) (sym (get_or-set_same into k labels no_labels (omega (arith, l, same)))) here))
-    | inr other ↦ subst (AreFirst n (get_or dims (i / n) no_plan)) (sym (get_or-set_other into k i labels no_labels other)) (before i (omega (arith, m, other)))
-  ],
-)
+first_more n dims old into k plan labels count same l plan_is here before =
+    let there : k / n < length dims = div_below k n (length dims) (positive n (length dims) k (omega (arith, l, count))) (omega (arith, l, count)) in
+    one_set (λ i. AreFirst n (get_or dims (i / n) no_plan)) into k labels no_labels same l (subst (λ q. AreFirst n q labels) (plan_is ∙ get_or_default dims (k / n) plan no_plan there) here) before
 
 -- the code's room for them
 pub some_nodes : (rows : List Mothers) (row : Mothers) (d n : ℕ) → rows ≡ replicate (d * n * 32) row → 0 < length rows → 0 < n
@@ -305,15 +276,6 @@ module _ (parts : Parts) (p : IsProblem parts) (rows : List Mothers) (full : Are
     may = λ dim daughter d within label. may_first dim daughter label d within;
     must = λ dim daughter d within label. must_first dim daughter label d within;
   }
-
--- the code's counts of them
-pub sizes_are : (parts shown : Parts) (n d e : ℕ) → shown ≡ parts → n ≡ length shown.words → d ≡ length shown.dims → e ≡ length shown.dims → (length parts.dims * nodes parts ≤ e * n) × (d * n * 32 ≤ e * n * 32)
-sizes_are parts shown n d e s m f g =
-    let a : n ≡ nodes parts = m ∙ ap (λ (q : Parts). length q.words) s in
-    let b : e ≡ length parts.dims = g ∙ ap (λ (q : Parts). length q.dims) s in
-    let c : e * n ≡ length parts.dims * nodes parts = ap (λ i. i * n) b ∙ ap (λ i. length parts.dims * i) a in
-    let k : d * n ≡ e * n = ap (λ i. i * n) (f ∙ sym g) in
-    (omega (arith, c), omega (arith, k))
 
 -- ---- what is read
 

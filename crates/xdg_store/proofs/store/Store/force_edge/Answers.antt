@@ -1,26 +1,20 @@
-use Rattle.std.proofs.Common.{◌+◌, subst, sym}
+use Rattle.std.proofs.Common.{subst, sym}
 use Rattle.xdg_store.specs.Across.{Forces}
 use Rattle.xdg_store.specs.declared.decision.Decision.TheVariants as decisions
 use Rattle.xdg_store.proofs.Histories.{known_of}
 use Rattle.xdg_store.proofs.Kept.{edge_fits, kept_forced}
 use Rattle.xdg_store.proofs.Noting.{LeavesOne, removes_seen, room_left, steps_after}
-use Rattle.xdg_store.proofs.Pairs.{AreBits, edge_seen, force_bits, pair_room, pair_taken, pair_within}
+use Rattle.xdg_store.proofs.Pairs.{edge_seen, force_bits, pair_room, pair_taken, pair_within}
 use Rattle.xdg_store.proofs.store.Store.force_edge.Goals as goal
-
-its_bits : (c : goal.After-take_of_pair-arg-1) → AreBits c.self.inside.problem.now c.args.edge 1 (c.edge_row-row.result + c.args.edge.daughter.0 + 128) (c.edge_row-row.result + c.args.edge.daughter.0)
-its_bits c = force_bits (edge_seen c.self.invariant.0 c.self.view_is c.requires c.self.invariant.1 c.edge_row-row.ensures)
 
 taken : (c : goal.After-note-arg-1) → LeavesOne c.self.inside.problem.now c.take_of_pair-change.result c.self.inside.trail c.take_of_pair-change.new.trail c.self.inside.turns (decisions.Place c.args.edge) 1
 taken c = pair_taken c.self.invariant.0 (force_bits (edge_seen c.self.invariant.0 c.self.view_is c.requires c.self.invariant.1 c.edge_row-row.ensures)) c.take_of_pair-change.ensures
 
-pub take_of_pair-change-requires-clause-bit_within : goal.take_of_pair-change-requires-clause-bit_within
-take_of_pair-change-requires-clause-bit_within c = (pair_within c.self.invariant.0 (its_bits c)).0
-
-pub take_of_pair-change-requires-clause-other_within : goal.take_of_pair-change-requires-clause-other_within
-take_of_pair-change-requires-clause-other_within c = (pair_within c.self.invariant.0 (its_bits c)).1
-
-pub take_of_pair-change-requires-clause-room : goal.take_of_pair-change-requires-clause-room
-take_of_pair-change-requires-clause-room c = pair_room c.self.invariant.0 (its_bits c)
+pub take_of_pair-change-requires : goal.take_of_pair-change-requires
+take_of_pair-change-requires c =
+    let bits = force_bits (edge_seen c.self.invariant.0 c.self.view_is c.requires c.self.invariant.1 c.edge_row-row.ensures) in
+    let within = pair_within c.self.invariant.0 bits in
+    record { bit_within = within.0; other_within = within.1; room = pair_room c.self.invariant.0 bits }
 
 pub renew_forced-requires-clause-fits : goal.renew_forced-requires-clause-fits
 renew_forced-requires-clause-fits c = edge_fits c.self.invariant.0 c.self.view_is c.requires c.self.invariant.1 c.self.invariant.4

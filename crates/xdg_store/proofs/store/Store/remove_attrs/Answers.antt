@@ -5,8 +5,7 @@ use Rattle.xdg_store.specs.declared.decision.Decision.TheVariants as decisions
 use Rattle.xdg_store.proofs.Histories.{known_of}
 use Rattle.xdg_store.proofs.Kept.{kept_by_other}
 use Rattle.xdg_store.proofs.Noting.{LeavesAll, removes_seen, room_left, steps_after}
-use Rattle.xdg_store.proofs.Rowwise.{IsRow, attr_found}
-use Rattle.xdg_store.proofs.Several.{block_room, block_taken}
+use Rattle.xdg_store.proofs.Rowwise.{IsRow, attr_found, block_room, block_taken}
 use Rattle.xdg_store.proofs.store.Store.remove_attrs.Goals as goal
 
 its_row : (c : goal.After-take_of_block-arg-1) → IsRow c.self.inside.problem.now (decisions.Attr c.args.dim c.args.node c.args.attr) c.attr_row-row.result c.len-size.result (c.args.block * 64)
