@@ -117,7 +117,8 @@ has_bits parts p (decisions.Place e) is =
     record { within = at.within; count = ap length at.is; each = λ v l. ap (λ row. get_or row v 0) at.is }
 
 -- the decision of a number, with its bits
-pub named_bits : (parts : Parts) → IsProblem parts → (d : ℕ) → d < length (bits_of parts) → (decision : Decision) × IsDecision parts decision × (number_of parts decision ≡ d) × HasBits parts d (size_of parts decision) (bit_of parts decision)
+pub named_bits : (parts : Parts) → IsProblem parts → (d : ℕ) → d < length (bits_of parts)
+    → (decision : Decision) × IsDecision parts decision × (number_of parts decision ≡ d) × HasBits parts d (size_of parts decision) (bit_of parts decision)
 named_bits parts p d l =
     let count = length-map (bits_of parts) length in
     let sizes = ap length (bits_sizes parts) in

@@ -157,7 +157,10 @@ module _ (n : ℕ) (e : Edge) (rows : List Mothers) (row row' : Mothers) (place 
     side_says : (was now : Labels) → before ≡ was → after ≡ now → SaysAgain (λ xs i m. has (look (get_or xs i no_mothers)) m) n e rows (set rows place row') was now
     side_says was now was_is now_is = elim side.labels [
       | inl stays ↦ inl ((λ m. ap (λ r. has (look r) m) now_row ∙ ap (λ xs. has xs m) stays.0 ∙ ap (λ r. has (look r) m) (sym was_row)), sym now_is ∙ stays.1 ∙ was_is)
-      | inr marks ↦ inr (subst (λ r. Marks (λ m. IsTrue (has (look r) m)) e.label.0 was now) (sym now_row) (subst (Marks (λ m. IsTrue (has (look row') m)) e.label.0 was) now_is (subst (λ z. Marks (λ m. IsTrue (has (look row') m)) e.label.0 z after) was_is marks)))
+      | inr marks ↦ inr (
+          subst (λ r. Marks (λ m. IsTrue (has (look r) m)) e.label.0 was now) (sym now_row)
+          (subst (Marks (λ m. IsTrue (has (look row') m)) e.label.0 was) now_is (subst (λ z. Marks (λ m. IsTrue (has (look row') m)) e.label.0 z after) was_is marks))
+          )
     ]
 
   module _ (into : List LabelsInto) (labels labels' : LabelsInto) (at : ℕ) (at_is : at ≡ labels_at n e.dim.0 e.daughter.0) (there : at < length into) (labels_is : labels ≡ get_or into at labels) (possible certain : Bool) (may_side : RenewsSide e possible row.may row'.may labels.may labels'.may) (must_side : RenewsSide e certain row.must row'.must labels.must labels'.must) where

@@ -53,7 +53,8 @@ module _ {parts : Parts} (t u : Trailed) {d size : ℕ} {bit : ℕ → ℕ} (v :
   -- the box is the one before without the value
   taken_is : Loses t u size bit (Is v) → new ≡ without old d v
   taken_is loses = ext_get_or [] new (without old d v) (length_box_in (bits_of parts) u.words ∙ sym (length_box_in (bits_of parts) t.words) ∙ sym (length-set old d _)) (λ e l. elim (cases_eq e d) [
-    | inl same ↦ subst (λ i. get_or new i [] ≡ get_or (without old d v) i []) (sym same) (here ∙ sym (get_or-set_same old d (set (get_or old d []) v false) [] (let k = at.within in let n = length_box_in (bits_of parts) t.words in omega (arith, k, n))))
+    | inl same ↦ subst (λ i. get_or new i [] ≡ get_or (without old d v) i []) (sym same)
+        (here ∙ sym (get_or-set_same old d (set (get_or old d []) v false) [] (let k = at.within in let n = length_box_in (bits_of parts) t.words in omega (arith, k, n))))
     | inr n ↦ same_others u (Is v) (λ x. cases_eq x v) keeps at loses e n ∙ sym (get_or-set_other old d e (set (get_or old d []) v false) [] n)
   ])
     where

@@ -14,7 +14,8 @@ all_set : (f : ℕ → Bool) (row : List ℕ) → ((v : ℕ) → v < length row 
 all_set f [] h = refl
 all_set f (b ∷ row) h = ap₂ (λ x xs. x ∷ xs) (h 0 (omega arith)) (all_set f row (λ v l. h (suc v) (omega (arith, l))))
 
-pub all_rows_set : (f : ℕ → Bool) (rows : List (List ℕ)) → ((d v : ℕ) → d < length rows → v < length (get_or rows d []) → f (get_or (get_or rows d []) v 0) ≡ true) → map (λ row. map f row) rows ≡ map (λ size. replicate size true) (map length rows)
+pub all_rows_set : (f : ℕ → Bool) (rows : List (List ℕ)) → ((d v : ℕ) → d < length rows → v < length (get_or rows d []) → f (get_or (get_or rows d []) v 0) ≡ true)
+    → map (λ row. map f row) rows ≡ map (λ size. replicate size true) (map length rows)
 all_rows_set f [] h = refl
 all_rows_set f (row ∷ rows) h = ap₂ (λ x xs. x ∷ xs) (all_set f row (λ v l. h 0 v (omega arith) l)) (all_rows_set f rows (λ d v l m. h (suc d) v (omega (arith, l)) m))
 
@@ -28,6 +29,7 @@ alike_at f g [] e h = refl
 alike_at f g (row ∷ rows) zero h = row_alike f g row (h (omega arith))
 alike_at f g (row ∷ rows) (suc e) h = alike_at f g rows e (λ l. h (omega (arith, l)))
 
-pub box_alike : (bits : List (List ℕ)) (old new : List ℕ) (e : ℕ) → (e < length bits → (j : ℕ) → j < length (get_or bits e []) → is_set new (get_or (get_or bits e []) j 0) ≡ is_set old (get_or (get_or bits e []) j 0)) → get_or (box_in bits new) e [] ≡ get_or (box_in bits old) e []
+pub box_alike : (bits : List (List ℕ)) (old new : List ℕ) (e : ℕ)
+    → (e < length bits → (j : ℕ) → j < length (get_or bits e []) → is_set new (get_or (get_or bits e []) j 0) ≡ is_set old (get_or (get_or bits e []) j 0)) → get_or (box_in bits new) e [] ≡ get_or (box_in bits old) e []
 unfolding box_in
 box_alike bits old new e h = alike_at (is_set old) (is_set new) bits e h

@@ -142,8 +142,8 @@ module _ {parts : Parts} {t : Trailed} (u : Trailed) {d size : ℕ} {bit : ℕ �
   all_keep changes.Changed (found, left, loses) = keeps_cleared loses found left
   all_keep changes.Emptied (none, same) = subst (Keeps parts) (sym same) keeps
 
-pub all_taken : {parts : Parts} {t u : Trailed} {change : Change} {turns : ℕ} {decision : Decision} {size : ℕ} {bit : ℕ → ℕ} (Goes : ℕ → Type 0) → ((v : ℕ) → Goes v ⊎ (Goes v → ⊥)) → Keeps parts t → IsDecision parts decision → HasBits parts (number_of parts decision) size bit
-    → TakesThose change t u size bit Goes → LeavesAll parts change t u turns decision Goes
+pub all_taken : {parts : Parts} {t u : Trailed} {change : Change} {turns : ℕ} {decision : Decision} {size : ℕ} {bit : ℕ → ℕ} (Goes : ℕ → Type 0) → ((v : ℕ) → Goes v ⊎ (Goes v → ⊥))
+    → Keeps parts t → IsDecision parts decision → HasBits parts (number_of parts decision) size bit → TakesThose change t u size bit Goes → LeavesAll parts change t u turns decision Goes
 all_taken {parts} {t} {u} {change} {turns} {decision} Goes either keeps is at takes =
     let removal = removes_all u Goes either keeps at change turns takes in record {
       is = is;

@@ -64,7 +64,8 @@ invariant_of-result c =
       (let made = the_into c in
           let kept = c.label_all.ensures.count in
           let count = its_count c c.len-3.result c.len-3.ensures in
-          told_start p c.free_values-free.ensures.problem rows full long c.label_all.new.into.items c.len-node_count.result n c.as_slice.result.now (c.as_slice.ensures ∙ ap (λ (q : Parts). q.dims) c.parts-parts.ensures.same) c.label_all.ensures.first (omega (arith, made, kept, count)) (omega (arith, made, kept, size, count, enough))),
+          told_start p c.free_values-free.ensures.problem rows full long c.label_all.new.into.items c.len-node_count.result n
+          c.as_slice.result.now (c.as_slice.ensures ∙ ap (λ (q : Parts). q.dims) c.parts-parts.ensures.same) c.label_all.ensures.first (omega (arith, made, kept, count)) (omega (arith, made, kept, size, count, enough))),
     )
 
 pub returns-clause-now : goal.returns-clause-now
