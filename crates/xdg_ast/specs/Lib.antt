@@ -11,3 +11,4 @@ pub mod Same
 pub mod Trees
 pub mod Words
 pub mod Texts
+pub mod Misnamed

@@ -17,7 +17,8 @@ use Rattle.xdg_classes.specs.Bodies.{Term, Called}
 use Rattle.xdg_classes.specs.Definitions.{ClassDef, classes, class_names, class_named, param_names}
 use Rattle.xdg_classes.specs.Names.{NameOffends, all_calls, used_classes, once}
 use Rattle.xdg_types.proofs.NamesAgain.{once_differ}
-use Rattle.xdg_types.proofs.NamesKnown.{each_known, not_among, no_text}
+use Rattle.xdg_names.proofs.Texts.{not_among, no_text}
+use Rattle.xdg_types.proofs.NamesKnown.{each_known}
 use Rattle.xdg_check.specs.declared.checked.Class.{Class}
 use Rattle.xdg_check.specs.Completed.{left_out, preset_pair, bound_by}
 use Rattle.xdg_check.specs.Answers.{AreClassesOf}

@@ -11,7 +11,7 @@ use Rattle.xdg_base.specs.declared.faults.Cause.TheVariants as causes
 use Rattle.xdg_base.specs.declared.faults.Fault.{Fault}
 use Rattle.xdg_names.specs.First.{Tells, first}
 use Rattle.xdg_names.specs.Texts.{has_text}
-use Rattle.xdg_types.specs.Misnamed.{IsUnknown}
+use Rattle.xdg_ast.specs.Misnamed.{IsUnknown}
 use Rattle.xdg_types.specs.NameFaults.{unknown, foreign, repeats, different}
 use Rattle.xdg_types.specs.Parts.{Statement, keys}
 use Rattle.xdg_types.specs.Table.{Table}
@@ -19,7 +19,8 @@ use Rattle.xdg_names.proofs.Listing.{Lists, lists_tell, lists_both}
 use Rattle.xdg_types.proofs.Listings.{joined_each, mapped, swapped}
 use Rattle.xdg_types.proofs.Distinct.{same_known, of_different, to_different}
 use Rattle.xdg_types.proofs.NamesAgain.{all_twice, all_of_one, more_lists}
-use Rattle.xdg_types.proofs.NamesKnown.{all_unknown, not_among, no_text}
+use Rattle.xdg_names.proofs.Texts.{not_among, no_text}
+use Rattle.xdg_types.proofs.NamesKnown.{all_unknown}
 use Rattle.xdg_classes.specs.Bodies.{Term, Called}
 use Rattle.xdg_classes.specs.Definitions.{ClassDef, classes, class_names, class_named, param_names}
 use Rattle.xdg_classes.specs.Names.{dim_texts, all_records, all_calls, said_dims, used_classes, IsUnknownParam, IsLeftOut, NameOffends}

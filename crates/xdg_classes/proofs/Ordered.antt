@@ -14,7 +14,7 @@ use Rattle.xdg_types.specs.Answers.{None_of}
 use Rattle.xdg_types.specs.Graph.{use_of}
 use Rattle.xdg_types.specs.NameFaults.{with_all}
 use Rattle.xdg_types.specs.Parts.{Statement}
-use Rattle.xdg_types.specs.Misnamed.{IsTwice}
+use Rattle.xdg_ast.specs.Misnamed.{IsTwice}
 use Rattle.xdg_types.proofs.Distinct.{all_differ}
 use Rattle.xdg_types.proofs.NamesAgain.{once_differ}
 use Rattle.xdg_classes.specs.declared.definitions.ClassDef.{ClassDef as LentClass}

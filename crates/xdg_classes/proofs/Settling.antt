@@ -16,7 +16,7 @@ use Rattle.xdg_names.specs.declared.graph.Use.{Use}
 use Rattle.xdg_terms.specs.Wanted.{params_in}
 use Rattle.xdg_types.specs.Answers.{None_of}
 use Rattle.xdg_types.specs.Graph.{use_of, use_at}
-use Rattle.xdg_types.specs.Misnamed.{IsTwice}
+use Rattle.xdg_ast.specs.Misnamed.{IsTwice}
 use Rattle.xdg_types.specs.Parts.{Statement}
 use Rattle.xdg_types.specs.Table.{Table, dim_named}
 use Rattle.xdg_types.specs.declared.table.DimType.{DimType}

@@ -3,7 +3,7 @@ use Rattle.std.specs.Prelude.{◌≡◌, ℕ, ◌<◌, ◌↔◌, List, [], map,
 use Rattle.xdg_domain.specs.Shapes.{Shape}
 use Rattle.xdg_names.specs.Leads.{number}
 use Rattle.xdg_types.specs.Answers.{None_of}
-use Rattle.xdg_types.specs.Misnamed.{IsTwice}
+use Rattle.xdg_ast.specs.Misnamed.{IsTwice}
 use Rattle.xdg_types.specs.Parts.{Statement}
 use Rattle.xdg_types.specs.Table.{Table}
 use Rattle.xdg_classes.specs.Names as sites

@@ -8,7 +8,7 @@ use Rattle.xdg_base.specs.declared.faults.Fault.{Fault}
 use Rattle.xdg_domain.specs.Shapes.{Shape}
 use Rattle.xdg_terms.specs.Offences.{OpenOffends}
 use Rattle.xdg_terms.specs.Stray.{IsStrayParam}
-use Rattle.xdg_types.specs.Misnamed.{IsAgain}
+use Rattle.xdg_ast.specs.Misnamed.{IsAgain}
 use Rattle.xdg_types.specs.Parts.{Statement, keys}
 use Rattle.xdg_types.specs.Table.{Table}
 use Rattle.xdg_classes.specs.Bodies.{Term, Said, Called, records, calls}

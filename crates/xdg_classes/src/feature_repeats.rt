@@ -2,7 +2,7 @@
 
 ghost use Rattle.std.specs.Prelude.{IfOk};
 ghost use Rattle.xdg_names.specs.First.{Tells};
-ghost use Rattle.xdg_types.specs.Misnamed.{IsAgain};
+ghost use Rattle.xdg_ast.specs.Misnamed.{IsAgain};
 ghost use Rattle.xdg_types.specs.Parts.{keys};
 
 use std::alloc::Global;

@@ -1,7 +1,7 @@
 //! Putting the classes of a grammar into an order in which each comes after those that it uses.
 
 ghost use Rattle.xdg_types.specs.Answers.{None_of};
-ghost use Rattle.xdg_types.specs.Misnamed.{IsTwice};
+ghost use Rattle.xdg_ast.specs.Misnamed.{IsTwice};
 ghost use Rattle.xdg_classes.specs.Names.{once};
 ghost use Rattle.xdg_classes.specs.Ordered.{TellsClasses};
 

@@ -1,8 +1,11 @@
 -- Lists in which exactly that stands of which something holds, put together part by part.
-use Rattle.std.proofs.Common.{◌≡◌, ◌⊎◌, ◌↔◌, inl, inr, Bool, true, false, List, [], ◌∷◌, ◌++◌}
+use Rattle.std.proofs.Common.{◌≡◌, ◌⊎◌, ◌↔◌, inl, inr, ℕ, Bool, true, false, List, [], ◌∷◌, ◌++◌, refl, sym, subst, ◌∙◌, append_assoc}
 use Rattle.std.specs.Prelude.{if◌then◌else◌}
 use Rattle.std.specs.List.{flat_map}
 use Rattle.xdg_base.specs.declared.faults.Fault.{Fault}
+use Rattle.std.proofs.lemmas.List.{append-nil}
+use Rattle.xdg_names.specs.Texts.{has_text}
+use Rattle.xdg_names.proofs.Texts.{has_among, among_has, not_among, no_text}
 use Rattle.xdg_names.specs.First.{Tells, first}
 use Rattle.xdg_names.proofs.First.{tells_as, first-tells}
 use Rattle.xdg_facts.specs.Membership.{In}
@@ -38,6 +41,38 @@ lists_unless b y = record { sound = λ x i. in_unless b y x i; complete = λ x p
 
 pub lists_when : {A : Type 0} (b : Bool) (y : A) → Lists (if b then y ∷ [] else []) (λ x. (b ≡ true) × (y ≡ x))
 lists_when b y = record { sound = λ x i. in_when b y x i; complete = λ x p. when_in b y x p.0 p.1 }
+
+-- a list of one, where a text is none of those that are known, and where it stands among those before
+pub lists_unknown : {A : Type 0} (known : List (List ℕ)) (text : List ℕ) (y : A) → Lists (if has_text known text then [] else y ∷ []) (λ x. (In known text → ⊥) × (y ≡ x))
+lists_unknown known text y = lists_as (lists_unless (has_text known text) y) (λ x. ((λ p. (not_among known text p.0, p.1)), (λ p. (no_text known text p.0, p.1))))
+
+pub lists_known : {A : Type 0} (seen : List (List ℕ)) (text : List ℕ) (y : A) → Lists (if has_text seen text then y ∷ [] else []) (λ x. In seen text × (y ≡ x))
+lists_known seen text y = lists_as (lists_when (has_text seen text) y) (λ x. ((λ p. (has_among seen text p.0, p.1)), (λ p. (among_has seen text p.0, p.1))))
+
+-- a list for each element, by those that stand before it
+module _ {A B : Type 0} (g : List B → B → List A) (P : List B → B → A → Type 0) (each : (before : List B) (b : B) → Lists (g before b) (P before b)) (all : List B → List B → List A)
+    (none : (before : List B) → all before [] ≡ []) (next : (before : List B) (b : B) (bs : List B) → all before (b ∷ bs) ≡ g before b ++ all (before ++ b ∷ []) bs) where
+  abbrev OfSome : List B → A → Type 0
+  OfSome bs x = (before : List B) × ((b : B) × ((after : List B) × ((bs ≡ before ++ b ∷ after) × P before b x)))
+
+  behind_sound : (whole front bs : List B) → whole ≡ front ++ bs → (x : A) → In (all front bs) x → OfSome whole x
+  behind_sound whole front [] parts x i = absurd (subst (λ xs. In xs x) (none front) i)
+  behind_sound whole front (b ∷ bs) parts x i = elim (in_append (g front b) (all (front ++ b ∷ []) bs) x (subst (λ xs. In xs x) (next front b bs) i)) [
+    | inl now ↦ (front, (b, (bs, (parts, (each front b).sound x now))))
+    | inr later ↦ behind_sound whole (front ++ b ∷ []) bs (parts ∙ sym (append_assoc front (b ∷ []) bs)) x later
+  ]
+
+  behind_complete : (front before : List B) (b : B) (after : List B) (x : A) → P (front ++ before) b x → In (all front (before ++ b ∷ after)) x
+  behind_complete front [] b after x p = subst (λ xs. In xs x) (sym (next front b after)) (in_left (g front b) _ x ((each front b).complete x (subst (λ bs. P bs b x) (append-nil front) p)))
+  behind_complete front (c ∷ before) b after x p =
+      subst (λ xs. In xs x) (sym (next front c (before ++ b ∷ after)))
+      (in_right (g front c) _ x (behind_complete (front ++ c ∷ []) before b after x (subst (λ bs. P bs b x) (sym (append_assoc front (c ∷ []) before)) p)))
+
+  pub lists_behind : (bs : List B) → Lists (all [] bs) (OfSome bs)
+  lists_behind bs = record {
+    sound = λ x i. behind_sound bs [] bs refl x i;
+    complete = λ x p. subst (λ cs. In (all [] cs) x) (sym p.1.1.1.0) (behind_complete [] p.0 p.1.0 p.1.1.0 x p.1.1.1.1);
+  }
 
 -- the first of the list is the first fault of that kind
 pub lists_tell : {P : Fault → Type 0} (xs : List Fault) → Lists xs P → Tells P (first xs)

@@ -3,7 +3,7 @@ use Rattle.std.proofs.Common.{◌≡◌, ℕ, zero, suc, ◌<◌, ◌+◌, Bool,
 use Rattle.std.specs.List.{list_any, position_from}
 use Rattle.std.specs.Str.{bytes_eq}
 use Rattle.std.proofs.Math.Bool.{or-false}
-use Rattle.std.proofs.lemmas.Bool.{cases_Bool, or_cases, or_left, or_right}
+use Rattle.std.proofs.lemmas.Bool.{cases_Bool, or_cases, or_left, or_right, false_from_ne_true}
 use Rattle.std.proofs.lemmas.Iterator.Adapters.{position_from-zero}
 use Rattle.std.proofs.lemmas.List.{map-append}
 use Rattle.std.proofs.lemmas.Slice.Eq.{bytes_eq-Decides}
@@ -41,6 +41,12 @@ among_has (first ∷ texts) text h = elim h [
   | inl same ↦ or_left (bytes_eq first text) (has_text texts text) ((bytes_eq-Decides first text).1 same)
   | inr later ↦ or_right (bytes_eq first text) (has_text texts text) (among_has texts text later)
 ]
+
+pub not_among : (texts : List (List ℕ)) (text : List ℕ) → has_text texts text ≡ false → In texts text → ⊥
+not_among texts text none h = true≢false (sym (among_has texts text h) ∙ none)
+
+pub no_text : (texts : List (List ℕ)) (text : List ℕ) → (In texts text → ⊥) → has_text texts text ≡ false
+no_text texts text none = false_from_ne_true (has_text texts text) (λ e. none (has_among texts text e))
 
 -- a text has a place just if it stands there
 pub is_some-place_of : (texts : List (List ℕ)) (text : List ℕ) → is_some (place_of texts text) ≡ has_text texts text

@@ -15,7 +15,7 @@ use Rattle.xdg_types.specs.NameFaults.{repeats}
 use Rattle.xdg_types.specs.Parts.{Statement}
 use Rattle.xdg_types.specs.Table.{Table}
 use Rattle.xdg_types.specs.declared.table.DimType.{DimType}
-use Rattle.xdg_types.specs.Misnamed.{IsUnknown}
+use Rattle.xdg_ast.specs.Misnamed.{IsUnknown}
 use Rattle.xdg_names.proofs.Listing.{Lists}
 use Rattle.xdg_types.proofs.NamesAgain.{all_again}
 use Rattle.xdg_types.proofs.NamesKnown.{all_unknown}

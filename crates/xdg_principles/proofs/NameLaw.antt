@@ -11,14 +11,14 @@ use Rattle.xdg_ast.specs.declared.names.Name.{Name}
 use Rattle.xdg_names.specs.First.{Tells, first}
 use Rattle.xdg_names.specs.Texts.{has_text}
 use Rattle.xdg_types.specs.NameFaults.{unknown, repeats, different}
-use Rattle.xdg_types.specs.Misnamed.{IsUnknown, IsTwice}
+use Rattle.xdg_ast.specs.Misnamed.{IsUnknown, IsTwice}
 use Rattle.xdg_types.specs.Parts.{Statement, dim_names, used_names, keys}
 use Rattle.xdg_names.proofs.Listing.{Lists, lists_tell, lists_both}
 use Rattle.xdg_types.proofs.Listings.{joined_each, nested, regrouped}
 use Rattle.xdg_types.proofs.Distinct.{same_known}
-use Rattle.xdg_names.proofs.Texts.{has_among, among_has}
+use Rattle.xdg_names.proofs.Texts.{has_among, among_has, not_among, no_text}
 use Rattle.xdg_types.proofs.NamesAgain.{all_twice}
-use Rattle.xdg_types.proofs.NamesKnown.{all_unknown, unknown_names, not_among, no_text}
+use Rattle.xdg_types.proofs.NamesKnown.{all_unknown, unknown_names}
 use Rattle.xdg_principles.specs.Names.{IsUnusedDimension, IsUnknownPrinciple, IsUnknownKey, IsMissing, IsLeftOut, PrincipleNameOffends, once, given_dims, dim_keys, arg_keys, required_keys}
 use Rattle.xdg_principles.specs.NameFaults.{lacking, key_faults, left_out, principle_faults, again, unused, name_faults}
 use Rattle.xdg_problem.specs.declared.forms.Form.{Form}

@@ -7,7 +7,7 @@ use Rattle.xdg_domain.specs.Shapes.{shape}
 use Rattle.xdg_domain.specs.declared.types.Ty.{Ty}
 use Rattle.xdg_terms.specs.Forms.{Term, constant_of}
 use Rattle.xdg_terms.specs.Offences.{is_some}
-use Rattle.xdg_types.specs.Misnamed.{IsUnknown, IsAgain}
+use Rattle.xdg_ast.specs.Misnamed.{IsUnknown, IsAgain}
 use Rattle.xdg_types.specs.Parts.{Statement}
 use Rattle.xdg_types.specs.Table.{Table, firsts}
 use Rattle.xdg_problem.specs.declared.forms.Which.{Which}

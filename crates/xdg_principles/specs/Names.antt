@@ -4,7 +4,7 @@ use Rattle.xdg_base.specs.Faults.{fault_at}
 use Rattle.xdg_ast.specs.declared.names.Name.{Name}
 use Rattle.xdg_base.specs.declared.faults.Cause.TheVariants as causes
 use Rattle.xdg_base.specs.declared.faults.Fault.{Fault}
-use Rattle.xdg_types.specs.Misnamed.{IsUnknown, IsTwice}
+use Rattle.xdg_ast.specs.Misnamed.{IsUnknown, IsTwice}
 use Rattle.xdg_types.specs.Parts.{Statement, dim_names, used_names, keys}
 use Rattle.xdg_problem.specs.declared.forms.Form.{Form}
 use Rattle.xdg_problem.specs.declared.forms.Parameter.{Parameter}

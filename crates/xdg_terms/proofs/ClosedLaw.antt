@@ -156,7 +156,7 @@ module _ (bs : Bindings) where
       | inl r ↦ inr (inl (record { texts = r.texts; name = r.name; stands = subst (λ names. In (asked_in (d.constants key) names) (r.texts, r.name)) (keys_closed t pairs h) r.stands; missing = r.missing; fault = r.fault }))
       | inr w ↦ elim w [
         | inl r ↦ inr (inr (inl (record { before = r.before; name = r.name; after = r.after; parts = sym (keys_closed t pairs h) ∙ r.parts; earlier = r.earlier; fault = r.fault })))
-        | inr w ↦ elim w [ inl r ↦ absurd r.stands | inr r ↦ absurd r.stands ]
+        | inr w ↦ elim w [ inl r ↦ absurd r.used | inr r ↦ absurd r.stands ]
       ]
     ]
   ]
@@ -169,7 +169,7 @@ module _ (bs : Bindings) where
       | inr w ↦ elim w [
         | inl r ↦ inr (inr (inl (record { before = r.before; name = r.name; after = r.after; parts = sym (keys_closed t pairs h) ∙ r.parts; earlier = r.earlier; fault = r.fault })))
         | inr w ↦ elim w [
-          | inl r ↦ inr (inr (inr (inl (record { name = r.name; stands = subst (λ names. In names r.name) (keys_closed t pairs h) r.stands; missing = r.missing; fault = r.fault }))))
+          | inl r ↦ inr (inr (inr (inl (record { name = r.name; used = subst (λ names. In names r.name) (keys_closed t pairs h) r.used; missing = r.missing; fault = r.fault }))))
           | inr r ↦ absurd r.stands
         ]
       ]

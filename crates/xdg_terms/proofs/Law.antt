@@ -2,7 +2,7 @@
 use Rattle.std.proofs.Common.{◌≡◌, ◌⊎◌, inl, inr, ℕ, ◌<◌, Bool, true, false, List, [], ◌∷◌, ◌++◌, map, Option, Some, None, length, refl, sym, ap, ap₂, ◌∙◌, subst, append_assoc}
 use Rattle.std.specs.Prelude.{if◌then◌else◌, bytes_eq, nat_lt, ◌||◌}
 use Rattle.std.specs.List.{flat_map}
-use Rattle.std.proofs.lemmas.Bool.{ltb-true, lt-ltb, or_cases, or_left, or_right, true≢false, false_from_ne_true}
+use Rattle.std.proofs.lemmas.Bool.{ltb-true, lt-ltb, or_cases, or_left, or_right, true≢false}
 use Rattle.std.proofs.lemmas.List.{append-nil}
 use Rattle.std.proofs.lemmas.List.Folds.{flat_map-map}
 use Rattle.std.proofs.lemmas.Grind.{flat_map-append}
@@ -12,6 +12,8 @@ use Rattle.xdg_base.specs.declared.faults.Cause.TheVariants as causes
 use Rattle.xdg_base.specs.declared.faults.Fault.{Fault}
 use Rattle.xdg_ast.specs.declared.names.Name.{Name}
 use Rattle.xdg_ast.specs.declared.names.Num.{Num}
+use Rattle.xdg_ast.specs.Texts.{texts}
+use Rattle.xdg_ast.specs.Misnamed.{IsUnknown, IsAgain}
 use Rattle.xdg_ast.specs.declared.names.Spanned.{Spanned}
 use Rattle.xdg_ast.specs.declared.terms.TermKind.{TermKind, out-TermKind}
 use Rattle.xdg_ast.specs.declared.terms.ElemKind.{ElemKind}
@@ -22,16 +24,13 @@ use Rattle.xdg_ast.specs.declared.terms.CardKind.TheVariants as c
 use Rattle.xdg_domain.specs.Shapes as d
 use Rattle.xdg_domain.specs.Shapes.{Shape, domain, tuple, truth, integer, text, set, iset, card, valency, mapping, fields, Shapes, Fields, no_field, field_then, sizes, in_a_row, names_of}
 use Rattle.xdg_names.specs.First.{Tells, first}
-use Rattle.xdg_names.proofs.Listing.{Lists, lists_none, lists_as, lists_both, lists_each, lists_unless, lists_when, lists_tell}
+use Rattle.xdg_names.proofs.Listing.{Lists, lists_none, lists_as, lists_both, lists_each, lists_unless, lists_when, lists_unknown, lists_known, lists_behind, lists_tell}
 use Rattle.xdg_terms.specs.Forms.{Term, Card, Look, all_of, bracketed_elem, braces_in, generator_in, constant_of, number_of, card_of, generator_of, bracket_of, constants_of, brackets_of, counts_of, pairs_of}
-use Rattle.xdg_terms.specs.Offences.{has_form, has_set_form, asked_in_set, is_some, one_told, all_told, Asked, asked_in, asked_in_turn, asked, keys, field_keys, known_fields, cards, keys_of, gen_names, IsWrongKind, IsNotMember, IsTwice, IsUnknownField, IsOutOfRange, CardOffends, OffendsHere, OfSeen, OffendsIn, OffendsUnder, OffendsBy}
+use Rattle.xdg_terms.specs.Offences.{has_form, has_set_form, asked_in_set, is_some, one_told, all_told, Asked, asked_in, asked_in_turn, asked, keys, field_keys, known_fields, cards, keys_of, gen_names, IsWrongKind, IsNotMember, IsOutOfRange, CardOffends, OffendsHere, OfSeen, OffendsIn, OffendsUnder, OffendsBy}
 use Rattle.xdg_terms.specs.Faults as spec
 use Rattle.xdg_terms.proofs.Right.{HoldsNone}
-use Rattle.xdg_names.specs.Texts.{has_text}
-use Rattle.xdg_names.proofs.Texts.{has_among, among_has}
 use Rattle.xdg_facts.proofs.Texts.{same_text, is_same}
 use Rattle.xdg_facts.specs.Membership.{In}
-use Rattle.xdg_facts.proofs.In.{in_append, in_left, in_right}
 
 -- ---- the rules as lists
 
@@ -47,19 +46,13 @@ rows form t all known names twice_told written =
 abbrev here : Shape → Term → List Fault
 here s t = rows (has_form s t) t (asked s t) (known_fields s) (field_keys s t) (keys s t) (cards s t)
 
-missing_is : (cause : Cause) (texts : List (List ℕ)) (name : Name) → Lists (spec.missing cause texts name) (λ f. (In texts name.text → ⊥) × (f ≡ fault_at cause name.span.start))
+missing_is : (cause : Cause) (known : List (List ℕ)) (name : Name) → Lists (spec.missing cause known name) (λ f. (In known name.text → ⊥) × (fault_at cause name.span.start ≡ f))
 unfolding spec.missing
-missing_is cause texts name = lists_as (lists_unless (has_text texts name.text) (fault_at cause name.span.start)) (λ f. (
-  λ e. ((λ a. true≢false (sym (among_has texts name.text a) ∙ e.0)), sym e.1),
-  λ p. (false_from_ne_true (has_text texts name.text) (λ e. p.0 (has_among texts name.text e)), sym p.1),
-))
+missing_is cause known name = lists_unknown known name.text (fault_at cause name.span.start)
 
-twice_is : (before : List Name) (name : Name) → Lists (spec.twice before name) (λ f. In (spec.texts_of before) name.text × (f ≡ fault_at causes.Twice name.span.start))
+twice_is : (before : List Name) (name : Name) → Lists (spec.twice before name) (λ f. In (texts before) name.text × (fault_at causes.Twice name.span.start ≡ f))
 unfolding spec.twice
-twice_is before name = lists_as (lists_when (has_text (spec.texts_of before) name.text) (fault_at causes.Twice name.span.start)) (λ f. (
-  λ e. (has_among (spec.texts_of before) name.text e.0, sym e.1),
-  λ p. (among_has (spec.texts_of before) name.text p.0, sym p.1),
-))
+twice_is before name = lists_known (texts before) name.text (fault_at causes.Twice name.span.start)
 
 -- ---- cardinalities
 
@@ -87,25 +80,6 @@ card_is : (written : Card) → Lists (spec.card_faults written) (CardOffends wri
 unfolding spec.card_faults
 card_is written = card_kind_is written written.kind
 
--- ---- keys that stand twice
-
-abbrev Again : List Name → Fault → Type 0
-Again all f = (before : List Name) × ((name : Name) × ((after : List Name) × ((all ≡ before ++ name ∷ after) × (In (spec.texts_of before) name.text × (f ≡ fault_at causes.Twice name.span.start)))))
-
-again : (all front names : List Name) → all ≡ front ++ names → (f : Fault) → In (spec.all_twice front names) f → Again all f
-again all front [] e f h = absurd h
-again all front (name ∷ names) e f h = elim (in_append (spec.twice front name) (spec.all_twice (front ++ name ∷ []) names) f h) [
-  | inl now ↦ (front, (name, (names, (e, (twice_is front name).sound f now))))
-  | inr later ↦ again all (front ++ name ∷ []) names (e ∙ sym (append_assoc front (name ∷ []) names)) f later
-]
-
-again_in : (front before : List Name) (name : Name) (after : List Name) (f : Fault) → In (spec.texts_of (front ++ before)) name.text → f ≡ fault_at causes.Twice name.span.start → In (spec.all_twice front (before ++ name ∷ after)) f
-again_in front [] name after f among is =
-    in_left (spec.twice front name) (spec.all_twice (front ++ name ∷ []) after) f ((twice_is front name).complete f (subst (λ xs. In (spec.texts_of xs) name.text) (append-nil front) among, is))
-again_in front (x ∷ before) name after f among is =
-    in_right (spec.twice front x) (spec.all_twice (front ++ x ∷ []) (before ++ name ∷ after)) f
-    (again_in (front ++ x ∷ []) before name after f (subst (λ xs. In (spec.texts_of xs) name.text) (sym (append_assoc front (x ∷ []) before)) among) is)
-
 -- ---- the term itself
 
 swapped : {V W X Y Z : Type 0} → V ⊎ (W ⊎ (X ⊎ (Y ⊎ Z))) → V ⊎ (W ⊎ (Y ⊎ (X ⊎ Z)))
@@ -121,21 +95,21 @@ module _ (s : Shape) (t : Term) where
 
   constants_are : Lists (asked_faults (asked s t)) (IsNotMember s t)
   constants_are = lists_as
-      (lists_each (λ (one : Asked). spec.missing causes.NotMember one.0 one.1) (λ one f. (In one.0 one.1.text → ⊥) × (f ≡ fault_at causes.NotMember one.1.span.start)) (asked s t) (λ one i. missing_is causes.NotMember one.0 one.1))
-      (λ f. (λ k. record { texts = k.0.0; name = k.0.1; stands = k.1.0; missing = k.1.1.0; fault = k.1.1.1 }, λ r. ((r.texts, r.name), (r.stands, (r.missing, r.fault)))))
+      (lists_each (λ (one : Asked). spec.missing causes.NotMember one.0 one.1) (λ one f. (In one.0 one.1.text → ⊥) × (fault_at causes.NotMember one.1.span.start ≡ f)) (asked s t) (λ one _. missing_is causes.NotMember one.0 one.1))
+      (λ f. (λ k. record { texts = k.0.0; name = k.0.1; stands = k.1.0; missing = k.1.1.0; fault = sym k.1.1.1 }, λ r. ((r.texts, r.name), (r.stands, (r.missing, sym r.fault)))))
 
-  names_are : Lists (spec.all_missing causes.UnknownName (known_fields s) (field_keys s t)) (IsUnknownField s t)
+  names_are : Lists (spec.all_missing causes.UnknownName (known_fields s) (field_keys s t)) (IsUnknown causes.UnknownName (known_fields s) (field_keys s t))
   names_are = lists_as
-      (lists_each (spec.missing causes.UnknownName (known_fields s)) (λ name f. (In (known_fields s) name.text → ⊥) × (f ≡ fault_at causes.UnknownName name.span.start)) (field_keys s t) (λ name i. missing_is causes.UnknownName (known_fields s) name))
-      (λ f. (λ k. record { name = k.0; stands = k.1.0; missing = k.1.1.0; fault = k.1.1.1 }, λ r. (r.name, (r.stands, (r.missing, r.fault)))))
+      (lists_each (spec.missing causes.UnknownName (known_fields s)) (λ name f. (In (known_fields s) name.text → ⊥) × (fault_at causes.UnknownName name.span.start ≡ f)) (field_keys s t) (λ name _. missing_is causes.UnknownName (known_fields s) name))
+      (λ f. (λ k. record { name = k.0; used = k.1.0; missing = k.1.1.0; fault = sym k.1.1.1 }, λ r. (r.name, (r.used, (r.missing, sym r.fault)))))
 
-  keys_are : Lists (spec.all_twice [] (keys s t)) (IsTwice s t)
-  keys_are = record {
-    sound = λ f h.
-        let k = again (keys s t) [] (keys s t) refl f h in
-        record { before = k.0; name = k.1.0; after = k.1.1.0; parts = k.1.1.1.0; earlier = k.1.1.1.1.0; fault = k.1.1.1.1.1 };
-    complete = λ f r. subst (λ ks. In (spec.all_twice [] ks) f) (sym r.parts) (again_in [] r.before r.name r.after f r.earlier r.fault);
-  }
+  keys_are : Lists (spec.all_twice [] (keys s t)) (IsAgain (keys s t))
+  keys_are = lists_as
+      (lists_behind spec.twice (λ before name f. In (texts before) name.text × (fault_at causes.Twice name.span.start ≡ f)) twice_is spec.all_twice (λ before. refl) (λ before name rest. refl) (keys s t))
+      (λ f. (
+        λ k. record { before = k.0; name = k.1.0; after = k.1.1.0; parts = k.1.1.1.0; earlier = k.1.1.1.1.0; fault = sym k.1.1.1.1.1 },
+        λ r. (r.before, (r.name, (r.after, (r.parts, (r.earlier, sym r.fault))))),
+      ))
 
   cards_are : Lists (flat_map spec.card_faults (cards s t)) (IsOutOfRange s t)
   cards_are = lists_as (lists_each spec.card_faults (λ card f. CardOffends card card.kind f) (cards s t) (λ card i. card_is card)) (λ f. (

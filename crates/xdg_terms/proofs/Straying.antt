@@ -1,8 +1,7 @@
 -- The parameters in braces are those of the elements.
-use Rattle.std.proofs.Common.{◌≡◌, inl, inr, ℕ, ◌+◌, ◌<◌, ◌≤◌, true, List, [], ◌∷◌, length, drop, get_or, Option, sym, ap, ◌∙◌, subst}
-use Rattle.std.specs.Prelude.{bytes_eq}
+use Rattle.std.proofs.Common.{◌≡◌, ℕ, ◌+◌, ◌<◌, ◌≤◌, List, [], ◌∷◌, length, drop, get_or, Option, refl, sym, ap, ◌∙◌, subst}
+use Rattle.std.specs.Prelude.{bytes_eq, ◌||◌}
 use Rattle.std.specs.List.{flat_map}
-use Rattle.std.proofs.lemmas.Bool.{true≢false, or_cases, or_left, or_right, false_from_ne_true}
 use Rattle.std.proofs.lemmas.List.{at_drop_all}
 use Rattle.std.proofs.lemmas.Grind.{flat_map-append}
 use Rattle.std.proofs.lemmas.List.Folds.{flat_map-map}
@@ -19,47 +18,30 @@ use Rattle.xdg_ast.specs.declared.terms.ElemKind.TheVariants as e
 use Rattle.xdg_ast.specs.declared.terms.ElemKind.TheOpen.{TermKind-F, ElemKind-F}
 use Rattle.xdg_ast.specs.declared.terms.ElemKind.TheFolds.{fold-roll-ElemKind, fold-roll-TermKind}
 use Rattle.xdg_names.specs.First.{Tells, first, earlier}
-use Rattle.xdg_names.proofs.First.{tells_as, first-tells, first_turn, earlier-none}
+use Rattle.xdg_names.specs.Texts.{has_text}
+use Rattle.xdg_names.proofs.Listing.{Lists, lists_as, lists_each, lists_unknown, lists_tell}
+use Rattle.xdg_names.proofs.First.{first_turn, earlier-none}
 use Rattle.xdg_terms.specs.Forms.{Term}
 use Rattle.xdg_terms.specs.Stray.{term_step, elem_step, tokens, elem_tokens, IsStrayParam, stray, all_stray}
-use Rattle.xdg_facts.proofs.Texts.{same_text, is_same}
 use Rattle.xdg_facts.specs.Membership.{In}
-use Rattle.xdg_facts.proofs.In.{in_unless, unless_in, in_flat_map, flat_map_in}
-
--- ---- among the parameters
-
-pub any_among : (free : List (List ℕ)) (t : List ℕ) → is_among free t ≡ true → In free t
-any_among [] t h = absurd (true≢false (sym h))
-any_among (x ∷ xs) t h = elim (or_cases (bytes_eq x t) (is_among xs t) h) [ inl a ↦ inl (same_text x t a) | inr b ↦ inr (any_among xs t b) ]
-
-pub among_any : (free : List (List ℕ)) (t : List ℕ) → In free t → is_among free t ≡ true
-among_any [] t h = absurd h
-among_any (x ∷ xs) t h = elim h [ inl a ↦ or_left (bytes_eq x t) (is_among xs t) (is_same x t a) | inr b ↦ or_right (bytes_eq x t) (is_among xs t) (among_any xs t b) ]
 
 -- ---- the law
 
-module _ (free : List (List ℕ)) where
-  in_stray : (name : Name) (f : Fault) → In (stray free name) f → (In free name.text → ⊥) × (f ≡ fault_at causes.WrongKind name.span.start)
-  unfolding stray
-  in_stray name f h =
-      let w = in_unless (is_among free name.text) (fault_at causes.WrongKind name.span.start) f h in
-      ((λ a. true≢false (sym (among_any free name.text a) ∙ w.0)), sym w.1)
+same_among : (free : List (List ℕ)) (text : List ℕ) → is_among free text ≡ has_text free text
+same_among [] text = refl
+same_among (x ∷ free) text = ap (λ b. bytes_eq x text || b) (same_among free text)
 
-  stray_in : (name : Name) (f : Fault) → (In free name.text → ⊥) → f ≡ fault_at causes.WrongKind name.span.start → In (stray free name) f
-  unfolding stray
-  stray_in name f absent is = unless_in (is_among free name.text) (fault_at causes.WrongKind name.span.start) f (false_from_ne_true (is_among free name.text) (λ h. absent (any_among free name.text h))) (sym is)
+stray_is : (free : List (List ℕ)) (name : Name) → Lists (stray free name) (λ f. (In free name.text → ⊥) × (fault_at causes.WrongKind name.span.start ≡ f))
+unfolding stray
+stray_is free name = rw (same_among free name.text) (lists_unknown free name.text (fault_at causes.WrongKind name.span.start))
 
-  sound : (t : Term) (f : Fault) → In (all_stray free t.kind) f → IsStrayParam free t f
-  sound t f h =
-      let one = in_flat_map (stray free) (tokens t.kind) f h in
-      let w = in_stray one.0 f one.1.1 in
-      record { name = one.0; stands = one.1.0; missing = w.0; fault = w.1 }
+all_stray_are : (free : List (List ℕ)) (t : Term) → Lists (all_stray free t.kind) (IsStrayParam free t)
+all_stray_are free t = lists_as
+    (lists_each (stray free) (λ name f. (In free name.text → ⊥) × (fault_at causes.WrongKind name.span.start ≡ f)) (tokens t.kind) (λ name _. stray_is free name))
+    (λ f. (λ k. record { name = k.0; stands = k.1.0; missing = k.1.1.0; fault = sym k.1.1.1 }, λ r. (r.name, (r.stands, (r.missing, sym r.fault)))))
 
-  complete : (t : Term) (f : Fault) → IsStrayParam free t f → In (all_stray free t.kind) f
-  complete t f r = flat_map_in (stray free) (tokens t.kind) r.name f r.stands (stray_in r.name f r.missing r.fault)
-
-  pub stray_law : (t : Term) (found : Option Fault) → found ≡ first (all_stray free t.kind) → Tells (IsStrayParam free t) found
-  stray_law t found is = subst (Tells (IsStrayParam free t)) (sym is) (tells_as (In (all_stray free t.kind)) (IsStrayParam free t) (sound t) (complete t) (first (all_stray free t.kind)) (first-tells (all_stray free t.kind)))
+pub stray_law : (free : List (List ℕ)) (t : Term) (found : Option Fault) → found ≡ first (all_stray free t.kind) → Tells (IsStrayParam free t) found
+stray_law free t found is = subst (Tells (IsStrayParam free t)) (sym is) (lists_tell (all_stray free t.kind) (all_stray_are free t))
 
 -- ---- braces
 

@@ -5,6 +5,7 @@ use Rattle.xdg_base.specs.declared.faults.Cause.TheVariants as causes
 use Rattle.xdg_base.specs.declared.faults.Fault.{Fault}
 use Rattle.xdg_ast.specs.declared.names.Name.{Name}
 use Rattle.xdg_ast.specs.declared.names.Num.{Num}
+use Rattle.xdg_ast.specs.Misnamed.{IsUnknown, IsAgain}
 use Rattle.xdg_ast.specs.declared.terms.CardKind.{CardKind}
 use Rattle.xdg_ast.specs.declared.terms.CardKind.TheVariants as c
 use Rattle.xdg_ast.specs.declared.terms.GenKind.{GenKind}
@@ -129,22 +130,6 @@ pub record IsNotMember (s : Shape) (t : Term) (f : Fault) : Type 0 where
   pub missing : In texts name.text → ⊥
   pub fault : f ≡ fault_at causes.NotMember name.span.start
 
--- a key stands there that an earlier one has too
-pub record IsTwice (s : Shape) (t : Term) (f : Fault) : Type 0 where
-  pub before : List Name
-  pub name : Name
-  pub after : List Name
-  pub parts : keys s t ≡ before ++ name ∷ after
-  pub earlier : In (map (λ key. key.text) before) name.text
-  pub fault : f ≡ fault_at causes.Twice name.span.start
-
--- no field has the name
-pub record IsUnknownField (s : Shape) (t : Term) (f : Fault) : Type 0 where
-  pub name : Name
-  pub stands : In (field_keys s t) name
-  pub missing : In (known_fields s) name.text → ⊥
-  pub fault : f ≡ fault_at causes.UnknownName name.span.start
-
 -- a number is above 127; the second number of an interval is below the first; no number is given
 abbrev pub CardOffends : Card → CardKind → Fault → Type 0
 CardOffends written (c.Numbers []) f = f ≡ fault_at causes.CardRange written.span.start
@@ -159,9 +144,9 @@ pub record IsOutOfRange (s : Shape) (t : Term) (f : Fault) : Type 0 where
   pub stands : In (cards s t) card
   pub offends : CardOffends card card.kind f
 
--- what is wrong with the term itself
+-- what is wrong with the term itself: that, or a key stands there that an earlier one has too, or no field has the name
 abbrev pub OffendsHere : Shape → Term → Fault → Type 0
-OffendsHere s t f = IsWrongKind s t f ⊎ (IsNotMember s t f ⊎ (IsTwice s t f ⊎ (IsUnknownField s t f ⊎ IsOutOfRange s t f)))
+OffendsHere s t f = IsWrongKind s t f ⊎ (IsNotMember s t f ⊎ (IsAgain (keys s t) f ⊎ (IsUnknown causes.UnknownName (known_fields s) (field_keys s t) f ⊎ IsOutOfRange s t f)))
 
 -- ---- all offences
 

@@ -20,34 +20,24 @@ same_test xs ys t to from = by (has_text xs t) (has_text ys t) refl refl
     by false false p q = refl
     by false true p q = absurd (true≢false (sym (among_has xs t (from (has_among ys t q))) ∙ p))
 
--- ---- lists in a row
-
-pub texts_left : (front more : List Name) (t : List ℕ) → In (texts front) t → In (texts (front ++ more)) t
-texts_left [] more t h = absurd h
-texts_left (n ∷ front) more t h = elim h [ inl e ↦ inl e | inr k ↦ inr (texts_left front more t k) ]
-
-pub texts_right : (front more : List Name) (t : List ℕ) → In (texts more) t → In (texts (front ++ more)) t
-texts_right [] more t h = h
-texts_right (n ∷ front) more t h = inr (texts_right front more t h)
-
 -- ---- one text more
 
 module _ (seen : List (List ℕ)) (x : List ℕ) where
-  pub with_splits : (t : List ℕ) → In (with_text seen x) t → In seen t ⊎ (x ≡ t)
+  with_splits : (t : List ℕ) → In (with_text seen x) t → In seen t ⊎ (x ≡ t)
   with_splits t = by (has_text seen x)
     where
       by : (b : Bool) → In (if b then seen else seen ++ x ∷ []) t → In seen t ⊎ (x ≡ t)
       by true h = inl h
       by false h = elim (in_append seen (x ∷ []) t h) [ inl l ↦ inl l | inr r ↦ elim r [ inl e ↦ inr e | inr k ↦ absurd k ] ]
 
-  pub with_old : (t : List ℕ) → In seen t → In (with_text seen x) t
+  with_old : (t : List ℕ) → In seen t → In (with_text seen x) t
   with_old t h = by (has_text seen x)
     where
       by : (b : Bool) → In (if b then seen else seen ++ x ∷ []) t
       by true = h
       by false = in_left seen (x ∷ []) t h
 
-  pub with_new : In (with_text seen x) x
+  with_new : In (with_text seen x) x
   with_new = by (has_text seen x) refl
     where
       by : (b : Bool) → has_text seen x ≡ b → In (if b then seen else seen ++ x ∷ []) x

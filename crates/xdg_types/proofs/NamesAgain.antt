@@ -1,5 +1,5 @@
 -- Which names of a list are told to stand again.
-use Rattle.std.proofs.Common.{◌≡◌, ◌⊎◌, inl, inr, ℕ, List, [], ◌∷◌, ◌++◌, refl, sym, ◌∙◌, subst, append_assoc}
+use Rattle.std.proofs.Common.{◌≡◌, ◌⊎◌, inl, inr, List, [], ◌∷◌, ◌++◌, refl, sym, ap, subst}
 use Rattle.std.specs.List.{flat_map}
 use Rattle.std.proofs.lemmas.List.{append-nil}
 use Rattle.xdg_base.specs.Faults.{fault_at}
@@ -7,53 +7,28 @@ use Rattle.xdg_base.specs.declared.faults.Cause.TheVariants as causes
 use Rattle.xdg_base.specs.declared.faults.Fault.{Fault}
 use Rattle.xdg_ast.specs.declared.names.Name.{Name}
 use Rattle.xdg_names.specs.First.{Tells, first}
-use Rattle.xdg_names.specs.Texts.{has_text}
-use Rattle.xdg_names.proofs.Texts.{has_among, among_has}
 use Rattle.xdg_types.specs.Answers.{None_of}
-use Rattle.xdg_types.specs.Misnamed.{IsAgain, IsTwice}
-use Rattle.xdg_types.specs.NameFaults.{repeated, repeats, with_text}
-use Rattle.xdg_names.proofs.Listing.{Lists, lists_tell}
-use Rattle.xdg_types.proofs.Distinct.{with_splits, with_old, with_new, texts_left, texts_right}
+use Rattle.xdg_ast.specs.Misnamed.{IsAgain, IsTwice}
+use Rattle.xdg_types.specs.NameFaults.{repeated, repeats, different}
+use Rattle.xdg_names.proofs.Listing.{Lists, lists_as, lists_known, lists_behind, lists_tell}
+use Rattle.xdg_types.proofs.Again.{with_all-append}
+use Rattle.xdg_types.proofs.Distinct.{same_known}
 use Rattle.xdg_types.proofs.Elements.{differ_unless}
 use Rattle.xdg_facts.specs.Membership.{In, Differ}
-use Rattle.xdg_facts.proofs.In.{in_append, in_left, in_right, in_when, when_in, in_flat_map, flat_map_in}
+use Rattle.xdg_facts.proofs.In.{in_append, in_left, in_right, in_flat_map, flat_map_in}
 use Rattle.xdg_ast.specs.Texts.{texts}
 
--- the names before these have been seen
-again_sound : (names front rest : List Name) → names ≡ front ++ rest → (seen : List (List ℕ)) → ((t : List ℕ) → In seen t → In (texts front) t) → (f : Fault) → In (repeats seen rest) f → IsAgain names f
-again_sound names front [] parts seen known f h = absurd h
-again_sound names front (n ∷ rest) parts seen known f h = elim (in_append (repeated seen n) (repeats (with_text seen n.text) rest) f h) [
-  | inl here ↦ (let k = in_when (has_text seen n.text) (fault_at causes.Twice n.span.start) f here in
-      record { before = front; name = n; after = rest; parts = parts; earlier = known n.text (has_among seen n.text k.0); fault = sym k.1 })
-  | inr later ↦ again_sound names (front ++ n ∷ []) rest (parts ∙ sym (append_assoc front (n ∷ []) rest)) (with_text seen n.text)
-      (λ t a. elim (with_splits seen n.text t a) [
-        | inl s ↦ texts_left front (n ∷ []) t (known t s)
-        | inr e ↦ texts_right front (n ∷ []) t (inl e)
-      ])
-      f later
-]
-
-again_complete : (before : List Name) (n : Name) (after : List Name) (seen : List (List ℕ)) (f : Fault) → In seen n.text ⊎ In (texts before) n.text → fault_at causes.Twice n.span.start ≡ f
-    → In (repeats seen (before ++ n ∷ after)) f
-again_complete [] n after seen f h e =
-    let stands : In seen n.text = elim h [ inl s ↦ s | inr k ↦ absurd k ] in
-    in_left (repeated seen n) (repeats (with_text seen n.text) after) f (when_in (has_text seen n.text) (fault_at causes.Twice n.span.start) f (among_has seen n.text stands) e)
-again_complete (x ∷ before) n after seen f h e =
-    in_right (repeated seen x) (repeats (with_text seen x.text) (before ++ n ∷ after)) f
-    (again_complete before n after (with_text seen x.text) f
-    (elim h [
-      | inl s ↦ inl (with_old seen x.text n.text s)
-      | inr k ↦ elim k [ inl q ↦ inl (subst (In (with_text seen x.text)) q (with_new seen x.text)) | inr b ↦ inr b ]
-    ])
-    e)
-
--- ---- all of a list, and of several
+again_here : (before : List Name) (name : Name) → Lists (repeated (different before) name) (λ f. In (texts before) name.text × (fault_at causes.Twice name.span.start ≡ f))
+again_here before name = rw (same_known before name.text) (lists_known (texts before) name.text (fault_at causes.Twice name.span.start))
 
 pub all_again : (names : List Name) → Lists (repeats [] names) (IsAgain names)
-all_again names = record {
-  sound = again_sound names [] names refl [] (λ t a. a);
-  complete = λ f a. subst (λ ns. In (repeats [] ns) f) (sym a.parts) (again_complete a.before a.name a.after [] f (inr a.earlier) (sym a.fault));
-}
+all_again names = lists_as
+    (lists_behind (λ before name. repeated (different before) name) (λ before name f. In (texts before) name.text × (fault_at causes.Twice name.span.start ≡ f)) again_here
+    (λ before rest. repeats (different before) rest) (λ before. refl) (λ before name rest. ap (λ seen. repeated (different before) name ++ repeats seen rest) (sym (with_all-append [] before (name ∷ [])))) names)
+    (λ f. (
+      λ k. record { before = k.0; name = k.1.0; after = k.1.1.0; parts = k.1.1.1.0; earlier = k.1.1.1.1.0; fault = sym k.1.1.1.1.1 },
+      λ a. (a.before, (a.name, (a.after, (a.parts, (a.earlier, sym a.fault))))),
+    ))
 
 -- the first of the list is the first offence
 pub again_tells : (names : List Name) → Tells (IsAgain names) (first (repeats [] names))

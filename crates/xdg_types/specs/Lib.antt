@@ -2,7 +2,6 @@ pub mod Answers
 pub mod Graph
 pub mod Kinds
 pub mod Meaning
-pub mod Misnamed
 pub mod NameFaults
 pub mod Names
 pub mod Parts

@@ -7,7 +7,7 @@ use Rattle.xdg_ast.specs.declared.names.Name.{Name}
 use Rattle.xdg_ast.specs.declared.grammar.DimPartKind.{DimPartKind}
 use Rattle.xdg_ast.specs.declared.grammar.DimPartKind.TheVariants as p
 use Rattle.xdg_types.specs.Written.{tree, uses, lists}
-use Rattle.xdg_types.specs.Misnamed.{IsUnknown, IsTwice}
+use Rattle.xdg_ast.specs.Misnamed.{IsUnknown, IsTwice}
 use Rattle.xdg_types.specs.Parts.{DimPart, Statement, Dimension, dimensions, dim_names, used_names, defined_names, types}
 use Rattle.xdg_facts.specs.Membership.{In}
 use Rattle.xdg_ast.specs.Texts.{texts}

@@ -7,7 +7,7 @@ use Rattle.xdg_ast.specs.declared.names.Name.{Name}
 use Rattle.xdg_ast.specs.Texts.{texts}
 use Rattle.xdg_names.specs.First.{Tells, first}
 use Rattle.xdg_types.specs.Written.{tree, uses, lists}
-use Rattle.xdg_types.specs.Misnamed.{IsUnknown, IsTwice}
+use Rattle.xdg_ast.specs.Misnamed.{IsUnknown, IsTwice}
 use Rattle.xdg_types.specs.Parts.{TypeTerm, Statement, Dimension, dimensions, dim_names, used_names, defined_names, in_parts, type_in, types}
 use Rattle.xdg_types.specs.Names.{NameOffends, IsPartTwice, type_names}
 use Rattle.xdg_types.specs.NameFaults.{unknown, repeats, different}

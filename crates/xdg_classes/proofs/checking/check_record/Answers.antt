@@ -1,6 +1,6 @@
 use Rattle.std.proofs.Common.{subst}
 use Rattle.xdg_names.specs.First.{Tells}
-use Rattle.xdg_types.specs.Misnamed.{IsAgain}
+use Rattle.xdg_ast.specs.Misnamed.{IsAgain}
 use Rattle.xdg_types.specs.Parts.{keys}
 use Rattle.xdg_classes.specs.Collected.{feature_of}
 use Rattle.xdg_classes.specs.Wrong as wrong
