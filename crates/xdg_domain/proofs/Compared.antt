@@ -4,25 +4,15 @@ use Rattle.std.proofs.lemmas.Bool.{true≢false}
 use Rattle.std.proofs.lemmas.List.{get_or_default}
 use Rattle.std.specs.Prelude.{◌↔◌, Bool, slice_index_or}
 use Rattle.xdg_domain.specs.declared.values.Value.{Value, out-Value}
-use Rattle.xdg_domain.specs.declared.values.Value.TheVariants as v
 use Rattle.xdg_domain.specs.declared.values.Value.TheOpen.{Value-F}
 
--- values that are made alike are the same where what they are made of is
-pub made : {A : Type 0} (f : A → Value) → ((x y : A) → f x ≡ f y → x ≡ y) → (same : Bool) (one other : Value) (x y s t : A) → one ≡ f x → other ≡ f y → s ≡ x → t ≡ y
-    → ((same ≡ true) ↔ (s ≡ t)) → (same ≡ true) ↔ (one ≡ other)
-made f apart same one other x y s t is_one is_other is_s is_t told = (
+-- values of one layer are the same where what they are made of is
+pub made : {A : Type 0} (f : A → Value) (layer : A → Value-F Value) → ((x : A) → out-Value (f x) ≡ layer x) → ((x y : A) → layer x ≡ layer y → x ≡ y)
+    → (same : Bool) (one other : Value) (x y s t : A) → one ≡ f x → other ≡ f y → s ≡ x → t ≡ y → ((same ≡ true) ↔ (s ≡ t)) → (same ≡ true) ↔ (one ≡ other)
+made f layer outs apart same one other x y s t is_one is_other is_s is_t told = (
   λ h. is_one ∙ ap f (sym is_s ∙ told.0 h ∙ is_t) ∙ sym is_other,
-  λ h. told.1 (is_s ∙ apart x y (sym is_one ∙ h ∙ is_other) ∙ sym is_t),
+  λ h. told.1 (is_s ∙ apart x y (sym (outs x) ∙ ap out-Value (sym is_one ∙ h ∙ is_other) ∙ outs y) ∙ sym is_t),
 )
-
-pub map_apart : (xs ys : List (ℕ × Value)) → v.Map xs ≡ v.Map ys → xs ≡ ys
-map_apart xs ys h = let e : Value-F.Map xs ≡ Value-F.Map ys = sym (v.outs-Map xs) ∙ ap out-Value h ∙ v.outs-Map ys in cc
-
-pub record_apart : (xs ys : List (ℕ × Value)) → v.Rec xs ≡ v.Rec ys → xs ≡ ys
-record_apart xs ys h = let e : Value-F.Rec xs ≡ Value-F.Rec ys = sym (v.outs-Rec xs) ∙ ap out-Value h ∙ v.outs-Rec ys in cc
-
-pub valency_apart : (xs ys : List (ℕ × List ℕ)) → v.Valency xs ≡ v.Valency ys → xs ≡ ys
-valency_apart xs ys h = let e : Value-F.Valency xs ≡ Value-F.Valency ys = sym (v.outs-Valency xs) ∙ ap out-Value h ∙ v.outs-Valency ys in cc
 
 -- lists with elements that differ in a part at a place
 differ : {A B : Type 0} (part : A → B) (xs ys : List A) (at : ℕ) (d e : A) → at < length xs → (part (slice_index_or xs at d) ≡ part (slice_index_or ys at e) → ⊥)

@@ -95,15 +95,15 @@ pub taken : (place : ℕ) (o : Option Value) (r : Option (List (ℕ × Value))) 
 taken place (Some x) (Some rest) all e = record { first = x; rest = rest; one = refl; more = refl; whole = some_same ((place, x) ∷ rest) all e }
 taken place o r all e = absurd (cc)
 
-fields_rise : (fs : Fields) (place : ℕ) (all : List (ℕ × Value)) → defaults place fs ≡ Some all → KeysRise place all
-fields_rise no_field place all e = subst (KeysRise place) (some_same [] all e) tt
-fields_rise (field_then name u fs) place all e =
-    let t = taken place (default u) (defaults (place + 1) fs) all e in
-    subst (KeysRise place) t.whole (omega arith, fields_rise fs (place + 1) t.rest t.more)
-
 -- the value is one of the field that stands so many after that place
 abbrev pub IsAt : Fields → ℕ → ℕ → Value → Type 0
 IsAt fs place k w = (j : ℕ) × ((k ≡ place + j) × IsFieldOf fs j w)
+
+-- the defaults of the fields from that place on
+record AreRight (fs : Fields) (place : ℕ) (all : List (ℕ × Value)) : Type 0 where
+  rise : KeysRise place all
+  each : EachSaid (IsAt fs place) all
+  filled : (m : List (ℕ × Value)) → ((q : ℕ) → place ≤ q → said_at m q ≡ said_at all q) → AreFilled place fs m
 
 pub each_wider : (P Q : ℕ → Value → Type 0) → ((k : ℕ) (w : Value) → P k w → Q k w) → (s : List (ℕ × Value)) → EachSaid P s → EachSaid Q s
 each_wider P Q wider [] h = tt
@@ -139,32 +139,28 @@ mutual
     | inl none ↦ absurd (differ (record_of_defaults (defaults 0 fs)) x (ap record_of_defaults none.0) e)
     | inr some ↦
         let all = some.1.0 in
+        let are = fields_right fs h.1 0 all some.1.1 in
         by_layer (fields fs) x (v.Rec all) (Value-F.Rec all) (sym (ap record_of_defaults some.1.1) ∙ e) (v.outs-Rec all) (
-          (fields_rise fs 0 all some.1.1, each_wider (IsAt fs 0) (IsFieldOf fs) (λ k w g. let same : g.0 ≡ k = omega (arith, g.1.0) in subst (λ j. IsFieldOf fs j w) same g.1.1) all (fields_each fs h.1 0 all some.1.1)),
-          fields_filled fs h.1 0 all some.1.1 all (λ q above. refl),
+          (are.rise, each_wider (IsAt fs 0) (IsFieldOf fs) (λ k w g. let same : g.0 ≡ k = omega (arith, g.1.0) in subst (λ j. IsFieldOf fs j w) same g.1.1) all are.each),
+          are.filled all (λ q above. refl),
         )
   ]
   right s h x e = absurd (cc)
 
-  fields_each : (fs : Fields) → AreTypes fs → (place : ℕ) (all : List (ℕ × Value)) → defaults place fs ≡ Some all → EachSaid (IsAt fs place) all
-  fields_each no_field h place all e = subst (EachSaid (IsAt no_field place)) (some_same [] all e) tt
-  fields_each (field_then name u fs) h place all e =
+  fields_right : (fs : Fields) → AreTypes fs → (place : ℕ) (all : List (ℕ × Value)) → defaults place fs ≡ Some all → AreRight fs place all
+  fields_right no_field h place all e = subst (AreRight no_field place) (some_same [] all e) (record { rise = tt; each = tt; filled = λ m same. tt })
+  fields_right (field_then name u fs) h place all e =
       let t = taken place (default u) (defaults (place + 1) fs) all e in
-      subst (EachSaid (IsAt (field_then name u fs) place)) t.whole (
-        (zero, (omega arith, (right u h.0 t.first t.one).0)),
-        each_wider (IsAt fs (place + 1)) (IsAt (field_then name u fs) place) (λ k w g. (suc g.0, (omega (arith, g.1.0), g.1.1))) t.rest (fields_each fs h.1 (place + 1) t.rest t.more),
-      )
-
-  fields_filled : (fs : Fields) → AreTypes fs → (place : ℕ) (all : List (ℕ × Value)) → defaults place fs ≡ Some all → (m : List (ℕ × Value)) → ((q : ℕ) → place ≤ q → said_at m q ≡ said_at all q) → AreFilled place fs m
-  fields_filled no_field h place all e m same = tt
-  fields_filled (field_then name u fs) h place all e m same =
-      let t = taken place (default u) (defaults (place + 1) fs) all e in
-      let here : said_at m place ≡ Some t.first =
-      same place (omega arith) ∙ ap (λ l. said_at l place) (sym t.whole) ∙ cond-true (place == place) (Some t.first) (said_at t.rest place) (eq-eqb place place refl) in (
-        subst (λ o. MatchOption o ⊥ (λ w. IsFilledIn u (out-Value w))) (sym here) ((right u h.0 t.first t.one).1),
-        fields_filled fs h.1 (place + 1) t.rest t.more m (λ q above.
-            same q (omega (arith, above)) ∙ ap (λ l. said_at l q) (sym t.whole) ∙ cond-false (place == q) (Some t.first) (said_at t.rest q) (ne_eqb place q (λ f. omega (arith, f, above)))),
-      )
+      let one = right u h.0 t.first t.one in
+      let more = fields_right fs h.1 (place + 1) t.rest t.more in
+      subst (AreRight (field_then name u fs) place) t.whole (record {
+        rise = (omega arith, more.rise);
+        each = ((zero, (omega arith, one.0)), each_wider (IsAt fs (place + 1)) (IsAt (field_then name u fs) place) (λ k w g. (suc g.0, (omega (arith, g.1.0), g.1.1))) t.rest more.each);
+        filled = λ m same. (
+          subst (λ o. MatchOption o ⊥ (λ w. IsFilledIn u (out-Value w))) (sym (same place (omega arith) ∙ cond-true (place == place) (Some t.first) (said_at t.rest place) (eq-eqb place place refl))) one.1,
+          more.filled m (λ q above. same q (omega (arith, above)) ∙ cond-false (place == q) (Some t.first) (said_at t.rest q) (ne_eqb place q (λ f. omega (arith, f, above)))),
+        );
+      })
 
 -- the default is a value of the type
 

@@ -4,13 +4,13 @@ use Rattle.std.specs.Prelude.{Bool, true, false, Option, None, Some, MatchOption
 use Rattle.std.proofs.lemmas.Bool.{cases_eq, eq-eqb, ne_eqb, true≢false}
 use Rattle.xdg_domain.specs.Cards.{IsCards}
 use Rattle.xdg_domain.specs.Values.{IsIn, IsFieldOf, IsValue}
-use Rattle.xdg_domain.specs.Joins.{SaysBoth, OnSome, AllowsBoth, IsApart, JoinsIn, JoinsField, Joins, ClashesIn, ClashesField, Clashes, HasOneJoin, JoinLaws}
+use Rattle.xdg_domain.specs.Joins.{SaysBoth, AllowsBoth, IsApart, JoinsIn, JoinsField, Joins, ClashesIn, ClashesField, Clashes, HasOneJoin, JoinsLater, JoinLaws}
 use Rattle.xdg_domain.specs.Joined.{merged, allowed, same_list, same_number, same_bool, of_card, of_valency, of_map, of_record, joined_in, joined_field, joined, TellsJoin}
-use Rattle.xdg_domain.specs.Shapes.{Shape, Shapes, domain, tuple, truth, integer, text, set, iset, card, valency, mapping, fields, Fields, no_field, field_then, count}
+use Rattle.xdg_domain.specs.Shapes.{Shape, domain, tuple, truth, integer, text, set, iset, card, valency, mapping, fields, Fields, no_field, field_then, count}
 use Rattle.xdg_domain.specs.declared.values.Value.{Value, out-Value, roll-Value, roll-out-Value}
 use Rattle.xdg_domain.specs.declared.values.Value.TheVariants as v
 use Rattle.xdg_domain.specs.declared.values.Value.TheOpen.{Value-F}
-use Rattle.xdg_domain.proofs.Numbers.{either_is, both_is, union_unique, meet_unique, allows_unique, union_commutes, meet_commutes, allows_commutes, apart_commutes, union_regroups, meet_regroups, allows_regroups, apart_stays, allows_exclusive, allowed_tells, union_below, meet_below, same_list_is, is_same_list}
+use Rattle.xdg_domain.proofs.Numbers.{either_is, both_is, union_unique, meet_unique, allows_unique, union_commutes, meet_commutes, allows_commutes, apart_commutes, union_regroups, meet_regroups, allows_regroups, apart_stays, allows_exclusive, allowed_tells, union_below, meet_below, same_list_is}
 use Rattle.xdg_domain.proofs.Keyed.{says_unique, says_exclusive, says_commutes, some_commutes, says_regroups, some_stays, says_right}
 use Rattle.xdg_domain.proofs.Merged.{merged_tells}
 
@@ -61,9 +61,6 @@ mutual
   apart_field (field_then name u fs) zero x y z h k = apart u (out-Value x) (out-Value y) (out-Value z) h k
   apart_field (field_then name u fs) (suc place) x y z h k = apart_field fs place x y z h k
 
-pub exclusive : (s : Shape) (x y : Value) → IsValue s x → IsValue s y → (z : Value) → Joins s x y z → Clashes s x y → ⊥
-exclusive s x y _ _ z h k = apart s (out-Value x) (out-Value y) (out-Value z) h k
-
 -- ---- a join is a value
 
 mutual
@@ -106,15 +103,6 @@ number_told make a b P same differ = elim (cases_eq a b) [
   | inr other ↦ subst (λ t. P (elim t [ true ↦ Some (make a) | false ↦ None ])) (sym (ne_eqb a b other)) (differ other)
 ]
 
-constant_tells : (cs : List (List ℕ)) (a b : ℕ) → TellsIn (domain cs) (Value-F.Const a) (Value-F.Const b) (same_number v.Const a b)
-constant_tells cs a b = number_told v.Const a b (TellsIn (domain cs) (Value-F.Const a) (Value-F.Const b)) (λ i. rw (v.outs-Const a) (i, refl)) (λ other. other)
-
-tuple_tells : (ss : Shapes) (a b : ℕ) → TellsIn (tuple ss) (Value-F.Tuple a) (Value-F.Tuple b) (same_number v.Tuple a b)
-tuple_tells ss a b = number_told v.Tuple a b (TellsIn (tuple ss) (Value-F.Tuple a) (Value-F.Tuple b)) (λ i. rw (v.outs-Tuple a) (i, refl)) (λ other. other)
-
-integer_tells : (a b : ℕ) → TellsIn integer (Value-F.Int a) (Value-F.Int b) (same_number v.Int a b)
-integer_tells a b = number_told v.Int a b (TellsIn integer (Value-F.Int a) (Value-F.Int b)) (λ i. rw (v.outs-Int a) (i, refl)) (λ other. other)
-
 truth_tells : (a b : Bool) → TellsIn truth (Value-F.Bool a) (Value-F.Bool b) (same_bool a b)
 truth_tells true true = rw (v.outs-Bool true) (refl, refl)
 truth_tells false false = rw (v.outs-Bool false) (refl, refl)
@@ -122,40 +110,30 @@ truth_tells true false = λ e. cc
 truth_tells false true = λ e. cc
 
 text_told : (a b : List ℕ) (t : Bool) → same_list a b ≡ t → TellsIn text (Value-F.Str a) (Value-F.Str b) (elim t [ true ↦ Some (v.Str a) | false ↦ None ])
-text_told a b true is = rw (v.outs-Str a) (same_list_is a b is, refl)
-text_told a b false is = λ e. true≢false (sym (subst (λ s. same_list a s ≡ true) e (is_same_list a)) ∙ is)
+text_told a b true is = rw (v.outs-Str a) ((same_list_is a b).0 is, refl)
+text_told a b false is = λ e. true≢false (sym ((same_list_is a b).1 e) ∙ is)
 
-card_told : (a b : List ℕ) (o : Option (List ℕ)) → MatchOption o (IsApart a b) (λ c. AllowsBoth a b c) → TellsIn card (Value-F.Card a) (Value-F.Card b) (of_card o)
-card_told a b None h = h
-card_told a b (Some c) h = rw (v.outs-Card c) h
-
-valency_told : (key : Shape) (a b : List (ℕ × List ℕ)) (o : Option (List (ℕ × List ℕ))) → MatchOption o (OnSome (λ _. IsApart) a b) (λ c. SaysBoth (λ _. AllowsBoth) a b c) → TellsIn (valency key) (Value-F.Valency a) (Value-F.Valency b) (of_valency o)
-valency_told key a b None h = h
-valency_told key a b (Some c) h = rw (v.outs-Valency c) h
-
-map_told : (key u : Shape) (a b : List (ℕ × Value)) (o : Option (List (ℕ × Value))) → MatchOption o (OnSome (λ _. Clashes u) a b) (λ c. SaysBoth (λ _. Joins u) a b c) → TellsIn (mapping key u) (Value-F.Map a) (Value-F.Map b) (of_map o)
-map_told key u a b None h = h
-map_told key u a b (Some c) h = rw (v.outs-Map c) h
-
-record_told : (fs : Fields) (a b : List (ℕ × Value)) (o : Option (List (ℕ × Value))) → MatchOption o (OnSome (ClashesField fs) a b) (λ c. SaysBoth (JoinsField fs) a b c) → TellsIn (fields fs) (Value-F.Rec a) (Value-F.Rec b) (of_record o)
-record_told fs a b None h = h
-record_told fs a b (Some c) h = rw (v.outs-Rec c) h
+-- what is told of what a value is made of
+made_told : {A : Type 0} (of : Option A → Option Value) (make : A → Value) → of None ≡ None → ((c : A) → of (Some c) ≡ Some (make c)) → (o : Option A) (clash : Type 0) (P : A → Type 0) (Q : Value → Type 0) → ((c : A) → P c → Q (make c))
+    → MatchOption o clash P → MatchOption (of o) clash Q
+made_told of make none some None clash P Q to h = subst (λ t. MatchOption t clash Q) (sym none) h
+made_told of make none some (Some c) clash P Q to h = subst (λ t. MatchOption t clash Q) (sym (some c)) (to c h)
 
 mutual
   tells_in : (s : Shape) (x y : Value-F Value) → IsIn s x → IsIn s y → TellsIn s x y (joined_in s x y)
-  tells_in (domain cs) (Value-F.Const a) (Value-F.Const b) g h = constant_tells cs a b
-  tells_in (tuple ss) (Value-F.Tuple a) (Value-F.Tuple b) g h = tuple_tells ss a b
+  tells_in (domain cs) (Value-F.Const a) (Value-F.Const b) g h = number_told v.Const a b (TellsIn (domain cs) (Value-F.Const a) (Value-F.Const b)) (λ i. rw (v.outs-Const a) (i, refl)) (λ other. other)
+  tells_in (tuple ss) (Value-F.Tuple a) (Value-F.Tuple b) g h = number_told v.Tuple a b (TellsIn (tuple ss) (Value-F.Tuple a) (Value-F.Tuple b)) (λ i. rw (v.outs-Tuple a) (i, refl)) (λ other. other)
   tells_in truth (Value-F.Bool a) (Value-F.Bool b) g h = truth_tells a b
-  tells_in integer (Value-F.Int a) (Value-F.Int b) g h = integer_tells a b
+  tells_in integer (Value-F.Int a) (Value-F.Int b) g h = number_told v.Int a b (TellsIn integer (Value-F.Int a) (Value-F.Int b)) (λ i. rw (v.outs-Int a) (i, refl)) (λ other. other)
   tells_in text (Value-F.Str a) (Value-F.Str b) g h = text_told a b (same_list a b) refl
   tells_in (set s) (Value-F.Set a) (Value-F.Set b) g h = rw v.outs-Set (either_is a b)
   tells_in (iset s) (Value-F.Set a) (Value-F.Set b) g h = rw v.outs-Set (both_is a b)
-  tells_in card (Value-F.Card a) (Value-F.Card b) g h = card_told a b (allowed a b) (allowed_tells a b g)
-  tells_in (valency key) (Value-F.Valency a) (Value-F.Valency b) g h = valency_told key a b (merged (λ _. allowed) a b)
+  tells_in card (Value-F.Card a) (Value-F.Card b) g h = made_told of_card v.Card refl (λ c. refl) (allowed a b) _ (AllowsBoth a b) (λ z. JoinsIn card (Value-F.Card a) (Value-F.Card b) (out-Value z)) (λ c k. rw (v.outs-Card c) k) (allowed_tells a b g)
+  tells_in (valency key) (Value-F.Valency a) (Value-F.Valency b) g h = made_told of_valency v.Valency refl (λ c. refl) (merged (λ _. allowed) a b) _ (λ c. SaysBoth (λ _. AllowsBoth) a b c) (λ z. JoinsIn (valency key) (Value-F.Valency a) (Value-F.Valency b) (out-Value z)) (λ c k. rw (v.outs-Valency c) k)
       (merged_tells (λ _. allowed) (λ _. AllowsBoth) (λ _. IsApart) (λ n ns. (n < count key) × IsCards ns) (λ n x y p q. allowed_tells x y p.1) a b g.0 h.0 g.1 h.1)
-  tells_in (mapping key u) (Value-F.Map a) (Value-F.Map b) g h = map_told key u a b (merged (λ _. joined u) a b)
+  tells_in (mapping key u) (Value-F.Map a) (Value-F.Map b) g h = made_told of_map v.Map refl (λ c. refl) (merged (λ _. joined u) a b) _ (λ c. SaysBoth (λ _. Joins u) a b c) (λ z. JoinsIn (mapping key u) (Value-F.Map a) (Value-F.Map b) (out-Value z)) (λ c k. rw (v.outs-Map c) k)
       (merged_tells (λ _. joined u) (λ _. Joins u) (λ _. Clashes u) (λ n x. (n < count key) × IsIn u (out-Value x)) (λ n x y p q. tells_in u (out-Value x) (out-Value y) p.1 q.1) a b g.0 h.0 g.1 h.1)
-  tells_in (fields fs) (Value-F.Rec a) (Value-F.Rec b) g h = record_told fs a b (merged (joined_field fs) a b)
+  tells_in (fields fs) (Value-F.Rec a) (Value-F.Rec b) g h = made_told of_record v.Rec refl (λ c. refl) (merged (joined_field fs) a b) _ (λ c. SaysBoth (JoinsField fs) a b c) (λ z. JoinsIn (fields fs) (Value-F.Rec a) (Value-F.Rec b) (out-Value z)) (λ c k. rw (v.outs-Rec c) k)
       (merged_tells (joined_field fs) (JoinsField fs) (ClashesField fs) (IsFieldOf fs) (tells_field fs) a b g.0 h.0 g.1 h.1)
   tells_in _ _ _ g h = absurd (assumption (g, h))
 
@@ -168,15 +146,12 @@ mutual
 pub tells : (s : Shape) (x y : Value) → IsValue s x → IsValue s y → TellsJoin s x y (joined s x y)
 tells s x y g h = tells_in s (out-Value x) (out-Value y) g h
 
-abbrev Decided : Shape → Value → Value → Type 0
-Decided s x y = ((z : Value) × (Joins s x y z × (IsValue s z × ((w : Value) → Joins s x y w → w ≡ z)))) ⊎ Clashes s x y
-
-decided_by : (s : Shape) (x y : Value) → IsValue s x → IsValue s y → (told : Option Value) → TellsJoin s x y told → Decided s x y
+decided_by : (s : Shape) (x y : Value) → IsValue s x → IsValue s y → (told : Option Value) → TellsJoin s x y told → HasOneJoin s x y ⊎ Clashes s x y
 decided_by s x y g h None t = inr t
-decided_by s x y g h (Some z) t = inl (z, (t, (keeps s x y z g h t, λ w k. same_out w z (unique s (out-Value x) (out-Value y) (out-Value w) (out-Value z) k t))))
+decided_by s x y g h (Some z) t = inl (record { value = z; joins = t; is = keeps s x y z g h t; only = λ w k. same_out w z (unique s (out-Value x) (out-Value y) (out-Value w) (out-Value z) k t) })
 
 -- exactly one value joins two values of a type, and it is one of the type, or they clash
-pub decided : (s : Shape) (x y : Value) → IsValue s x → IsValue s y → ((z : Value) × (Joins s x y z × (IsValue s z × ((w : Value) → Joins s x y w → w ≡ z)))) ⊎ Clashes s x y
+pub decided : (s : Shape) (x y : Value) → IsValue s x → IsValue s y → HasOneJoin s x y ⊎ Clashes s x y
 decided s x y g h = decided_by s x y g h (joined s x y) (tells s x y g h)
 
 -- ---- in any order
@@ -269,25 +244,25 @@ mutual
   regroups_field (field_then name t fs) (suc place) x y z u v w h k l = regroups_field fs place x y z u v w h k l
 
 -- three values that join from the left join from the right to the same
-pub associates : (s : Shape) (x y z u w : Value) → IsValue s x → IsValue s y → IsValue s z → Joins s x y u → Joins s u z w → (t : Value) × (Joins s y z t × Joins s x t w)
+pub associates : (s : Shape) (x y z u w : Value) → IsValue s x → IsValue s y → IsValue s z → Joins s x y u → Joins s u z w → JoinsLater s x y z w
 associates s x y z u w f g h i j = elim (decided s y z g h) [
-  | inl (t, (k, _)) ↦ (t, (k, regroups s (out-Value x) (out-Value y) (out-Value z) (out-Value u) (out-Value t) (out-Value w) i j k))
+  | inl one ↦ (record {
+    value = one.value;
+    later = one.joins;
+    joins = regroups s (out-Value x) (out-Value y) (out-Value z) (out-Value u) (out-Value one.value) (out-Value w) i j one.joins;
+  })
   | inr clash ↦ absurd (apart s (out-Value u) (out-Value z) (out-Value w) j (stays s (out-Value x) (out-Value y) (out-Value z) (out-Value u) i clash))
 ]
 
 -- ---- all of it
 
-one_or_clash : (s : Shape) (x y : Value) → Decided s x y → HasOneJoin s x y ⊎ Clashes s x y
-one_or_clash s x y (inl (z, (joins, (is, only)))) = inl (record { value = z; joins = joins; is = is; only = only })
-one_or_clash s x y (inr clash) = inr clash
-
 pub lawful : (s : Shape) → JoinLaws s
 lawful s = record {
-  decided = λ x y g h. one_or_clash s x y (decided s x y g h);
-  exclusive = λ x y z g h. exclusive s x y g h z;
+  decided = decided s;
+  exclusive = λ x y z _ _ h k. apart s (out-Value x) (out-Value y) (out-Value z) h k;
   commutes = commutes s;
   clash_commutes = clash_commutes s;
-  associates = λ x y z both all f g h i j. (let later = associates s x y z both all f g h i j in record { value = later.0; later = later.1.0; joins = later.1.1 });
+  associates = associates s;
 }
 
 -- ---- what a call of the join tells

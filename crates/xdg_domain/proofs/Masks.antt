@@ -4,14 +4,15 @@ use Rattle.std.specs.Prelude.{Bool, true, false, not, ◌&&◌, ◌||◌, ◌==�
 use Rattle.std.specs.Int.{w128, trailing_zeros, leading_zeros}
 use Rattle.std.proofs.lemmas.Nat.{pow_pos, one_shl, or_lt, le_or_l, and_le_l}
 use Rattle.std.proofs.lemmas.Nat.Bits.{bit_at_mask_inside}
-use Rattle.std.proofs.lemmas.Bool.{cases_lt, cond_both, eq-eqb, ne_eqb, lt-ltb, le-ltb}
+use Rattle.std.proofs.Math.Bool.{and-true}
+use Rattle.std.proofs.lemmas.Bool.{cases_lt, cond_both, eq-eqb, ne_eqb}
 use Rattle.xdg_domain.specs.Cards.{cards, IsCards, with_card, common}
 use Rattle.xdg_facts.specs.Rises.{has, numbers_below}
 use Rattle.xdg_facts.specs.BitSets.{is_set, members}
 use Rattle.xdg_facts.proofs.Truths.{apart}
 use Rattle.std.specs.Int.Bits.{or_zero_l}
-use Rattle.xdg_facts.proofs.BitMembers.{has_members, members_whole, empty_bits, with_bits, meet_bits, lowest_bit, highest_bit}
-use Rattle.xdg_facts.proofs.Rising.{numbers_agree, has_beyond, has_of, has_exact, none_of, but, rises_of, first_of}
+use Rattle.xdg_facts.proofs.BitMembers.{has_members, empty_bits, with_bits, meet_bits, lowest_bit, highest_bit}
+use Rattle.xdg_facts.proofs.Rising.{numbers_agree, has_beyond, has_exact, has_tested, numbers_whole, none_of, but, rises_of, first_of}
 
 -- the bit of a number that stands there is set
 standing : (b k : ℕ) → has (members b) k ≡ true → is_set b k ≡ true
@@ -39,7 +40,7 @@ greatest_bit b some within =
 pub members_are_cards : (b : ℕ) → 0 < b → b < 2 ^ 128 → IsCards (members b)
 members_are_cards b some within = record {
   rises = rises_of 128 (is_set b);
-  whole = members_whole b;
+  whole = numbers_whole 128 (is_set b);
   some = λ e. apart (has (members b) (trailing_zeros w128 b)) (least_bit b some within).0 (ap (λ s. has s (trailing_zeros w128 b)) e);
 }
 
@@ -54,14 +55,8 @@ ones_below bound = numbers_agree bound (is_set (2 ^ bound - 2 ^ 0)) (λ _. true)
 pub all_bits : members (2 ^ 128 - 1) ≡ cards (λ _. true)
 all_bits = ones_below 128
 
-has_below : (bound n : ℕ) → has (numbers_below bound (λ _. true)) n ≡ nat_lt n bound
-has_below bound n = elim (cases_lt n bound) [
-  | inl below ↦ has_of bound (λ _. true) n below ∙ sym (lt-ltb n bound below)
-  | inr above ↦ has_beyond bound (λ _. true) n above ∙ sym (le-ltb n bound above)
-]
-
 pub all_has : (n : ℕ) → has (cards (λ _. true)) n ≡ nat_lt n 128
-all_has n = has_below 128 n
+all_has n = has_tested 128 (λ _. true) n ∙ and-true (nat_lt n 128)
 
 -- one number alone
 alone : (n bound : ℕ) → n < bound → numbers_below bound (λ m. (m == n) || false) ≡ n ∷ []
@@ -95,7 +90,7 @@ unfolding numbers_below
 numbers_twice bound p q = filter_twice p q _
 
 pub common_bits : (a b : ℕ) → members (bit_and a b) ≡ common (members a) (members b)
-common_bits a b = meet_bits a b ∙ sym (ap (filter (has (members b))) (members_whole a) ∙ numbers_twice 128 (has (members a)) (has (members b)))
+common_bits a b = meet_bits a b ∙ sym (ap (filter (has (members b))) (numbers_whole 128 (is_set a)) ∙ numbers_twice 128 (has (members a)) (has (members b)))
 
 -- ---- some bit is set
 

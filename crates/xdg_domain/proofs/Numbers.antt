@@ -3,8 +3,9 @@ use Rattle.std.proofs.Common.{◌≡◌, ◌↔◌, ℕ, ◌<◌, ◌≤◌, ◌
 use lib.Pointwise.{pointwise}
 use Rattle.std.specs.Prelude.{eqb, Bool, true, false, ◌&&◌, ◌||◌, ◌==◌, Option, None, Some, MatchOption, Result, Ok, Err, IfOk, filter}
 use Rattle.std.specs.List.Sorted.{IsStrictlyIncreasing}
-use Rattle.std.proofs.lemmas.Bool.{and_parts, cases_eq, cases_lt, eq-eqb, eqb-true, ne_eqb, or_cases, true≢false, cond_both}
+use Rattle.std.proofs.lemmas.Bool.{cases_eq, cases_lt, eq-eqb, ne_eqb, or_cases, true≢false, cond_both}
 use Rattle.std.proofs.Math.Bool.{and_assoc}
+use Rattle.std.proofs.lemmas.Slice.Eq.{bytes_eq-Decides}
 use Rattle.xdg_domain.specs.Cards.{cards, IsCards, common}
 use Rattle.xdg_domain.specs.Valencies.{said_at, KeysRise, both_say, Clash}
 use Rattle.xdg_domain.specs.Values.{AllBelow, EachSaid}
@@ -15,7 +16,7 @@ use Rattle.xdg_domain.proofs.Keyed.{says_exclusive, says_unique}
 use Rattle.xdg_domain.proofs.Merged.{merged_tells}
 use Rattle.xdg_facts.proofs.Truths.{and_false, or_true, and_swap, and_first, or_assoc}
 use Rattle.xdg_facts.specs.Rises.{has, numbers_below, Rises}
-use Rattle.xdg_facts.proofs.Rising.{numbers_agree, has_beyond, has_of, rises_of, rises_sooner}
+use Rattle.xdg_facts.proofs.Rising.{numbers_agree, has_exact, rises_of, rises_sooner}
 
 -- ---- rising lists
 
@@ -78,21 +79,11 @@ meet_below bound a b c h u = below_has bound c (λ n t. has_below bound a n h (a
 pub either_is : (a b : List ℕ) → IsUnion a b (either a b)
 either_is a b = (
   numbers_increase (above a + above b) (λ n. has a n || has b n),
-  λ n. elim (cases_lt n (above a + above b)) [
-    | inl below ↦ has_of (above a + above b) (λ m. has a m || has b m) n below
-    | inr beyond ↦ has_beyond (above a + above b) (λ m. has a m || has b m) n beyond
-        ∙ sym (ap₂ (λ s t. s || t) (has_beyond_above a n (omega (arith, beyond))) (has_beyond_above b n (omega (arith, beyond))))
-  ],
+  has_exact (above a + above b) (λ n. has a n || has b n) (λ n beyond. ap₂ (λ s t. s || t) (has_beyond_above a n (omega (arith, beyond))) (has_beyond_above b n (omega (arith, beyond)))),
 )
 
 pub both_is : (a b : List ℕ) → IsMeet a b (both a b)
-both_is a b = (
-  numbers_increase (above a) (λ n. has a n && has b n),
-  λ n. elim (cases_lt n (above a)) [
-    | inl below ↦ has_of (above a) (λ m. has a m && has b m) n below
-    | inr beyond ↦ has_beyond (above a) (λ m. has a m && has b m) n beyond ∙ sym (ap (λ s. s && has b n) (has_beyond_above a n beyond))
-  ],
-)
+both_is a b = (numbers_increase (above a) (λ n. has a n && has b n), has_exact (above a) (λ n. has a n && has b n) (λ n beyond. ap (λ s. s && has b n) (has_beyond_above a n beyond)))
 
 pub union_unique : (a b c d : List ℕ) → IsUnion a b c → IsUnion a b d → c ≡ d
 union_unique a b c d h k = increasing_same c d h.0 k.0 (λ n. h.1 n ∙ sym (k.1 n))
@@ -161,10 +152,7 @@ filter_rises p low bound (x ∷ s) r =
     cond_both (p x) (x ∷ filter p s) (filter p s) (λ l. Rises low bound l) (λ t. (r.0, r.1, rest)) (λ t. rises_sooner low (x + 1) bound (filter p s) (omega (arith, r.0)) rest)
 
 rising_whole : (s : List ℕ) → Rises 0 128 s → s ≡ cards (has s)
-rising_whole s r = members_same 0 s (cards (has s)) (from_rises 0 128 s r) (from_rises 0 128 (cards (has s)) (rises_of 128 (has s))) (λ n. elim (cases_lt n 128) [
-  | inl below ↦ sym (has_of 128 (has s) n below)
-  | inr beyond ↦ beyond_rises 0 128 s n beyond r ∙ sym (has_beyond 128 (has s) n beyond)
-])
+rising_whole s r = members_same 0 s (cards (has s)) (from_rises 0 128 s r) (from_rises 0 128 (cards (has s)) (rises_of 128 (has s))) (λ n. sym (has_exact 128 (has s) (λ k beyond. beyond_rises 0 128 s k beyond r) n))
   where
     beyond_rises : (low bound : ℕ) (s : List ℕ) (n : ℕ) → bound ≤ n → Rises low bound s → has s n ≡ false
     beyond_rises low bound [] n order h = refl
@@ -257,18 +245,11 @@ both_told a b (Err e) h k = tt
 
 -- ---- texts
 
-pub same_list_is : (a b : List ℕ) → same_list a b ≡ true → a ≡ b
-same_list_is [] [] h = refl
-same_list_is [] (y ∷ b) h = absurd (true≢false (sym h))
-same_list_is (x ∷ a) [] h = absurd (true≢false (sym h))
-same_list_is (x ∷ a) (y ∷ b) h = ap₂ (λ n s. n ∷ s) (eqb-true x y (and_first (x == y) (same_list a b) h)) (same_list_is a b (and_parts (x == y) (same_list a b) h).1)
-
-pub is_same_list : (a : List ℕ) → same_list a a ≡ true
-is_same_list [] = refl
-is_same_list (x ∷ a) = ap₂ (λ s t. s && t) (eq-eqb x x refl) (is_same_list a)
-
 pub pointwise_is : (a b : List ℕ) → pointwise eqb a b ≡ same_list a b
 pointwise_is [] [] = refl
 pointwise_is [] (y ∷ b) = refl
 pointwise_is (x ∷ a) [] = refl
 pointwise_is (x ∷ a) (y ∷ b) = ap (λ t. eqb x y && t) (pointwise_is a b)
+
+pub same_list_is : (a b : List ℕ) → (same_list a b ≡ true) ↔ (a ≡ b)
+same_list_is a b = rw (← pointwise_is a b) (bytes_eq-Decides a b)

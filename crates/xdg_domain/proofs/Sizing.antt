@@ -1,7 +1,7 @@
 -- The sizes of the fields of a tuple type, one after the other.
-use Rattle.std.proofs.Common.{◌≡◌, ℕ, ◌<◌, ◌≤◌, ◌+◌, ◌-◌, ◌*◌, ◌^◌, ◌/◌, ◌%◌, zero, suc, List, [], ◌∷◌, length, get_or, take, drop, min, refl, ap, ap₂, sym, ◌∙◌, arith, subst, add-one}
+use Rattle.std.proofs.Common.{◌≡◌, ℕ, ◌<◌, ◌≤◌, ◌+◌, ◌-◌, ◌*◌, ◌^◌, ◌/◌, ◌%◌, zero, suc, List, [], ◌∷◌, length, get_or, take, drop, length-drop, min, refl, ap, ap₂, sym, ◌∙◌, arith, subst, add-one}
 use Rattle.std.proofs.Math.Nat.{min-eq_left, mod-lt, mul_assoc}
-use Rattle.std.proofs.lemmas.List.{drop_more, drop_all}
+use Rattle.std.proofs.lemmas.List.{drop_more, drop_all, at_drop_more, at_drop_all}
 use Rattle.xdg_domain.specs.Tuples.{index, places, InRange}
 use Rattle.xdg_domain.proofs.TupleNumbers.{index_below, later_sizes, place_at}
 use Rattle.xdg_domain.proofs.Capped.{capped_mul}
@@ -25,13 +25,8 @@ size_at [] k t within is = absurd (omega (arith, within))
 size_at (u ∷ us) zero t within is = ap (λ x. length (constants (shape x))) (sym is)
 size_at (u ∷ us) (suc k) t within is = size_at us k t (omega (arith, within)) is
 
-sizes_after : (types : List Ty) (k : ℕ) (t : Ty) → k < length types → t ≡ get_or types k t → sizes_of (drop k types) ≡ length (constants (shape t)) ∷ sizes_of (drop (suc k) types)
-sizes_after [] k t within is = absurd (omega (arith, within))
-sizes_after (u ∷ us) zero t within is = ap (λ x. length (constants (shape x)) ∷ sizes_of us) (sym is)
-sizes_after (u ∷ us) (suc k) t within is = sizes_after us k t (omega (arith, within)) is
-
 pub sizes_next : (types : List Ty) (k : ℕ) (t : Ty) → k < length types → t ≡ get_or types k t → sizes_of (drop k types) ≡ length (constants (shape t)) ∷ sizes_of (drop (k + 1) types)
-sizes_next types k t within is = sizes_after types k t within is ∙ ap (λ j. length (constants (shape t)) ∷ sizes_of (drop j types)) (sym (add-one k))
+sizes_next types k t within is = at_drop_more sizes_of types k t within ∙ ap (λ (u : Ty). length (constants (shape u)) ∷ sizes_of (drop (k + 1) types)) (sym is)
 
 -- one more factor of the product, which stops at the greatest number
 pub tuples_more : (types : List Ty) (k : ℕ) (t : Ty) (so_far size next most whole : ℕ) → k < length types → t ≡ get_or types k t → size ≡ length (constants (shape t)) → next ≡ min (so_far * size) most
@@ -48,24 +43,19 @@ tuples_more types k t so_far size next most whole within is sized grown before =
 
 pub tuples_done : (types : List Ty) (k so_far most whole : ℕ) → length types ≤ k → so_far ≤ most → min (so_far * product (sizes_of (drop k types))) most ≡ whole → so_far ≡ whole
 unfolding product
-tuples_done [] zero so_far most whole ended within before = alone so_far most within ∙ before
-tuples_done [] (suc k) so_far most whole ended within before = alone so_far most within ∙ before
-tuples_done (t ∷ ts) zero so_far most whole ended within before = absurd (omega (arith, ended))
-tuples_done (t ∷ ts) (suc k) so_far most whole ended within before = tuples_done ts k so_far most whole (omega (arith, ended)) within before
+tuples_done types k so_far most whole ended within before = alone so_far most within ∙ sym (at_drop_all (λ (ts : List Ty). min (so_far * product (sizes_of ts)) most) types k ended) ∙ before
 
 -- ---- the number of a tuple, field by field
 
-none_in : (types : List Ty) (k : ℕ) → k < length types → InRange (sizes_of (drop k types)) [] → ⊥
-none_in [] k within range = omega (arith, within)
-none_in (u ∷ us) zero within range = range
-none_in (u ∷ us) (suc k) within range = none_in us k (omega (arith, within)) range
+in_range_length : (ss ns : List ℕ) → InRange ss ns → length ns ≡ length ss
+in_range_length [] [] range = refl
+in_range_length (s ∷ ss) (n ∷ ns) range = ap suc (in_range_length ss ns range.1)
+in_range_length ss ns range = absurd range
 
-pub in_step : (types : List Ty) (numbers : List ℕ) (k : ℕ) → k < length types → InRange (sizes_of (drop k types)) (drop k numbers) → k < length numbers
-in_step [] numbers k within range = absurd (omega (arith, within))
-in_step (u ∷ us) [] zero within range = absurd range
-in_step (u ∷ us) (n ∷ ns) zero within range = omega arith
-in_step (u ∷ us) [] (suc k) within range = absurd (none_in us k (omega (arith, within)) range)
-in_step (u ∷ us) (n ∷ ns) (suc k) within range = let rest = in_step us ns k (omega (arith, within)) range in omega (arith, rest)
+in_step : (types : List Ty) (numbers : List ℕ) (k : ℕ) → k < length types → InRange (sizes_of (drop k types)) (drop k numbers) → k < length numbers
+in_step types numbers k within range =
+    let same = in_range_length (sizes_of (drop k types)) (drop k numbers) range in
+    omega (arith, within, same, length_sizes (drop k types), length-drop k types, length-drop k numbers)
 
 digits : (a s n p r t : ℕ) → 0 < p → a * (s * p) + (n * p + r) ≡ t → (a * s + n ≤ t) × ((a * s + n) * p + r ≡ t)
 digits a s n zero r t some is = absurd (omega (arith, some))

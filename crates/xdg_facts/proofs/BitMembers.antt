@@ -25,10 +25,6 @@ has_members b k below = has_of 128 (is_set b) k below
 pub contains_bits : (b n : ℕ) → n < 128 → (bit_and (b / 2 ^ n) 1 == 1) ≡ has (members b) n
 contains_bits b n below = ap (λ z. z == 1) (shr_and_one b n) ∙ sym (has_members b n below)
 
--- the list is that of the numbers that stand in it
-pub members_whole : (b : ℕ) → members b ≡ numbers_below 128 (has (members b))
-members_whole b = numbers_agree 128 (is_set b) (has (members b)) (λ k below. sym (has_members b k below))
-
 -- two numbers are equal where they stand for equal lists
 pub equal_bits : (a b : ℕ) → a < 2 ^ 128 → b < 2 ^ 128 → ((a == b) ≡ true) ↔ (members a ≡ members b)
 equal_bits a b h k = (

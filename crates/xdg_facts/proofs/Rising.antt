@@ -1,9 +1,9 @@
 -- Rising lists of the numbers below a bound that pass a test.
 use Rattle.std.proofs.Common.{◌≡◌, ℕ, ◌<◌, ◌≤◌, ◌+◌, ◌⊎◌, zero, suc, List, [], ◌∷◌, ◌++◌, length, refl, ap, sym, ◌∙◌, arith, inl, inr, subst}
-use Rattle.std.specs.Prelude.{Bool, true, false, cond, not, ◌&&◌, ◌||◌, ◌==◌, filter}
+use Rattle.std.specs.Prelude.{Bool, true, false, cond, not, ◌&&◌, ◌||◌, ◌==◌, filter, nat_lt}
 use Rattle.std.specs.List.{range_with_len, Contains}
 use Rattle.std.proofs.Math.Nat.{zero-add}
-use Rattle.std.proofs.lemmas.Bool.{cond_both, cond-true, cond-false, cases_eq, cases_lt, eq-eqb, eqb-true, false≢true, ne_eqb, or_cases, or_left, or_right}
+use Rattle.std.proofs.lemmas.Bool.{cond_both, cond-true, cond-false, cases_eq, cases_lt, lt-ltb, le-ltb, eq-eqb, eqb-true, false≢true, ne_eqb, or_cases, or_left, or_right}
 use Rattle.xdg_facts.proofs.Truths.{none_in, agree_in, apart, either_true, or_here}
 use Rattle.xdg_facts.specs.Rises.{has, numbers_below, Rises}
 
@@ -83,6 +83,16 @@ has_of bound p k below = has_between p 0 bound k (omega arith) (omega (arith, be
 pub has_beyond : (bound : ℕ) (p : ℕ → Bool) (k : ℕ) → bound ≤ k → has (numbers_below bound p) k ≡ false
 unfolding numbers_below
 has_beyond bound p k above = has_not_after p 0 bound k (omega (arith, above))
+
+pub has_tested : (bound : ℕ) (p : ℕ → Bool) (k : ℕ) → has (numbers_below bound p) k ≡ (nat_lt k bound && p k)
+has_tested bound p k = elim (cases_lt k bound) [
+  | inl below ↦ has_of bound p k below ∙ ap (λ b. b && p k) (sym (lt-ltb k bound below))
+  | inr above ↦ has_beyond bound p k above ∙ ap (λ b. b && p k) (sym (le-ltb k bound above))
+]
+
+-- the list is that of the numbers that stand in it
+pub numbers_whole : (bound : ℕ) (p : ℕ → Bool) → numbers_below bound p ≡ numbers_below bound (has (numbers_below bound p))
+numbers_whole bound p = numbers_agree bound p (has (numbers_below bound p)) (λ k below. sym (has_of bound p k below))
 
 -- where nothing passes beyond the bound, what stands there is what passes
 pub has_exact : (bound : ℕ) (p : ℕ → Bool) → ((k : ℕ) → bound ≤ k → p k ≡ false) → (k : ℕ) → has (numbers_below bound p) k ≡ p k

@@ -18,11 +18,11 @@ use Rattle.xdg_facts.proofs.Bits.{halves}
 use Rattle.xdg_facts.proofs.Numbers.{zero_below_one, unset}
 use Rattle.xdg_facts.specs.Rises.{has, numbers_below}
 use Rattle.xdg_facts.specs.BitSets.{is_set, members}
-use Rattle.xdg_facts.proofs.Rising.{numbers_agree, but, first_of, last_of, rises_of, few_of}
-use Rattle.xdg_facts.proofs.BitMembers.{has_members, members_whole, equal_bits, by_bits, lowest_bit, highest_bit}
+use Rattle.xdg_facts.proofs.Rising.{numbers_agree, numbers_whole, but, first_of, last_of, rises_of, few_of}
+use Rattle.xdg_facts.proofs.BitMembers.{has_members, equal_bits, by_bits, lowest_bit, highest_bit}
 
 pub members_are_nodes : (b : ℕ) → IsNodes (members b)
-members_are_nodes b = record { rises = rises_of 128 (is_set b); whole = members_whole b; few = few_of 128 (is_set b) }
+members_are_nodes b = record { rises = rises_of 128 (is_set b); whole = numbers_whole 128 (is_set b); few = few_of 128 (is_set b) }
 
 pub union_bits : (a b : ℕ) → members (bit_or a b) ≡ union (members a) (members b)
 union_bits a b = by_bits max (λ x y. x || y) refl refl refl refl a b (bit_or a b) (λ n _. bit_at_or a b n)
