@@ -2,7 +2,7 @@
 use Rattle.std.proofs.Common.{◌≡◌, ℕ, ◌+◌, ◌<◌, ◌↔◌, ◌==◌, inl, inr, Bool, true, false, List, length, get_or, map, refl, ap, sym, ◌∙◌, subst, arith}
 use Rattle.std.specs.Prelude.{IsTrue, not, Contains, AllPairs, slice_index}
 use Rattle.std.proofs.lemmas.Bool.{cases_eq, eq-eqb, eqb-true, false≢true}
-use Rattle.std.proofs.lemmas.List.{get_or_default, get_or-map, length-map}
+use Rattle.std.proofs.lemmas.List.{get_or_default}
 use Rattle.xdg_base.specs.declared.ids.LabelId.{LabelId}
 use Rattle.xdg_problem.specs.declared.analysis.Edge.{Edge}
 use Rattle.xdg_problem.specs.declared.conditions.Condition.{Condition}
@@ -16,8 +16,10 @@ use Rattle.xdg_judge.specs.declared.paths.Way.TheVariants as ways
 use Rattle.xdg_judge.specs.declared.links.Links.{Links}
 use Rattle.xdg_judge.specs.Joining.{IsLed}
 use Rattle.xdg_judge.specs.Links.{AreLinks}
+use Rattle.xdg_problem.proofs.PairsMapped.{pairs_mapped}
 use Rattle.xdg_judge.proofs.Meeting.{led_exact}
-use Rattle.xdg_judge.proofs.Ways.{last_exact, through}
+use Rattle.xdg_judge.proofs.Ways.{last_exact}
+use Rattle.xdg_facts.proofs.Facts.{both_steps}
 
 pub row_same : (group : Group) (v w c d a l m : ℕ) (xs : List ℕ) → xs ≡ row group v c a l → v ≡ w → c ≡ d → l ≡ m → xs ≡ row group w d a m
 row_same group v w c d a l m xs h e f g = h ∙ (ap (λ z. row group z c a l) e ∙ (ap (λ z. row group w z a l) f ∙ ap (λ z. row group w d a z) g))
@@ -49,10 +51,7 @@ govern_end b D xs ys m value second d f some g i h = (
 
 pub blocked_end : (b : Bool) (links : Links) (edges : List Edge) (A : Type 0) (xs ys : List ℕ) (w v : ℕ) → AreLinks edges links → xs ≡ ys → (A → ⊥) → IsTrue b ↔ IsLed ways.Last links xs w v → IsTrue (not b) ↔ (AboveByLast edges w ys v → A)
 blocked_end b links edges A xs ys w v are g none h =
-    denied b (AboveByLast edges w ys v) A (subst (λ z. IsTrue b ↔ AboveByLast edges w z v) g (through h (through_both (led_exact ways.Last edges links xs w v are) (last_exact edges xs w v)))) none
-  where
-    through_both : {X Y Z : Type 0} → X ↔ Y → Y ↔ Z → X ↔ Z
-    through_both f k = (λ x. k.0 (f.0 x), λ z. f.1 (k.1 z))
+    denied b (AboveByLast edges w ys v) A (subst (λ z. IsTrue b ↔ AboveByLast edges w z v) g (both_steps h (both_steps (led_exact edges links xs are ways.Last w v) (last_exact edges xs w v)))) none
 
 -- the labels of an order, one after another: whether x stands in an item of an earlier one, and none with y comes later
 pub record Ordering (InX InY : ℕ → Type 0) (labels : List LabelId) (i : ℕ) (seen : Bool) : Type 0 where
@@ -98,12 +97,11 @@ zero_label = record { 0 = 0 }
 
 -- where y does not stand to the right of x, the order allows no two such labels
 pub order_end : (b : Bool) (InX InY : ℕ → Type 0) (labels : List LabelId) (x y : ℕ) → (x < y → ⊥) → IsTrue b ↔ AllPairs (λ (e l : LabelId). InX e.0 → InY l.0 → ⊥) labels → IsTrue b ↔ AllPairs (λ e l. InX e → InY l → x < y) (map (λ (label : LabelId). label.0) labels)
-order_end b InX InY labels x y n h = (
-  λ t j k d m p xs ys. let q : k < length labels = (let r = length-map labels (λ (label : LabelId). label.0) in omega (arith, p, r)) in
-      absurd (h.0 t j k zero_label m q (subst InX (get_or-map (λ (label : LabelId). label.0) labels j zero_label d (omega (arith, m, q))) xs) (subst InY (get_or-map (λ (label : LabelId). label.0) labels k zero_label d q) ys)),
-  λ a. h.1 (λ j k d m p xs ys. let q : k < length (map (λ (label : LabelId). label.0) labels) = (let r = length-map labels (λ (label : LabelId). label.0) in omega (arith, p, r)) in
-      n (a j k 0 m q (subst InX (sym (get_or-map (λ (label : LabelId). label.0) labels j d 0 (omega (arith, m, p)))) xs) (subst InY (sym (get_or-map (λ (label : LabelId). label.0) labels k d 0 p)) ys))),
-)
+order_end b InX InY labels x y n h =
+    let numbered = pairs_mapped (λ e l. InX e → InY l → x < y) (λ (label : LabelId). label.0) labels in (
+      λ t. numbered.1 (λ j k d m p xs ys. absurd (h.0 t j k d m p xs ys)),
+      λ a. h.1 (λ j k d m p xs ys. n (numbered.0 a j k d m p xs ys)),
+    )
 
 pub ordered_same : (b : Bool) (E : List Edge) (yields wanted : Bool) (own value u x y : ℕ) (labels order : List LabelId) → yields ≡ wanted → own ≡ value → labels ≡ order → IsTrue b ↔ AllPairs (λ (e l : LabelId). IsInItem E (yields ≡ true) own u e.0 x → IsInItem E (yields ≡ true) own u l.0 y → ⊥) labels → IsTrue b ↔ AllPairs (λ (e l : LabelId). IsInItem E (wanted ≡ true) value u e.0 x → IsInItem E (wanted ≡ true) value u l.0 y → ⊥) order
 ordered_same b E yields wanted own value u x y labels order f g i h =

@@ -1,14 +1,11 @@
 -- What a node that is neither u nor below it rules out at once.
-use Rattle.std.proofs.Common.{◌≡◌, ℕ, ◌<◌, ◌↔◌, true, false, List, get_or, inl, inr, ◌⊎◌, refl, subst}
+use Rattle.std.proofs.Common.{◌≡◌, ℕ, ◌<◌, ◌↔◌, true, false, List, get_or, inl, inr, ◌⊎◌, refl}
 use Rattle.std.proofs.lemmas.Bool.{false≢true}
 use Rattle.std.specs.Prelude.{IsTrue, AllPairs}
 use Rattle.xdg_problem.specs.declared.analysis.Edge.{Edge}
 use Rattle.xdg_problem.specs.Asking.{IsInItem}
-use Rattle.xdg_problem.specs.Paths.{Above, IsDaughter, IsDaughterBy}
-use Rattle.xdg_problem.proofs.Walks.{above_edge, above_trans}
-
-daughter_above : (edges : List Edge) (u v : ℕ) → IsDaughter edges u v → Above edges u v
-daughter_above edges u v (k, e, l, at, (m, d)) = subst (λ x. Above edges x v) m (subst (λ x. Above edges e.mother.0 x) d (above_edge edges e (k, l, at)))
+use Rattle.xdg_problem.specs.Paths.{Above, IsDaughterBy}
+use Rattle.xdg_problem.proofs.Walks.{above_trans, daughter_above}
 
 daughter_by_above : (edges : List Edge) (u l v : ℕ) → IsDaughterBy edges u l v → Above edges u v
 daughter_by_above edges u l v (k, e, n, at, (m, label, d)) = daughter_above edges u v (k, e, n, at, (m, d))

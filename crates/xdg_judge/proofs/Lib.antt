@@ -1,11 +1,10 @@
 pub mod Gathering
-pub mod Counted
 pub mod Tallies
 pub mod Reading
 pub mod Closing
 pub mod Least
-pub mod Ways
 pub mod Meeting
+pub mod Ways
 pub mod Viewing
 pub mod Judging
 pub mod Asked

@@ -2,7 +2,7 @@
 use Rattle.std.proofs.Common.{◌≡◌, ℕ, ◌+◌, ◌<◌, ◌≤◌, ◌&&◌, inl, inr, Bool, true, List, length, get_or, map, sym, ◌∙◌, ap, subst, arith}
 use Rattle.std.specs.Prelude.{AllPairs, nat_lt}
 use Rattle.std.proofs.lemmas.Bool.{cases_eq, lt-ltb}
-use Rattle.std.proofs.lemmas.List.{get_or_default, get_or-map, length-map}
+use Rattle.std.proofs.lemmas.List.{get_or_default}
 use Prim.Native.Nat.{min, max}
 use Rattle.xdg_base.specs.declared.ids.LabelId.{LabelId}
 use Rattle.xdg_problem.specs.declared.analysis.Edge.{Edge}
@@ -11,7 +11,7 @@ use Rattle.xdg_problem.specs.Paths.{Above, IsDaughterBy}
 use Rattle.xdg_judge.specs.declared.links.Links.{Links}
 use Rattle.xdg_judge.specs.Links.{AreLinks}
 use Rattle.xdg_nodeset.specs.Tables.{In}
-use Rattle.xdg_judge.proofs.Asked.{zero_label}
+use Rattle.xdg_problem.proofs.PairsMapped.{pairs_mapped}
 use Rattle.xdg_facts.specs.Rises.{has}
 
 is_between : (u v w : ℕ) → IsBetween u v w → (nat_lt (min u v) w && nat_lt w (max u v)) ≡ true
@@ -81,14 +81,9 @@ pub settled_end : (InItem : ℕ → ℕ → Type 0) (labels : List LabelId) (siz
 settled_end InItem labels size i bound x y s l lx ly = λ j k d m p h g. s.kept j k d x y m (omega (arith, p, l)) lx ly h g
 
 -- the labels of an order as numbers
-pub pairs_numbered : (InX InY : ℕ → Type 0) (labels : List LabelId) (x y : ℕ) → AllPairs (λ (e l : LabelId). InX e.0 → InY l.0 → x < y) labels → AllPairs (λ e l. InX e → InY l → x < y) (map (λ (label : LabelId). label.0) labels)
-pairs_numbered InX InY labels x y h = λ j k d m p xs ys.
-    let q : k < length labels = (let r = length-map labels (λ (label : LabelId). label.0) in omega (arith, p, r)) in
-    h j k zero_label m q (subst InX (get_or-map (λ (label : LabelId). label.0) labels j zero_label d (omega (arith, m, q))) xs) (subst InY (get_or-map (λ (label : LabelId). label.0) labels k zero_label d q) ys)
-
 pub settled_same : (edges : List Edge) (yields wanted : Bool) (own value u x y : ℕ) (labels order : List LabelId) → yields ≡ wanted → own ≡ value → labels ≡ order → AllPairs (λ (e l : LabelId). IsInItem edges (yields ≡ true) own u e.0 x → IsInItem edges (yields ≡ true) own u l.0 y → x < y) labels → AllPairs (λ e l. IsInItem edges (wanted ≡ true) value u e x → IsInItem edges (wanted ≡ true) value u l y → x < y) (map (λ (label : LabelId). label.0) order)
 settled_same edges yields wanted own value u x y labels order f g i h =
-    pairs_numbered (λ label. IsInItem edges (wanted ≡ true) value u label x) (λ label. IsInItem edges (wanted ≡ true) value u label y) order x y
+    (pairs_mapped (λ e l. IsInItem edges (wanted ≡ true) value u e x → IsInItem edges (wanted ≡ true) value u l y → x < y) (λ (label : LabelId). label.0) order).1
     (subst (λ z. AllPairs (λ (e l : LabelId). IsInItem edges (wanted ≡ true) value u e.0 x → IsInItem edges (wanted ≡ true) value u l.0 y → x < y) z) i
     (subst (λ z. AllPairs (λ (e l : LabelId). IsInItem edges (wanted ≡ true) z u e.0 x → IsInItem edges (wanted ≡ true) z u l.0 y → x < y) labels) g
     (subst (λ z. AllPairs (λ (e l : LabelId). IsInItem edges (z ≡ true) own u e.0 x → IsInItem edges (z ≡ true) own u l.0 y → x < y) labels) f h)))

@@ -3,7 +3,7 @@ use Rattle.std.proofs.Common.{◌≡◌, ℕ, ◌+◌, ◌<◌, ◌≤◌, ◌�
 use Rattle.std.specs.Prelude.{IsTrue, filter, count_by, nat_le, slice_index, slice_index_or, slice_set, ◌==◌}
 use Rattle.std.specs.List.{list_any}
 use Rattle.std.proofs.lemmas.Bool.{cases_eq, eq-eqb, ne_eqb, leb-true, le-leb}
-use Rattle.std.proofs.lemmas.List.{take_all, append-nil, get_or-set_same, get_or-set_other, length-take}
+use Rattle.std.proofs.lemmas.List.{take_all, get_or-set_same, get_or-set_other, length-take}
 use Rattle.std.proofs.lemmas.List.Sums.{length-filter, count_by-le-length}
 use Rattle.std.proofs.lemmas.List.Elements.{filter-append}
 use Rattle.xdg_problem.specs.declared.analysis.Edge.{Edge}
@@ -11,8 +11,13 @@ use Rattle.xdg_problem.specs.Places.{numbers_from}
 use Rattle.xdg_problem.specs.Paths.{edges_on, roots}
 use Rattle.xdg_problem.specs.declared.conditions.Condition.{Condition}
 use Rattle.xdg_judge.specs.Counting.{first_key, second_key, counted, IsTally}
-use Rattle.xdg_judge.proofs.Gathering.{on_more}
+use Rattle.xdg_judge.proofs.Gathering.{on_here, on_over}
 use Rattle.xdg_problem.proofs.Numbered.{numbers_more}
+use Rattle.xdg_facts.proofs.Numbers.{zeros}
+
+one_kept : {X : Type 0} (b : Bool) (x : X) → length (cond b (x ∷ []) []) ≡ cond b 1 0
+one_kept true x = refl
+one_kept false x = refl
 
 -- one more element to count
 count_behind : {X : Type 0} (p : X → Bool) (xs : List X) (y : X) → count_by p (xs ++ y ∷ []) ≡ count_by p xs + cond (p y) 1 0
@@ -21,11 +26,7 @@ count_behind p xs y =
     ∙ (ap length (filter-append p xs (y ∷ []))
     ∙ (length-append (filter p xs) (filter p (y ∷ []))
     ∙ (ap (λ n. n + length (filter p (y ∷ []))) (length-filter p xs)
-    ∙ ap (λ n. count_by p xs + n) (kept_one (p y) y))))
-  where
-    kept_one : {X : Type 0} (b : Bool) (z : X) → length (cond b (z ∷ []) []) ≡ cond b 1 0
-    kept_one true z = refl
-    kept_one false z = refl
+    ∙ ap (λ n. count_by p xs + n) (one_kept (p y) y))))
 
 -- a row and a table that count one more
 
@@ -61,11 +62,7 @@ count_row table row a b i k m e l h = elim (cases_eq k i) [
 
 no_counts : (rows places a b : ℕ) → counted (replicate rows (replicate places 0)) a b ≡ 0
 no_counts zero places a b = refl
-no_counts (suc rows) places zero b = zeros places b where
-  zeros : (count k : ℕ) → ◌≡◌ {A = ℕ} (get_or (replicate count 0) k 0) 0
-  zeros zero k = refl
-  zeros (suc count) zero = refl
-  zeros (suc count) (suc k) = zeros count k
+no_counts (suc rows) places zero b = zeros places b
 no_counts (suc rows) places (suc a) b = no_counts rows places a b
 
 -- a table that counts the first edges
@@ -87,19 +84,17 @@ tallied_most condition dim edges i table a b t =
 pub tallied_here : (condition : Condition) (dim : ℕ) (edges : List Edge) (i : ℕ) (old new : List (List ℕ)) (e : Edge) (a b : ℕ) → i < length edges → e ≡ get_or edges i e → e.dim.0 ≡ dim → a ≡ first_key condition e → b ≡ second_key condition e → ((k m : ℕ) → counted new k m ≡ counted old k m + cond ((a == k) && (b == m)) 1 0) → Tallied condition dim edges i old → Tallied condition dim edges (i + 1) new
 tallied_here condition dim edges i old new e a b l at d ea eb step t = record {
   exact = λ k m.
-      let same : edges_on dim (take (i + 1) edges) ≡ edges_on dim (take i edges) ++ e ∷ [] = on_more dim edges i e l at ∙ ap (λ q. edges_on dim (take i edges) ++ cond q (e ∷ []) []) (eq-eqb _ _ d) in
       step k m
       ∙ (ap (λ z. counted old k m + cond ((z == k) && (b == m)) 1 0) ea
       ∙ (ap (λ z. counted old k m + cond ((first_key condition e == k) && (z == m)) 1 0) eb
       ∙ (ap (λ n. n + cond ((first_key condition e == k) && (second_key condition e == m)) 1 0) (t.exact k m)
-      ∙ sym (ap (count_by (λ f. (first_key condition f == k) && (second_key condition f == m))) same ∙ count_behind (λ (f : Edge). (first_key condition f == k) && (second_key condition f == m)) (edges_on dim (take i edges)) e))));
+      ∙ sym (ap (count_by (λ f. (first_key condition f == k) && (second_key condition f == m))) (on_here dim edges i e l at d) ∙ count_behind (λ (f : Edge). (first_key condition f == k) && (second_key condition f == m)) (edges_on dim (take i edges)) e))));
 }
 
 pub tallied_over : (condition : Condition) (dim : ℕ) (edges : List Edge) (i : ℕ) (table : List (List ℕ)) (e : Edge) → i < length edges → e ≡ get_or edges i e → (e.dim.0 ≡ dim → ⊥) → Tallied condition dim edges i table → Tallied condition dim edges (i + 1) table
 tallied_over condition dim edges i table e l at d t = record {
   exact = λ k m.
-      let same : edges_on dim (take (i + 1) edges) ≡ edges_on dim (take i edges) ++ [] = on_more dim edges i e l at ∙ ap (λ q. edges_on dim (take i edges) ++ cond q (e ∷ []) []) (ne_eqb _ _ d) in
-      t.exact k m ∙ ap (count_by (λ f. (first_key condition f == k) && (second_key condition f == m))) (sym (same ∙ append-nil (edges_on dim (take i edges))));
+      t.exact k m ∙ ap (count_by (λ f. (first_key condition f == k) && (second_key condition f == m))) (sym (on_over dim edges i e l at d));
 }
 
 pub tallied_end : (condition : Condition) (dim : ℕ) (edges : List Edge) (i : ℕ) (table : List (List ℕ)) → length edges ≤ i → Tallied condition dim edges i table → IsTally condition (edges_on dim edges) table
@@ -119,10 +114,6 @@ any_in q false x ys = refl
 pub any_on : {X : Type 0} (r q : X → Bool) (xs : List X) → list_any (λ x. r x && q x) xs ≡ list_any q (filter r xs)
 any_on r q [] = refl
 any_on r q (x ∷ xs) = ap (λ (b : Bool). (r x && q x) || b) (any_on r q xs) ∙ sym (any_in q (r x) x (filter r xs))
-
-one_kept : (b : Bool) (n : ℕ) → length (cond b (n ∷ []) []) ≡ cond b 1 0
-one_kept true n = refl
-one_kept false n = refl
 
 -- the roots among one node more
 pub roots_more : (n : ℕ) (edges : List Edge) → length (roots (n + 1) edges) ≡ length (roots n edges) + cond (not (list_any (λ e. e.daughter.0 == n) edges)) 1 0

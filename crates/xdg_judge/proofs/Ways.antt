@@ -4,10 +4,15 @@ use Rattle.std.specs.Prelude.{IsTrue, All, Contains}
 use Rattle.std.proofs.lemmas.List.Elements.{All-nil, All-cons, All-head, All-tail, All-append}
 use Rattle.xdg_problem.specs.declared.analysis.Edge.{Edge}
 use Rattle.xdg_problem.specs.declared.parts.Linking.{Linking}
+use Rattle.xdg_problem.specs.declared.parts.Linking.TheVariants as linkings
 use Rattle.xdg_problem.specs.Asking.{IsInItem, IsLinked}
 use Rattle.xdg_problem.specs.Paths.{Leads, Above, AboveByFirst, AboveByLast, IsDaughterBy, IsDaughterByAny, AreSistersByAny}
 use Rattle.xdg_judge.specs.declared.paths.Way.TheVariants as ways
-use Rattle.xdg_judge.specs.Joining.{IsJoined}
+use Rattle.xdg_judge.specs.Joining.{IsJoined, IsLed}
+use Rattle.xdg_judge.specs.Links.{AreLinks}
+use Rattle.xdg_judge.specs.declared.links.Links.{Links}
+use Rattle.xdg_judge.proofs.Meeting.{led_exact}
+use Rattle.xdg_facts.proofs.Facts.{both_steps}
 use Rattle.xdg_problem.proofs.Walks.{leads_append}
 use Rattle.xdg_problem.proofs.Walks.{by_last}
 
@@ -37,24 +42,38 @@ last_joined edges labels u v (k, e, l, at, (label, (inr a, d))) = record {
 pub last_exact : (edges : List Edge) (labels : List ℕ) (u v : ℕ) → IsJoined ways.Last edges labels u v ↔ AboveByLast edges u labels v
 last_exact edges labels u v = (last_joined edges labels u v, by_last edges labels u v)
 
-pub first_exact : (edges : List Edge) (labels : List ℕ) (u v : ℕ) → IsJoined ways.First edges labels u v ↔ AboveByFirst edges u labels v
+first_exact : (edges : List Edge) (labels : List ℕ) (u v : ℕ) → IsJoined ways.First edges labels u v ↔ AboveByFirst edges u labels v
 first_exact edges labels u v = (first_joined edges labels u v, joined_first edges labels u v)
 
-pub straight_exact : (edges : List Edge) (labels : List ℕ) (u v : ℕ) → IsJoined ways.Straight edges labels u v ↔ IsDaughterByAny edges u labels v
+straight_exact : (edges : List Edge) (labels : List ℕ) (u v : ℕ) → IsJoined ways.Straight edges labels u v ↔ IsDaughterByAny edges u labels v
 straight_exact edges labels u v = (λ (k, e, l, at, (label, (m, d))). (k, e, l, at, (m, label, d)), λ (k, e, l, at, (m, label, d)). (k, e, l, at, (label, (m, d))))
 
-pub sister_exact : (edges : List Edge) (labels : List ℕ) (u v : ℕ) → IsJoined ways.Sister edges labels u v ↔ AreSistersByAny edges u labels v
+sister_exact : (edges : List Edge) (labels : List ℕ) (u v : ℕ) → IsJoined ways.Sister edges labels u v ↔ AreSistersByAny edges u labels v
 sister_exact edges labels u v = (
   λ (k, e, l, at, (label, ((k2, f, l2, at2, (m, d)), ev))). (k2, f, l2, at2, (d, (k, e, l, at, (sym m, label, ev)))),
   λ (k2, f, l2, at2, (d, (k, e, l, at, (m, label, ev)))). (k, e, l, at, (label, ((k2, f, l2, at2, (sym m, d)), ev))),
 )
 
-pub through : {A B : Type 0} {b : Bool} → IsTrue b ↔ A → A ↔ B → IsTrue b ↔ B
-through f g = (λ t. g.0 (f.0 t), λ x. f.1 (g.1 x))
+-- what each way of linking asks, by the sets of a dimension's edges
+abbrev pub IsLinkedBy : Linking → Links → List ℕ → ℕ → ℕ → Type 0
+IsLinkedBy linkings.End links labels u v = IsLed ways.Into links labels u v
+IsLinkedBy linkings.Daughter links labels u v = IsLed ways.Straight links labels u v
+IsLinkedBy linkings.Mother links labels u v = IsLed ways.Straight links labels v u
+IsLinkedBy linkings.BelowStart links labels u v = IsLed ways.First links labels u v
+IsLinkedBy linkings.AboveStart links labels u v = IsLed ways.First links labels v u
+IsLinkedBy linkings.Sisters links labels u v = IsLed ways.Sister links labels u v
 
--- what a way of linking asks, where the way is known
-pub linked_as : (way known : Linking) (b : Bool) (edges : List Edge) (labels : List ℕ) (u v : ℕ) → way ≡ known → IsTrue b ↔ IsLinked known edges u labels v → IsTrue b ↔ IsLinked way edges u labels v
-linked_as way known b edges labels u v is h = subst (λ w. IsTrue b ↔ IsLinked w edges u labels v) (sym is) h
+linked_exact : (way : Linking) (edges : List Edge) (links : Links) (labels : List ℕ) (u v : ℕ) → AreLinks edges links → IsLinkedBy way links labels u v ↔ IsLinked way edges u labels v
+linked_exact linkings.End edges links labels u v are = led_exact edges links labels are ways.Into u v
+linked_exact linkings.Daughter edges links labels u v are = both_steps (led_exact edges links labels are ways.Straight u v) (straight_exact edges labels u v)
+linked_exact linkings.Mother edges links labels u v are = both_steps (led_exact edges links labels are ways.Straight v u) (straight_exact edges labels v u)
+linked_exact linkings.BelowStart edges links labels u v are = both_steps (led_exact edges links labels are ways.First u v) (first_exact edges labels u v)
+linked_exact linkings.AboveStart edges links labels u v are = both_steps (led_exact edges links labels are ways.First v u) (first_exact edges labels v u)
+linked_exact linkings.Sisters edges links labels u v are = both_steps (led_exact edges links labels are ways.Sister u v) (sister_exact edges labels u v)
+
+-- where the way is known
+pub linked_as : (way known : Linking) (b : Bool) (edges : List Edge) (links : Links) (labels : List ℕ) (u v : ℕ) → way ≡ known → AreLinks edges links → IsTrue b ↔ IsLinkedBy known links labels u v → IsTrue b ↔ IsLinked way edges u labels v
+linked_as way known b edges links labels u v is are told = subst (λ w. IsTrue b ↔ IsLinked w edges u labels v) (sym is) (both_steps told (linked_exact known edges links labels u v are))
 
 -- x stands in an item as the node itself, as a daughter, or below one
 

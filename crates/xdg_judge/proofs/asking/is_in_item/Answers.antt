@@ -6,7 +6,8 @@ use Rattle.xdg_problem.specs.Paths.{edges_on}
 use Rattle.xdg_judge.specs.declared.paths.Way.TheVariants as ways
 use Rattle.xdg_judge.specs.Joining.{IsLed}
 use Rattle.xdg_judge.proofs.Meeting.{led_exact}
-use Rattle.xdg_judge.proofs.Ways.{item_yield, through}
+use Rattle.xdg_judge.proofs.Ways.{item_yield}
+use Rattle.xdg_facts.proofs.Facts.{both_steps}
 use Rattle.xdg_judge.proofs.asking.is_in_item.Goals as goal
 use Rattle.xdg_judge.proofs.asking.is_in_item.Goals.{else-own-from-via-then-own-from+else-x-u, else-own-from-via-else-own-from}
 
@@ -20,5 +21,5 @@ returns c =
     ])
     (λ d. false≢true (c.if-is_daughter_by.ensures.1 d))
     c.if-not-yields.false
-    (through (subst (λ i. IsTrue c.is_joined.result ↔ IsLed ways.First c.args.view.now.first (i ∷ []) c.args.u c.args.x) c.from-2.ensures c.is_joined.ensures)
-    (led_exact ways.First edges c.args.view.now.first (c.args.label ∷ []) c.args.u c.args.x c.requires.view.first_links))
+    (both_steps (subst (λ i. IsTrue c.is_joined.result ↔ IsLed ways.First c.args.view.now.first (i ∷ []) c.args.u c.args.x) c.from-2.ensures c.is_joined.ensures)
+    (led_exact edges c.args.view.now.first (c.args.label ∷ []) c.requires.view.first_links ways.First c.args.u c.args.x))

@@ -1,5 +1,5 @@
 use Rattle.std.proofs.Common.{refl}
-use Rattle.xdg_judge.proofs.Bindings.{unbound_table}
+use Rattle.xdg_problem.proofs.Bindings.{unbound_table}
 use Rattle.xdg_judge.proofs.binding.none_bound.Goals as goal
 
 pub returns : goal.returns
