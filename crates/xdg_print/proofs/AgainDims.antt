@@ -1,5 +1,5 @@
 -- The parts of dimensions are read again, and each level of brackets is.
-use Rattle.std.proofs.Common.{◌≡◌, ◌≤◌, ℕ, zero, suc, List, [], ◌∷◌, ◌++◌, map, flat_map, Option, Some, None, refl, sym, ap, inl, inr}
+use Rattle.std.proofs.Common.{◌≡◌, ◌≤◌, ℕ, zero, suc, List, [], ◌∷◌, ◌++◌, map, flat_map, Option, Some, None, refl, sym, ap}
 use Rattle.std.proofs.lemmas.List.{append-nil}
 use Rattle.xdg_ast.specs.declared.token.Kind.TheVariants as k
 use Rattle.xdg_ast.specs.declared.names.Name.{Name}
@@ -92,15 +92,15 @@ module _ (m n : ℕ) (le : m ≤ n) where
 
   part_kind_keeps : Keeps (part_kind (under [] m)) (part_kind (under [] n)) bare_dim_part part_words
   unfolding part_kind part_words bare_dim_part inside
-  part_kind_keeps = either_keeps (made_keeps (λ (said : Name × TypeTerm). d.DefType said.0 said.1) (behind_keeps k.DefType (refl, refl) refl (pair_keeps name_keeps type_part)) (λ _. refl) (λ _. refl) (λ ts z h. inl h))
-      (either_keeps (made_keeps d.LabelType (behind_keeps k.DefLabelType (refl, refl) refl type_part) (λ _. refl) (λ _. refl) (λ ts z h. inr (inl h)))
-      (either_keeps (made_keeps d.AttrsType (behind_keeps k.DefAttrsType (refl, refl) refl type_part) (λ _. refl) (λ _. refl) (λ ts z h. inr (inr (inl h))))
-      (either_keeps (made_keeps d.EntryType (behind_keeps k.DefEntryType (refl, refl) refl type_part) (λ _. refl) (λ _. refl) (λ ts z h. inr (inr (inr (inl h)))))
+  part_kind_keeps = either_keeps (made_keeps (λ (said : Name × TypeTerm). d.DefType said.0 said.1) (behind_keeps k.DefType (refl, refl) refl (pair_keeps name_keeps type_part)) (λ _. refl) (λ _. refl))
+      (either_keeps (made_keeps d.LabelType (behind_keeps k.DefLabelType (refl, refl) refl type_part) (λ _. refl) (λ _. refl))
+      (either_keeps (made_keeps d.AttrsType (behind_keeps k.DefAttrsType (refl, refl) refl type_part) (λ _. refl) (λ _. refl))
+      (either_keeps (made_keeps d.EntryType (behind_keeps k.DefEntryType (refl, refl) refl type_part) (λ _. refl) (λ _. refl))
       (either_keeps (made_keeps (λ (said : Name × Said). d.UsePrinciple said.0 said.1.0 said.1.1)
       (behind_keeps k.UsePrinciple (refl, refl) refl (pair_keeps name_keeps (braces_keep (λ j. j.principle) depth (λ m' n' l levels. levels.principle_is n' l))))
-      (λ _. refl) (λ said. ap (λ ws. mark k.UsePrinciple ∷ (name_words said.0 ++ between_braces ws)) (principle_are said.1)) (λ ts z h. inr (inr (inr (inr (inl h))))))
-      (either_keeps (made_keeps d.Output (behind_keeps k.Output (refl, refl) refl name_keeps) (λ _. refl) (λ _. refl) (λ ts z h. inr (inr (inr (inr (inr (inl h)))))))
-      (made_keeps d.UseOutput (behind_keeps k.UseOutput (refl, refl) refl name_keeps) (λ _. refl) (λ _. refl) (λ ts z h. inr (inr (inr (inr (inr (inr h))))))))))))
+      (λ _. refl) (λ said. ap (λ ws. mark k.UsePrinciple ∷ (name_words said.0 ++ between_braces ws)) (principle_are said.1)))
+      (either_keeps (made_keeps d.Output (behind_keeps k.Output (refl, refl) refl name_keeps) (λ _. refl) (λ _. refl))
+      (made_keeps d.UseOutput (behind_keeps k.UseOutput (refl, refl) refl name_keeps) (λ _. refl) (λ _. refl)))))))
 
   pub parts_keep : Keeps (parts (under [] m)) (parts (under [] n)) (map (λ x. part_said x.kind)) parts_words
   unfolding parts part

@@ -77,43 +77,41 @@ module _ (params : Params) where
       let e : is k.Name u.kind ≡ true = ap (λ (v : Word). is k.Name v.kind) i ∙ ap (λ b. is k.Name (if b then k.Name else k.Quoted)) n in
       subst (λ y. LikeTerm y (t.Param a)) (sym (as_param params u e (ap (is_among params) says.1 ∙ h))) (param_like (name_of u) a says.1))
 
-  module _ (l : Language TermKind) (incl : (ts : List Lexeme) (y : TermKind) → words_of_named.means ts y → l.means ts y) where
-    abbrev NamedKept : TermKind → Type 0
-    NamedKept = Kept l bare_term (term_words params)
+  abbrev NamedKept : TermKind → Type 0
+  NamedKept = Kept words_of_named bare_term (term_words params)
 
-    const_kept : (u : Lexeme) (v : Bool) → is_among params (content_of u.kind u.text) ≡ v → IsShortText (content_of u.kind u.text) → named params u ≡ t.Const (name_of u) → NamedKept (named params u)
-    const_kept u v h s e = subst NamedKept (sym e) (kept_by (const_written (name_of u) v h s) (const_words (name_of u) v h) incl)
+  const_kept : (u : Lexeme) (v : Bool) → is_among params (content_of u.kind u.text) ≡ v → IsShortText (content_of u.kind u.text) → named params u ≡ t.Const (name_of u) → NamedKept (named params u)
+  const_kept u v h s e = subst NamedKept (sym e) (kept_by (const_written (name_of u) v h s) (const_words (name_of u) v h))
 
-    named_kept : (u : Lexeme) (v w : Bool) → is_among params (content_of u.kind u.text) ≡ v → is k.Name u.kind ≡ w → is_constant u.kind ≡ true → IsSpellable (word_of u) → NamedKept (named params u)
-    named_kept u false w h i c s = const_kept u false h (short_text u c s) (as_constant params u h)
-    named_kept u true false h i c s = const_kept u true h (short_text u c s) (as_quoted params u i)
-    named_kept u true true h i c s =
-        subst NamedKept (sym (as_param params u i h)) (kept_by (param_written (name_of u) h (name_text u i s) (short_text u c s)) (term_words-Param params (name_of u)) incl)
+  named_kept : (u : Lexeme) (v w : Bool) → is_among params (content_of u.kind u.text) ≡ v → is k.Name u.kind ≡ w → is_constant u.kind ≡ true → IsSpellable (word_of u) → NamedKept (named params u)
+  named_kept u false w h i c s = const_kept u false h (short_text u c s) (as_constant params u h)
+  named_kept u true false h i c s = const_kept u true h (short_text u c s) (as_quoted params u i)
+  named_kept u true true h i c s =
+      subst NamedKept (sym (as_param params u i h)) (kept_by (param_written (name_of u) h (name_text u i s) (short_text u c s)) (term_words-Param params (name_of u)))
 
-    named_keeps : Keeps words_of_named l bare_term (term_words params)
-    named_keeps = record {
-      all = made_gives {G = λ u. (is_constant u.kind ≡ true) × IsSpellable (word_of u)} (token_gives (λ u c s. (c, s)))
-          (λ u g. named_kept u (is_among params (content_of u.kind u.text)) (is k.Name u.kind) refl refl g.0 g.1);
-    }
+  named_keeps : Keeps words_of_named words_of_named bare_term (term_words params)
+  named_keeps = record {
+    all = made_gives {G = λ u. (is_constant u.kind ≡ true) × IsSpellable (word_of u)} (token_gives (λ u c s. (c, s)))
+        (λ u g. named_kept u (is_among params (content_of u.kind u.text)) (is k.Name u.kind) refl refl g.0 g.1);
+  }
 
 -- ---- terms
 
 module _ {params : Params} {m n : ℕ} (depth : Depth params m n) where
-  number_keeps : (l : Language TermKind) → ((ts : List Lexeme) (y : TermKind) → (made (λ u. t.Number (number_of u)) (token (is k.Number))).means ts y → l.means ts y)
-      → Keeps (made (λ u. t.Number (number_of u)) (token (is k.Number))) l bare_term (term_words params)
-  number_keeps l incl = record {
+  number_keeps : Keeps (made (λ u. t.Number (number_of u)) (token (is k.Number))) (made (λ u. t.Number (number_of u)) (token (is k.Number))) bare_term (term_words params)
+  number_keeps = record {
     all = made_gives (token_gives small_value) (λ u s. kept_by (made_written (number_written (value_of u.text) s)
-        (λ v h. record { bare = ap (λ x. bare_term (t.Number x)) h; words = ap (λ x. term_words params (t.Number x)) h })) (term_words-Number params (value_of u.text)) incl);
+        (λ v h. record { bare = ap (λ x. bare_term (t.Number x)) h; words = ap (λ x. term_words params (t.Number x)) h })) (term_words-Number params (value_of u.text)));
   }
 
   term_kind_keeps : Keeps (term_kind params (under params m)) (term_kind params (under params n)) bare_term (term_words params)
   unfolding term_kind inside
-  term_kind_keeps = either_keeps (number_keeps (term_kind params (under params n)) (λ ts y h. inl h))
-      (either_keeps (made_keeps t.Braces (braces_keep (λ j. j.elems) depth (λ m' n' l levels. levels.elems_is n' l)) bare_term_braces (term_words-Braces params) (λ ts y h. inr (inl h)))
-      (either_keeps (made_keeps t.Tuple (bracketed_keeps depth) (λ part. bare_term_of _ (t.rolls-Tuple part)) (term_words-Tuple params) (λ ts y h. inr (inr (inl h))))
-      (either_keeps (made_keeps t.Gen (behind_keeps k.Dollar (refl, refl) refl (gen_keeps depth)) (λ part. bare_term_of _ (t.rolls-Gen part)) (term_words-Gen params) (λ ts y h. inr (inr (inr (inl h)))))
-      (either_keeps (named_keeps params (term_kind params (under params n)) (λ ts y h. inr (inr (inr (inr (inl h))))))
-      (made_keeps t.Card (card_keeps depth) (λ part. bare_term_of _ (t.rolls-Card part)) (term_words-Card params) (λ ts y h. inr (inr (inr (inr (inr h))))))))))
+  term_kind_keeps = either_keeps number_keeps
+      (either_keeps (made_keeps t.Braces (braces_keep (λ j. j.elems) depth (λ m' n' l levels. levels.elems_is n' l)) bare_term_braces (term_words-Braces params))
+      (either_keeps (made_keeps t.Tuple (bracketed_keeps depth) (λ part. bare_term_of _ (t.rolls-Tuple part)) (term_words-Tuple params))
+      (either_keeps (made_keeps t.Gen (behind_keeps k.Dollar (refl, refl) refl (gen_keeps depth)) (λ part. bare_term_of _ (t.rolls-Gen part)) (term_words-Gen params))
+      (either_keeps (named_keeps params)
+      (made_keeps t.Card (card_keeps depth) (λ part. bare_term_of _ (t.rolls-Card part)) (term_words-Card params))))))
 
   pub term_keeps : Keeps (term params (under params m)) (term params (under params n)) (bare_part bare_term) (λ x. term_words params x.kind)
   unfolding term
@@ -134,8 +132,8 @@ module _ {params : Params} {m n : ℕ} (depth : Depth params m n) where
 
   elem_kind_keeps : Keeps (elem_kind params (under params m)) (elem_kind params (under params n)) bare_elem (elem_words params)
   unfolding elem_kind
-  elem_kind_keeps = either_keeps (made_keeps e.Tuple (bracketed_keeps depth) (λ part. bare_elem_of _ (e.rolls-Tuple part)) (elem_words-Tuple params) (λ ts y h. inl h)) (record {
-    all = both_gives name_gives tail_gives (λ a make s good. kept_by (both_written (name_written a s) good.read_again (λ b other h i. i b a h)) (good.words_are a) (λ ts y h. inr h));
+  elem_kind_keeps = either_keeps (made_keeps e.Tuple (bracketed_keeps depth) (λ part. bare_elem_of _ (e.rolls-Tuple part)) (elem_words-Tuple params)) (record {
+    all = both_gives name_gives tail_gives (λ a make s good. kept_by (both_written (name_written a s) good.read_again (λ b other h i. i b a h)) (good.words_are a));
   })
 
   pub elems_keep : Keeps (elems params (under params m)) (elems params (under params n)) (map (bare_part bare_elem)) (elems_words params)

@@ -12,14 +12,14 @@ use Rattle.xdg_print.proofs.AgainWritten.{Written, weaker, at_words, written_in,
 use Rattle.xdg_print.proofs.AgainNames.{Like, Kept, Keeps, same_text}
 
 -- a value whose words are read again
-pub kept_by : {A B : Type 0} {l m : Language A} {b : A → B} {w : A → List Word} {x : A} {ws : List Word} → Written l ws (λ y. Like b w y x) → w x ≡ ws → ((ts : List Lexeme) (y : A) → l.means ts y → m.means ts y) → Kept m b w x
-kept_by a e f = written_in (at_words (sym e) a) f
+pub kept_by : {A B : Type 0} {l : Language A} {b : A → B} {w : A → List Word} {x : A} {ws : List Word} → Written l ws (λ y. Like b w y x) → w x ≡ ws → Kept l b w x
+kept_by a e = at_words (sym e) a
 
 -- a sign that stands for one value
-pub sign_keeps : {A B : Type 0} {m : Language A} {b : A → B} {w : A → List Word} {v : A} (kind : Kind) → IsSpellable (mark kind) → is kind kind ≡ true → w v ≡ mark kind ∷ []
-    → ((ts : List Lexeme) (y : A) → (made {A = Lexeme} (λ _. v) (token (is kind))).means ts y → m.means ts y) → Keeps (made {A = Lexeme} (λ _. v) (token (is kind))) m b w
-sign_keeps {A} {B} {m} {b} {w} {v} kind s h e f = record {
-  all = made_gives {G = λ _. Unit {0}} (token_gives (λ _ _ _. tt)) (λ _ _. kept_by (made_written (token_written (is kind) (mark kind) s h) (λ _ _. record { bare = refl; words = refl })) e f);
+pub sign_keeps : {A B : Type 0} {b : A → B} {w : A → List Word} {v : A} (kind : Kind) → IsSpellable (mark kind) → is kind kind ≡ true → w v ≡ mark kind ∷ []
+    → Keeps (made {A = Lexeme} (λ _. v) (token (is kind))) (made {A = Lexeme} (λ _. v) (token (is kind))) b w
+sign_keeps kind s h e = record {
+  all = made_gives {G = λ _. Unit {0}} (token_gives (λ _ _ _. tt)) (λ _ _. kept_by (made_written (token_written (is kind) (mark kind) s h) (λ _ _. record { bare = refl; words = refl })) e);
 }
 
 pub behind_keeps : {A B : Type 0} {l m : Language A} {b : A → B} {w : A → List Word} (kind : Kind) → IsSpellable (mark kind) → is kind kind ≡ true → Keeps l m b w
@@ -29,28 +29,28 @@ behind_keeps kind s h a = record {
       (λ _ x _ g. weaker (behind_written kind s h g) (λ y i. record { bare = i.bare; words = ap (λ ws. mark kind ∷ ws) i.words }));
 }
 
-pub either_keeps : {A B : Type 0} {l l' m : Language A} {b : A → B} {w : A → List Word} → Keeps l m b w → Keeps l' m b w → Keeps (either l l') m b w
-either_keeps a b = record { all = either_gives a.all b.all }
+pub either_keeps : {A B : Type 0} {l l' m m' : Language A} {b : A → B} {w : A → List Word} → Keeps l l' b w → Keeps m m' b w → Keeps (either l m) (either l' m') b w
+either_keeps p q = record { all = either_gives (stronger p.all (λ x h. written_in h (λ ts y i. inl i))) (stronger q.all (λ x h. written_in h (λ ts y i. inr i))) }
 
--- a form of values, and the language of all of them
-pub made_keeps : {A A' B B' : Type 0} {f : A' → A} {l l' : Language A'} {m : Language A} {b' : A' → B'} {w' : A' → List Word} {b : A → B} {w : A → List Word} (g : B' → B)
-    → Keeps l l' b' w' → ((a : A') → b (f a) ≡ g (b' a)) → ((a : A') → w (f a) ≡ w' a) → ((ts : List Lexeme) (y : A) → (made f l').means ts y → m.means ts y) → Keeps (made f l) m b w
-made_keeps g a eb ew incl = record {
-  all = made_gives a.all (λ x h. kept_by (made_written h (λ y i. record { bare = eb y ∙ (ap g i.bare ∙ sym (eb x)); words = ew y ∙ (i.words ∙ sym (ew x)) })) (ew x) incl);
+-- a form of values
+pub made_keeps : {A A' B B' : Type 0} {f : A' → A} {l l' : Language A'} {b' : A' → B'} {w' : A' → List Word} {b : A → B} {w : A → List Word} (g : B' → B)
+    → Keeps l l' b' w' → ((a : A') → b (f a) ≡ g (b' a)) → ((a : A') → w (f a) ≡ w' a) → Keeps (made f l) (made f l') b w
+made_keeps g a eb ew = record {
+  all = made_gives a.all (λ x h. kept_by (made_written h (λ y i. record { bare = eb y ∙ (ap g i.bare ∙ sym (eb x)); words = ew y ∙ (i.words ∙ sym (ew x)) })) (ew x));
 }
 
-pub both_keeps : {A B C A' B' C' : Type 0} {f : A → B → C} {l l' : Language A} {m m' : Language B} {n : Language C} {b : A → A'} {w : A → List Word} {c : B → B'} {v : B → List Word} {d : C → C'} {u : C → List Word} (g : A' → B' → C')
-    → Keeps l l' b w → Keeps m m' c v → ((x : A) (y : B) → d (f x y) ≡ g (b x) (c y)) → ((x : A) (y : B) → u (f x y) ≡ w x ++ v y) → ((ts : List Lexeme) (z : C) → (both f l' m').means ts z → n.means ts z) → Keeps (both f l m) n d u
-both_keeps {A} {B} {C} {A'} {B'} {C'} {f} {l} {l'} {m} {m'} {n} {b} {w} {c} {v} g p q ed eu incl = record {
+pub both_keeps : {A B C A' B' C' : Type 0} {f : A → B → C} {l l' : Language A} {m m' : Language B} {b : A → A'} {w : A → List Word} {c : B → B'} {v : B → List Word} {d : C → C'} {u : C → List Word} (g : A' → B' → C')
+    → Keeps l l' b w → Keeps m m' c v → ((x : A) (y : B) → d (f x y) ≡ g (b x) (c y)) → ((x : A) (y : B) → u (f x y) ≡ w x ++ v y) → Keeps (both f l m) (both f l' m') d u
+both_keeps g p q ed eu = record {
   all = both_gives p.all q.all (λ x y h i. kept_by (both_written h i (λ x' y' j k. record {
-    bare = ed x' y' ∙ (ap (λ z. g z (c y')) j.bare ∙ (ap (g (b x)) k.bare ∙ sym (ed x y)));
-    words = eu x' y' ∙ (ap (λ ws. ws ++ v y') j.words ∙ (ap (λ ws. w x ++ ws) k.words ∙ sym (eu x y)));
-  })) (eu x y) incl);
+    bare = ed x' y' ∙ (ap₂ g j.bare k.bare ∙ sym (ed x y));
+    words = eu x' y' ∙ (ap₂ (λ ws vs. ws ++ vs) j.words k.words ∙ sym (eu x y));
+  })) (eu x y));
 }
 
 pub pair_keeps : {A B A' B' : Type 0} {l l' : Language A} {m m' : Language B} {b : A → A'} {w : A → List Word} {c : B → B'} {v : B → List Word}
     → Keeps l l' b w → Keeps m m' c v → Keeps {B = A' × B'} (pair l m) (pair l' m') (λ z. (b z.0, c z.1)) (λ z. w z.0 ++ v z.1)
-pair_keeps p q = both_keeps (λ x y. (x, y)) p q (λ _ _. refl) (λ _ _. refl) (λ ts z h. h)
+pair_keeps p q = both_keeps (λ x y. (x, y)) p q (λ _ _. refl) (λ _ _. refl)
 
 pub spanned_keeps : {A : Type 0} {l m : Language A} {b : A → A} {w : A → List Word} → Keeps l m b w → Keeps (spanned at_span l) (spanned at_span m) (bare_part b) (λ x. w x.kind)
 spanned_keeps a = record {
@@ -66,8 +66,8 @@ option_words w None = []
 option_words w (Some x) = w x
 
 pub optional_keeps : {A : Type 0} {l m : Language A} {b : A → A} {w : A → List Word} → Keeps l m b w → Keeps (optional l) (optional m) (bare_option b) (option_words w)
-optional_keeps a = either_keeps (made_keeps Some a (λ _. refl) (λ _. refl) (λ ts y h. inl h))
-    (record { all = nothing_gives (kept_by (nothing_written (record { bare = refl; words = refl })) refl (λ ts y h. inr h)) })
+optional_keeps a = either_keeps (made_keeps Some a (λ _. refl) (λ _. refl))
+    (record { all = nothing_gives (kept_by (nothing_written (record { bare = refl; words = refl })) refl) })
 
 -- the words are kept, too
 pub with_words : {A B : Type 0} {l m : Language A} {b : A → B} {w : A → List Word} → Keeps l m b w → Keeps {B = B × List Word} l m (λ x. (b x, w x)) w
@@ -79,13 +79,13 @@ with_words {A} {B} {l} {m} {b} {w} a = record {
 pub signed_keeps : {A A' B B' : Type 0} {f : A' → A} {l l' : Language A'} {m : Language A} {b' : A' → B'} {w' : A' → List Word} {b : A → B} {w : A → List Word} (kind : Kind) (g : B' → B) → IsSpellable (mark kind) → is kind kind ≡ true
     → Keeps l l' b' w' → ((a : A') → b (f a) ≡ g (b' a)) → ((a : A') → w (f a) ≡ mark kind ∷ w' a) → ((ts : List Lexeme) (y : A) → (behind (token (is kind)) (made f l')).means ts y → m.means ts y) → Keeps (made f l) m b w
 signed_keeps kind g s k a eb ew incl = record {
-  all = made_gives a.all (λ x h. kept_by (behind_written kind s k (made_written h
-      (λ y i. record { bare = eb y ∙ (ap g i.bare ∙ sym (eb x)); words = ew y ∙ (ap (λ ws. mark kind ∷ ws) i.words ∙ sym (ew x)) }))) (ew x) incl);
+  all = made_gives a.all (λ x h. written_in (kept_by (behind_written kind s k (made_written h
+      (λ y i. record { bare = eb y ∙ (ap g i.bare ∙ sym (eb x)); words = ew y ∙ (ap (λ ws. mark kind ∷ ws) i.words ∙ sym (ew x)) }))) (ew x)) incl);
 }
 
--- a sign that is read, and written by each form behind it
-pub unsigned_keeps : {A B C : Type 0} {l n : Language A} (m : Language C) {b : A → B} {w : A → List Word} → Keeps l n b w → Keeps (behind m l) n b w
-unsigned_keeps m a = record { all = behind_gives m a.all }
+-- a sign that is read, and written by each of two forms behind it
+pub unsigned_keeps : {A B C : Type 0} {l l' n : Language A} (m : Language C) {b : A → B} {w : A → List Word} → Keeps l n b w → Keeps l' n b w → Keeps (behind m (either l l')) n b w
+unsigned_keeps m p q = record { all = behind_gives m (either_gives p.all q.all) }
 
 -- ---- what is made of a name
 

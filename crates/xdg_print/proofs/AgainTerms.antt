@@ -44,15 +44,15 @@ module _ {params : Params} {m n : ℕ} (depth : Depth params m n) where
 
   card_kind_keeps : Keeps (card_kind (under params m)) (card_kind (under params n)) bare_card card_words
   unfolding card_kind hashed card_words bare_card
-  card_kind_keeps = either_keeps (sign_keeps k.Exclamation (refl, refl) refl refl (λ ts y h. inl h))
-      (either_keeps (sign_keeps k.Question (refl, refl) refl refl (λ ts y h. inr (inl h)))
-      (either_keeps (sign_keeps k.Star (refl, refl) refl refl (λ ts y h. inr (inr (inl h))))
-      (either_keeps (sign_keeps k.Plus (refl, refl) refl refl (λ ts y h. inr (inr (inr (inl h)))))
-      (unsigned_keeps (token (is k.Hash)) (either_keeps
+  card_kind_keeps = either_keeps (sign_keeps k.Exclamation (refl, refl) refl refl)
+      (either_keeps (sign_keeps k.Question (refl, refl) refl refl)
+      (either_keeps (sign_keeps k.Star (refl, refl) refl refl)
+      (either_keeps (sign_keeps k.Plus (refl, refl) refl refl)
+      (unsigned_keeps (token (is k.Hash))
       (signed_keeps k.Hash c.Numbers (refl, refl) refl (braces_keep (λ _. nums) depth (λ _ _ _ _. nums_keeps)) (λ _. refl) (λ _. refl)
-      (λ ts y h. inr (inr (inr (inr (h.0, h.1, h.2, h.3, h.4, h.5, inl h.6, h.7))))))
+      (λ ts y h. (h.0, h.1, h.2, h.3, h.4, h.5, inl h.6, h.7)))
       (signed_keeps k.Hash (λ i. c.Interval i.0 i.1) (refl, refl) refl (square_brackets_keep (λ _. interval) depth (λ _ _ _ _. interval_keeps)) (λ _. refl) (λ _. refl)
-      (λ ts y h. inr (inr (inr (inr (h.0, h.1, h.2, h.3, h.4, h.5, inr h.6, h.7)))))))))))
+      (λ ts y h. (h.0, h.1, h.2, h.3, h.4, h.5, inr h.6, h.7)))))))
 
   pub card_keeps : Keeps (card (under params m)) (card (under params n)) (bare_part bare_card) (λ x. card_words x.kind)
   unfolding card

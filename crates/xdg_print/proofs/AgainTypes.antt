@@ -27,12 +27,12 @@ abbrev bare_pairs : List (Pair TypeTerm) → List (Pair TypeTerm)
 bare_pairs pairs = map (bare_pair (bare_part bare_type)) pairs
 
 module _ {params : Params} {m n : ℕ} (depth : Depth params m n) where
-  braced_type : Keeps (in_braces (under params m) (λ j. j.braced)) (type_kind (under params n)) bare_type type_words
-  unfolding inside type_kind
+  braced_type : Keeps (in_braces (under params m) (λ j. j.braced)) (in_braces (under params n) (λ j. j.braced)) bare_type type_words
+  unfolding inside
   braced_type = record {
     all = nested_gives (is k.LeftBrace) (is k.RightBrace) (λ j. j.braced) depth (λ m' n' e l levels.
         stronger (levels.braced_is n' l)
-        (λ type h. kept_by (nested_written k.LeftBrace k.RightBrace (λ j. j.braced) params n n' e (refl, refl) refl (refl, refl) refl h.read_again) h.words_are (λ ts z i. inl i)));
+        (λ type h. kept_by (nested_written k.LeftBrace k.RightBrace (λ j. j.braced) params n n' e (refl, refl) refl (refl, refl) refl h.read_again) h.words_are));
   }
 
   one_in_parentheses : Keeps (in_parentheses (under params m) (λ j. j.one_type)) (in_parentheses (under params n) (λ j. j.one_type)) (bare_part bare_type) (λ z. parenthesized (one_words z))
@@ -43,17 +43,17 @@ module _ {params : Params} {m n : ℕ} (depth : Depth params m n) where
   unfolding type_kind inside
   type_kind_keeps = either_keeps braced_type
       (either_keeps (made_keeps y.Tuple (behind_keeps k.Tuple (refl, refl) refl (parentheses_keep (λ j. j.more_types) depth (λ m' n' l levels. levels.more_is n' l)))
-      bare_type_tuple type_words-Tuple (λ ts z h. inr (inl h)))
-      (either_keeps (made_keeps y.Set (behind_keeps k.Set (refl, refl) refl one_in_parentheses) bare_type_set type_words-Set (λ ts z h. inr (inr (inl h))))
-      (either_keeps (made_keeps y.ISet (behind_keeps k.ISet (refl, refl) refl one_in_parentheses) bare_type_iset type_words-ISet (λ ts z h. inr (inr (inr (inl h)))))
-      (either_keeps (made_keeps y.Valency (behind_keeps k.Valency (refl, refl) refl one_in_parentheses) bare_type_valency type_words-Valency (λ ts z h. inr (inr (inr (inr (inl h))))))
+      bare_type_tuple type_words-Tuple)
+      (either_keeps (made_keeps y.Set (behind_keeps k.Set (refl, refl) refl one_in_parentheses) bare_type_set type_words-Set)
+      (either_keeps (made_keeps y.ISet (behind_keeps k.ISet (refl, refl) refl one_in_parentheses) bare_type_iset type_words-ISet)
+      (either_keeps (made_keeps y.Valency (behind_keeps k.Valency (refl, refl) refl one_in_parentheses) bare_type_valency type_words-Valency)
       (either_keeps (made_keeps (λ (said : TypeTerm × TypeTerm). y.Map said.0 said.1) (behind_keeps k.Map (refl, refl) refl (parentheses_keep (λ j. j.two_types) depth (λ m' n' l levels. levels.two_is n' l)))
-      (λ said. bare_type_of _ (y.rolls-Map said.0 said.1)) (λ said. type_words-Map said.0 said.1) (λ ts z h. inr (inr (inr (inr (inr (inl h)))))))
-      (either_keeps (sign_keeps k.Card (refl, refl) refl type_words-Card (λ ts z h. inr (inr (inr (inr (inr (inr (inl h))))))))
-      (either_keeps (sign_keeps k.Bool (refl, refl) refl type_words-Bool (λ ts z h. inr (inr (inr (inr (inr (inr (inr (inl h)))))))))
-      (either_keeps (sign_keeps k.Int (refl, refl) refl type_words-Int (λ ts z h. inr (inr (inr (inr (inr (inr (inr (inr (inl h))))))))))
-      (either_keeps (sign_keeps k.String (refl, refl) refl type_words-Str (λ ts z h. inr (inr (inr (inr (inr (inr (inr (inr (inr (inl h)))))))))))
-      (made_keeps y.Named name_keeps (λ part. bare_type_of _ (y.rolls-Named part)) type_words-Named (λ ts z h. inr (inr (inr (inr (inr (inr (inr (inr (inr (inr h))))))))))))))))))))
+      (λ said. bare_type_of _ (y.rolls-Map said.0 said.1)) (λ said. type_words-Map said.0 said.1))
+      (either_keeps (sign_keeps k.Card (refl, refl) refl type_words-Card)
+      (either_keeps (sign_keeps k.Bool (refl, refl) refl type_words-Bool)
+      (either_keeps (sign_keeps k.Int (refl, refl) refl type_words-Int)
+      (either_keeps (sign_keeps k.String (refl, refl) refl type_words-Str)
+      (made_keeps y.Named name_keeps (λ part. bare_type_of _ (y.rolls-Named part)) type_words-Named))))))))))
 
   pub type_keeps : Keeps (type_term (under params m)) (type_term (under params n)) (bare_part bare_type) one_words
   unfolding type_term
@@ -65,7 +65,7 @@ module _ {params : Params} {m n : ℕ} (depth : Depth params m n) where
 
   pub more_keep : Keeps (more_types (under params m)) (more_types (under params n)) (map (bare_part bare_type)) types_words
   unfolding more_types
-  more_keep = both_keeps (λ z zs. z ∷ zs) type_keeps (many_keeps type_keeps) (λ _ _. refl) (λ _ _. refl) (λ ts z h. h)
+  more_keep = both_keeps (λ z zs. z ∷ zs) type_keeps (many_keeps type_keeps) (λ _ _. refl) (λ _ _. refl)
 
   keyed_types_keep : Keeps (keyed_types (under params m)) (keyed_types (under params n)) bare_pairs pairs_of_types
   unfolding keyed_types keyed_type

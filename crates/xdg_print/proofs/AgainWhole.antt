@@ -1,5 +1,5 @@
 -- Statements are read again, and whole grammars are.
-use Rattle.std.proofs.Common.{◌≡◌, ℕ, true, if◌then◌else◌, List, [], ◌∷◌, ◌++◌, map, flat_map, Option, Some, None, refl, sym, ap, ◌∙◌, subst, inl, inr, arith}
+use Rattle.std.proofs.Common.{◌≡◌, ℕ, true, if◌then◌else◌, List, [], ◌∷◌, ◌++◌, map, flat_map, Option, Some, None, refl, sym, ap, ◌∙◌, subst, arith}
 use Rattle.std.proofs.lemmas.List.{append-nil}
 use Rattle.std.proofs.lemmas.List.Folds.{flat_map-map}
 use Rattle.std.proofs.lemmas.Grind.{flat_map-append}
@@ -71,7 +71,7 @@ module _ (n : ℕ) where
 
   class_param_keeps : Keeps (class_param n) (class_param n) bare_class_param class_param_words
   unfolding class_param
-  class_param_keeps = both_keeps (λ name given. record { name = name; preset = given }) param_name_keeps preset_keeps (λ _ _. refl) (λ name given. ap (λ ws. name_word name ∷ ws) (presets_are given)) (λ ts z h. h)
+  class_param_keeps = both_keeps (λ name given. record { name = name; preset = given }) param_name_keeps preset_keeps (λ _ _. refl) (λ name given. ap (λ ws. name_word name ∷ ws) (presets_are given))
 
   class_params_keep : Keeps (class_params n) (class_params n) (map bare_class_param) (flat_map class_param_words)
   unfolding class_params
@@ -141,12 +141,12 @@ BareBody = Expr × List Word
 module _ (n : ℕ) where
   statement_kind_keeps : Keeps (statement_kind n) (statement_kind n) stated statement_words
   unfolding statement_kind statement_words statement_lines bare_statement inside
-  statement_kind_keeps = either_keeps (made_keeps (λ z. one_line (s.UseDim z) (mark k.UseDim ∷ name_words z)) (behind_keeps k.UseDim (refl, refl) refl name_keeps) (λ _. refl) (λ _. refl) (λ ts z h. inl h))
+  statement_kind_keeps = either_keeps (made_keeps (λ z. one_line (s.UseDim z) (mark k.UseDim ∷ name_words z)) (behind_keeps k.UseDim (refl, refl) refl name_keeps) (λ _. refl) (λ _. refl))
       (either_keeps (made_keeps stated_dim (behind_keeps k.DefDim (refl, refl) refl (pair_keeps name_keeps (braces_keep (λ j. j.parts) (depth_of [] n n (omega arith)) (λ m' n' l levels. parts_keep m' n' l))))
-      dim_is (λ _. refl) (λ ts z h. inr (inl h)))
+      dim_is (λ _. refl))
       (either_keeps (made_keeps (λ (z : BareClass). one_line (s.DefClass z.0.0 z.0.1.0 z.0.1.1) z.1) (with_words (behind_keeps k.DefClass (refl, refl) refl (pair_keeps name_keeps (tail_keeps n))))
-      (λ _. refl) (λ _. refl) (λ ts z h. inr (inr (inl h))))
-      (made_keeps (λ (z : BareBody). one_line (s.DefEntry z.0) z.1) (with_words (behind_keeps k.DefEntry (refl, refl) refl (body_keeps n []))) (λ _. refl) (λ _. refl) (λ ts z h. inr (inr (inr h))))))
+      (λ _. refl) (λ _. refl))
+      (made_keeps (λ (z : BareBody). one_line (s.DefEntry z.0) z.1) (with_words (behind_keeps k.DefEntry (refl, refl) refl (body_keeps n []))) (λ _. refl) (λ _. refl))))
 
   statements_keep : Keeps (statements n) (statements n) (map (λ x. stated x.kind)) (flat_map (λ x. statement_words x.kind))
   unfolding statements statement

@@ -109,9 +109,8 @@ Each G (x ∷ xs) = G x × Each G xs
 
 abbrev pub InTurn : {A : Type 0} → (A → A → Type 0) → List A → List A → Type 0
 InTurn R [] [] = Unit {0}
-InTurn R [] (x ∷ xs) = ⊥
-InTurn R (y ∷ ys) [] = ⊥
 InTurn R (y ∷ ys) (x ∷ xs) = R y x × InTurn R ys xs
+InTurn R _ _ = ⊥
 
 pub many_written : {A : Type 0} (l : Language A) (R : A → A → Type 0) (w : A → List Word) (xs : List A) → Each (λ x. Written l (w x) (λ y. R y x)) xs → Written (many l) (flat_map w xs) (λ ys. InTurn R ys xs)
 many_written l R w [] e = record { spellable = tt; again = λ us i. ([], no_tokens us i, tt) }

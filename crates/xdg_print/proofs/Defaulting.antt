@@ -10,7 +10,7 @@ use Rattle.std.proofs.lemmas.List.FromFn.{length-range_with_len}
 use Rattle.std.proofs.lemmas.Slice.Eq.{bytes_eq-Decides}
 use Rattle.xdg_domain.specs.Cards.{cards}
 use Rattle.xdg_domain.specs.Defaults.{default, for_each_key, map_of_default}
-use Rattle.xdg_domain.specs.Shapes.{Shape, domain, tuple, truth, integer, text, set, iset, card, valency, mapping, fields, count, IsMapped, IsType}
+use Rattle.xdg_domain.specs.Shapes.{Shape, set, iset, card, valency, mapping, count, IsMapped, IsType}
 use Rattle.xdg_domain.specs.declared.values.Value.{Value, out-Value}
 use Rattle.xdg_domain.specs.declared.values.Value.TheOpen.{Value-F}
 use Rattle.xdg_domain.specs.declared.values.Value.TheVariants as v
@@ -69,11 +69,6 @@ lifted : (b : Bool) (d x : Value) (l : Value-F Value) → out-Value d ≡ l → 
 lifted b d x l is law = Decides-like b (λ e. ap Some (same_out d x (is ∙ e))) (λ e. sym is ∙ ap out-Value (some_same d x e)) law
 
 pub default_law : (s : Shape) → IsMapped s → IsType s → (x : Value) → Decides (is_default s (out-Value x)) (default s ≡ Some x)
-default_law (domain cs) mapped right x = absurd mapped
-default_law (tuple ss) mapped right x = absurd mapped
-default_law truth mapped right x = absurd mapped
-default_law integer mapped right x = absurd mapped
-default_law text mapped right x = absurd mapped
 default_law (set s) mapped right x = lifted _ (v.Set []) x (Value-F.Set []) (v.outs-Set []) (set_law s (out-Value x))
 default_law (iset s) mapped right x = lifted _ (v.Set (range_with_len 0 (count s))) x (Value-F.Set (range_with_len 0 (count s))) (v.outs-Set (range_with_len 0 (count s))) (iset_law s (out-Value x))
 default_law card mapped right x = lifted _ (v.Card (cards (λ _. true))) x (Value-F.Card (cards (λ _. true))) (v.outs-Card (cards (λ _. true))) (card_law (out-Value x))
@@ -89,9 +84,7 @@ default_law (mapping k u) mapped right x = elim (decided u right.1.1) [
       let is : default (mapping k u) ≡ Some (v.Map all) = ap (map_of_default (count k)) some.1.1 in
       Decides-like (is_default (mapping k u) (out-Value x)) (λ e. is ∙ e) (λ e. sym is ∙ e) (lifted _ (v.Map all) x (Value-F.Map all) (v.outs-Map all) (map_law k u d law (out-Value x)))
 ]
-default_law (fields fs) mapped right x = absurd mapped
-
--- ---- the test, key after key
+default_law _ mapped right x = absurd mapped
 
 -- ---- full sets
 

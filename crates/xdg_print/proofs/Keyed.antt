@@ -15,7 +15,7 @@ use Rattle.xdg_domain.specs.declared.values.Value.TheVariants as v
 use Rattle.xdg_print.specs.declared.printer.Printer.{Printer}
 use Rattle.xdg_print.specs.Printed.{put}
 use Rattle.xdg_print.proofs.Put.{put_append, next_of}
-use Rattle.xdg_print.proofs.Written.{put_mark}
+use Rattle.xdg_print.proofs.Written.{put_mark, put_braces}
 use Rattle.xdg_types.specs.Table.{typed}
 use Rattle.xdg_types.proofs.Kept.{at_place}
 use Rattle.xdg_print.specs.Defaulted.{is_default}
@@ -95,10 +95,10 @@ map_done ty key of value said items i p opened listed is value_is same past one 
     ∙ ap (λ m. put (in_braces (flat_map (entry_words (shape key) (shape of)) m)) p) same
     ∙ sym (ap (λ ws. put ws p) (words_layer (shape ty) (mapping (shape key) (shape of)) value (Value-F.Map said) (of_map ty key of is) (ap out-Value value_is ∙ v.outs-Map said)))
 
--- the words of all fields of a record, in their braces
-pub record_done : (ty : Ty) (types given : List (List ℕ × Ty)) (value : Value) (said items : List (ℕ × Value)) (i : ℕ) (p opened listed : Printer) → ty ≡ t.Rec types → given ≡ types → value ≡ v.Rec said → items ≡ said → length items ≤ i
-    → opened ≡ put_mark k.LeftBrace p → put (flat_map (feature_words (fields_of (typed given))) (drop i items)) listed ≡ put (flat_map (feature_words (fields_of (typed given))) items) opened → put_mark k.RightBrace listed ≡ put (words_of (shape ty) value) p
-record_done ty types given value said items i p opened listed is given_is value_is same past one before =
-    braces_done (feature_words (fields_of (typed given))) items i p opened listed past one before
+-- the words of a record's features, in their braces
+pub record_done : (ty : Ty) (types given : List (List ℕ × Ty)) (value : Value) (said items : List (ℕ × Value)) (p opened listed : Printer) → ty ≡ t.Rec types → given ≡ types → value ≡ v.Rec said → items ≡ said
+    → opened ≡ put_mark k.LeftBrace p → listed ≡ put (flat_map (feature_words (fields_of (typed given))) items) opened → put_mark k.RightBrace listed ≡ put (words_of (shape ty) value) p
+record_done ty types given value said items p opened listed is given_is value_is same one two =
+    ap (put_mark k.RightBrace) (two ∙ ap (put (flat_map (feature_words (fields_of (typed given))) items)) one) ∙ sym (put_braces (flat_map (feature_words (fields_of (typed given))) items) p)
     ∙ ap₂ (λ ts m. put (in_braces (flat_map (feature_words (fields_of (typed ts))) m)) p) given_is same
     ∙ sym (ap (λ ws. put ws p) (words_layer (shape ty) (fields (fields_of (typed types))) value (Value-F.Rec said) (of_record ty types is) (ap out-Value value_is ∙ v.outs-Rec said)))

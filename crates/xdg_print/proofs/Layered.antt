@@ -58,13 +58,11 @@ map_entry ty key of value said items i entry is value_is h same within at =
 pub record_types : (ty : Ty) (types given : List (List ℕ × Ty)) → ty ≡ t.Rec types → given ≡ types → IsType (shape ty) → AreTypes (fields_of (typed given))
 record_types ty types given is same h = subst (λ ts. AreTypes (fields_of (typed ts))) (sym same) (subst IsType (of_record ty types is) h).1
 
--- an entry of a record is a field with a value of its type
-pub record_entry : (ty : Ty) (types given : List (List ℕ × Ty)) (value : Value) (said items : List (ℕ × Value)) (i : ℕ) (entry : ℕ × Value) → ty ≡ t.Rec types → given ≡ types → value ≡ v.Rec said → IsValue (shape ty) value → items ≡ said
-    → i < length items → entry ≡ get_or items i entry → IsFieldOf (fields_of (typed given)) entry.0 entry.1
-record_entry ty types given value said items i entry is given_is value_is h same within at =
-    subst (λ ts. IsFieldOf (fields_of (typed ts)) entry.0 entry.1) (sym given_is)
-    (said_each (IsFieldOf (fields_of (typed types))) items i entry
-    (subst (EachSaid (IsFieldOf (fields_of (typed types)))) (sym same) (in_layer (shape ty) (fields (fields_of (typed types))) value (Value-F.Rec said) (of_record ty types is) (ap out-Value value_is ∙ v.outs-Rec said) h).1) within at)
+-- what a record says is of its fields
+pub record_said : (ty : Ty) (types given : List (List ℕ × Ty)) (value : Value) (said items : List (ℕ × Value)) → ty ≡ t.Rec types → given ≡ types → value ≡ v.Rec said → IsValue (shape ty) value → items ≡ said → EachSaid (IsFieldOf (fields_of (typed given))) items
+record_said ty types given value said items is given_is value_is h same =
+    subst (λ ts. EachSaid (IsFieldOf (fields_of (typed ts))) items) (sym given_is)
+    (subst (EachSaid (IsFieldOf (fields_of (typed types)))) (sym same) (in_layer (shape ty) (fields (fields_of (typed types))) value (Value-F.Rec said) (of_record ty types is) (ap out-Value value_is ∙ v.outs-Rec said) h).1)
 
 -- ---- tuples
 

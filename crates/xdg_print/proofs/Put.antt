@@ -6,7 +6,7 @@ use Rattle.std.specs.declared.alloc.AllocError.{AllocError}
 use Rattle.xdg_ast.specs.declared.token.Kind.{Kind}
 use Rattle.xdg_ast.specs.declared.token.Kind.TheVariants as k
 use Rattle.xdg_ast.specs.Words.{Word, mark}
-use Rattle.xdg_ast.specs.Trees.{Form, single, conjunction, disjunction, Phrase, each_behind, separated, in_conjunction, in_disjunction}
+use Rattle.xdg_ast.specs.Trees.{Form, single, Phrase, each_behind, separated, in_conjunction, in_disjunction}
 use Rattle.xdg_ast.specs.Canon.{Line, line_text, gap, spelling, joined}
 use Rattle.xdg_print.specs.declared.printer.Printer.{Printer}
 use Rattle.xdg_print.specs.Printed.{put, put_one, put_lines, begun, ended, opening, closing, is_joined, is_disjoined}
@@ -90,13 +90,11 @@ all_members p sign false f xs i beyond left = ap (λ z. put (members sign false 
 
 joined_by_form : (form : Form) (words : List Word) → in_conjunction (record { form = form; words = words }) ≡ bracketed (is_joined (record { form = form; words = words })) words
 joined_by_form single words = refl
-joined_by_form conjunction words = refl
-joined_by_form disjunction words = refl
+joined_by_form _ words = refl
 
 disjoined_by_form : (form : Form) (words : List Word) → in_disjunction (record { form = form; words = words }) ≡ bracketed (is_disjoined (record { form = form; words = words })) words
 disjoined_by_form single words = refl
-disjoined_by_form conjunction words = refl
-disjoined_by_form disjunction words = refl
+disjoined_by_form _ words = refl
 
 pub by_joined : (phrase : Phrase) (brackets : Bool) → brackets ≡ is_joined phrase → in_conjunction phrase ≡ bracketed brackets phrase.words
 by_joined phrase brackets is = joined_by_form phrase.form phrase.words ∙ ap (λ b. bracketed b phrase.words) (sym is)

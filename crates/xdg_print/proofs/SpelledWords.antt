@@ -102,15 +102,7 @@ tight_closing one other no_tight tight = elim (or_cases (is_tight_behind one || 
 
 closing_stops : (kind : Kind) (content : List ℕ) (value : ℕ) (behind : List ℕ) → is_closing kind ≡ true → StopsBefore continues_name (characters kind content value ++ behind)
 closing_stops k.RightBrace content value behind e = refl
-closing_stops k.RightParenthesis content value behind e = refl
-closing_stops k.RightBracket content value behind e = refl
-closing_stops k.Colon content value behind e = refl
-closing_stops k.Exclamation content value behind e = refl
-closing_stops k.Question content value behind e = refl
-closing_stops k.Star content value behind e = refl
-closing_stops k.Plus content value behind e = refl
-closing_stops k.LeftParenthesis content value behind e = refl
-closing_stops kind content value behind e = absurd (true≢false (sym e))
+closing_stops _ content value behind e = cc
 
 -- no name goes on behind a word, where no space stands
 pub tight_stops : (one other : Kind) (content : List ℕ) (value : ℕ) (behind : List ℕ) → is_tight_behind one ≡ false → is_tight one other ≡ true → StopsBefore continues_name (characters other content value ++ behind)

@@ -4,18 +4,17 @@ ghost use Rattle.std.specs.Prelude.{◌≡◌, ◌<◌, [], ◌∷◌, length, I
 ghost use Rattle.xdg_domain.specs.Shapes.{fields_of, AreTypes};
 ghost use Rattle.xdg_domain.specs.Values.{EachSaid, IsFieldOf};
 ghost use Rattle.xdg_packed.specs.Entries.{AreEntries, IsEntry};
-ghost use Rattle.xdg_print.specs.Printed.{put, put_lines};
+ghost use Rattle.xdg_print.specs.Printed.{put_lines};
 ghost use Rattle.xdg_types.specs.Table.{typed};
 ghost use Rattle.xdg_print.specs.LexiconText.{dim_line, dim_lines, end_line, entries_line, entries_lines, entry_line, entry_lines, lexicon_text, word_at};
-ghost use Rattle.xdg_print.specs.ValueWords.{features_words};
 ghost use Rattle.xdg_print.specs.WordPlaces.{place_of_word};
 
 use crate::printer::Printer;
-use crate::values::put_value;
+use crate::values::put_features;
 use std::alloc::Global;
 use xdg_ast::Kind;
 use xdg_base::{EntryNo, OutOfMemory, Text};
-use xdg_domain::{Fields, Ty, Value};
+use xdg_domain::Fields;
 use xdg_packed::{EntryView, Packed, text_at, word_place};
 use xdg_types::{DimType, TypeTable};
 
@@ -49,25 +48,6 @@ fn put_entry_line(printer: &mut Printer, place: u32, word: &str) -> Result<(), O
     printer.number(place)?;
     printer.quoted(word)?;
     printer.end()
-}
-
-/// Adds the features of a record with their values.
-fn put_features(
-    printer: &mut Printer,
-    types: &[(Text, Ty)],
-    said: &[(u32, Value)],
-) -> Result<(), OutOfMemory>
-    requires right { AreTypes (fields_of (typed types.now)) }
-    requires said { EachSaid (IsFieldOf (fields_of (typed types.now))) said.now }
-    ensures { OnOk result (printer.new ≡ put (features_words (fields_of (typed types.now)) said.now) printer.old) }
-{
-    for feature in said {
-        let field = &types[feature.0 as usize];
-        printer.constant(field.0.as_str())?;
-        printer.mark(Kind::Colon)?;
-        put_value(printer, &field.1, &feature.1)?;
-    }
-    Ok(())
 }
 
 /// Adds the line `dim D {..}`.

@@ -4,17 +4,18 @@ ghost use Rattle.std.specs.Prelude.{◌≡◌, ◌<◌, OnOk};
 ghost use Rattle.std.specs.List.{flat_map};
 ghost use Rattle.xdg_ast.specs.Trees.{in_braces};
 ghost use Rattle.xdg_domain.specs.Cards.{IsCards};
-ghost use Rattle.xdg_domain.specs.Shapes.{shape, count, IsDomain, IsType};
-ghost use Rattle.xdg_domain.specs.Values.{EachSaid, IsValue};
+ghost use Rattle.xdg_domain.specs.Shapes.{shape, fields_of, count, IsDomain, IsType, AreTypes};
+ghost use Rattle.xdg_domain.specs.Values.{EachSaid, IsFieldOf, IsValue};
 ghost use Rattle.xdg_print.specs.Printed.{put};
-ghost use Rattle.xdg_print.specs.ValueWords.{truth_text, counted_words, words_of};
+ghost use Rattle.xdg_print.specs.ValueWords.{truth_text, counted_words, words_of, features_words};
+ghost use Rattle.xdg_types.specs.Table.{typed};
 
 use crate::cards::{is_zero, put_cards};
 use crate::defaults::is_default;
 use crate::members::{put_member, put_members};
 use crate::printer::Printer;
 use xdg_ast::Kind;
-use xdg_base::OutOfMemory;
+use xdg_base::{OutOfMemory, Text};
 use xdg_domain::{CardSet, Ty, Value};
 
 /// The constant of a truth value.
@@ -81,15 +82,31 @@ pub(crate) fn put_value(printer: &mut Printer, ty: &Ty, value: &Value) -> Result
         }
         (Ty::Rec(types), Value::Rec(said)) => {
             let types = types.as_slice();
+            let said = said.as_slice();
             printer.mark(Kind::LeftBrace)?;
-            for feature in said.as_slice() {
-                let field = &types[feature.0 as usize];
-                printer.constant(field.0.as_str())?;
-                printer.mark(Kind::Colon)?;
-                put_value(printer, &field.1, &feature.1)?;
-            }
+            put_features(printer, types, said)?;
             printer.mark(Kind::RightBrace)
         }
         _ => Ok(()),
     }
+}
+
+/// Adds the features of a record with their values.
+#[cycle(value)]
+pub(crate) fn put_features(
+    printer: &mut Printer,
+    types: &[(Text, Ty)],
+    said: &[(u32, Value)],
+) -> Result<(), OutOfMemory>
+    requires right { AreTypes (fields_of (typed types.now)) }
+    requires said { EachSaid (IsFieldOf (fields_of (typed types.now))) said.now }
+    ensures { OnOk result (printer.new ≡ put (features_words (fields_of (typed types.now)) said.now) printer.old) }
+{
+    for feature in said {
+        let field = &types[feature.0 as usize];
+        printer.constant(field.0.as_str())?;
+        printer.mark(Kind::Colon)?;
+        put_value(printer, &field.1, &feature.1)?;
+    }
+    Ok(())
 }
