@@ -44,19 +44,18 @@ module _ (n : ℕ) (marks front : List ℕ) (b : ℕ) (order : List ℕ) (given 
 
     pop_off : (a : ℕ) → n < number marks' a → number marks' a < n + 1 + length front
     pop_off a h = elim (at a) [
-      | inl k ↦ (let e : number marks' a ≡ given = k.1 in absurd (omega arith))
-      | inr k ↦ (let e : number marks' a ≡ number marks a = k.1 in
-          let o : number marks a < n + 1 + length (front ++ b ∷ []) = v.off a (omega arith) in
+      | inl k ↦ absurd (omega arith)
+      | inr k ↦ (let o : number marks a < n + 1 + length (front ++ b ∷ []) = v.off a (omega arith) in
           let m : number marks b ≡ n + 1 + length front = last_mark in
           elim (cases_eq (number marks a) (number marks b)) [ inl same ↦ absurd (k.0 (v.one a b (omega arith) same)) | inr ne ↦ omega (arith, length_more front b) ])
     ]
 
     pop_one : (a c : ℕ) → n < number marks' a → number marks' a ≡ number marks' c → a ≡ c
     pop_one a c h e = elim (at a) [
-      | inl k ↦ (let ea : number marks' a ≡ given = k.1 in absurd (omega arith))
+      | inl k ↦ absurd (omega arith)
       | inr k ↦ elim (at c) [
-        | inl l ↦ (let ec : number marks' c ≡ given = l.1 in absurd (omega arith))
-        | inr l ↦ (let ea : number marks' a ≡ number marks a = k.1 in v.one a c (omega arith) (sym k.1 ∙ e ∙ l.1))
+        | inl l ↦ absurd (omega arith)
+        | inr l ↦ (v.one a c (omega arith) (sym k.1 ∙ e ∙ l.1))
       ]
     ]
 
@@ -73,19 +72,18 @@ module _ (n : ℕ) (marks front : List ℕ) (b : ℕ) (order : List ℕ) (given 
 
     pop_given : (i : ℕ) → i < length order' → (1 ≤ number marks' (number order' i)) × (number marks' (number order' i) < given + 1)
     pop_given i h = elim (member i h) [
-      | inl k ↦ (let e : number marks' (number order' i) ≡ number marks (number order i) = k.1.0 in let p : 1 ≤ number marks (number order i) = k.1.1.0 in let q : number marks (number order i) ≤ given = k.1.1.1 in
+      | inl k ↦ (
           (omega arith, omega arith))
-      | inr k ↦ (let e : number marks' (number order' i) ≡ given = k.1 in (omega arith, omega arith))
+      | inr k ↦ (omega arith, omega arith)
     ]
 
     pop_rises : (i j : ℕ) → i < j → j < length order' → number marks' (number order' i) ≤ number marks' (number order' j)
     pop_rises i j l h = elim (member i (omega arith)) [
-      | inl x ↦ (let ex : number marks' (number order' i) ≡ number marks (number order i) = x.1.0 in
-          elim (member j h) [
-            | inl y ↦ (let ey : number marks' (number order' j) ≡ number marks (number order j) = y.1.0 in let r : number marks (number order i) ≤ number marks (number order j) = v.rises i j l y.0 in omega arith)
-            | inr y ↦ (let ey : number marks' (number order' j) ≡ given = y.1 in let q : number marks (number order i) ≤ given = x.1.1.1 in omega arith)
-          ])
-      | inr x ↦ (let is : i ≡ length order = x.0 in absurd (omega (arith, length_more order b)))
+      | inl x ↦ (elim (member j h) [
+        | inl y ↦ (let r : number marks (number order i) ≤ number marks (number order j) = v.rises i j l y.0 in omega arith)
+        | inr y ↦ omega arith
+      ])
+      | inr x ↦ (absurd (omega (arith, length_more order b)))
     ]
 
     pop_room : length order' + length front + unmet marks' ≡ n
@@ -94,7 +92,6 @@ module _ (n : ℕ) (marks front : List ℕ) (b : ℕ) (order : List ℕ) (given 
         let m : get_or marks b 0 ≡ n + 1 + length front = last_mark in
         let old : fresh_at (get_or marks b 0) ≡ 0 = not_fresh (get_or marks b 0) (omega arith) in
         let now : fresh_at given ≡ 0 = not_fresh given least in
-        let room : length order + length (front ++ b ∷ []) + unmet marks ≡ n = v.room in
         omega (arith, length_more front b, length_more order b)
 
     pub marks_pop : AreMarks n (set marks b given) front (order ++ b ∷ []) (given + 1)
@@ -107,7 +104,7 @@ module _ (n : ℕ) (marks front : List ℕ) (b : ℕ) (order : List ℕ) (given 
       rises = pop_rises;
       placed = λ a h k. elim (at a) [
         | inl l ↦ subst (In order') (sym l.0) (is_last order b)
-        | inr l ↦ (let e : number marks' a ≡ number marks a = l.1 in in_left order (b ∷ []) a (v.placed a (omega arith) (omega arith)))
+        | inr l ↦ (in_left order (b ∷ []) a (v.placed a (omega arith) (omega arith)))
       ];
       room = pop_room;
     }

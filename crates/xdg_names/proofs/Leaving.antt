@@ -4,7 +4,7 @@ use Rattle.std.proofs.lemmas.Bool.{cases_lt}
 use Rattle.xdg_names.specs.declared.graph.Use.{Use}
 use Rattle.xdg_names.specs.Leads.{uses_of, Leads, number}
 use Rattle.xdg_names.specs.Closing.{the_use}
-use Rattle.xdg_names.specs.Walks.{IsWalking, NotBelow, IsLooked, Closes, unmet}
+use Rattle.xdg_names.specs.Walks.{IsWalking, NotBelow, IsLooked, Closes}
 use Rattle.xdg_names.proofs.Climbs.{is_last, in_parts, climbs_front, climbs_last, climbs_same}
 use Rattle.xdg_names.proofs.Marks.{given_below}
 use Rattle.xdg_facts.specs.Membership.{In}
@@ -25,8 +25,6 @@ module _ (g : List (List Use)) (marks left stack starts front : List ℕ) (x : �
   next_fits =
       let off : number marks x < length g + 1 + length stack = v.marks_are.off x last_on in
       let on : length g < number marks x = last_on in
-      let room : length order + length stack + unmet marks ≡ length g = v.marks_are.room in
-      let few : next ≤ length order + 1 = v.few in
       omega arith
 
   -- it has a group's start at or below it
@@ -90,7 +88,7 @@ module _ (g : List (List Use)) (marks left stack sfront front : List ℕ) (x : �
   still : (a : ℕ) → length g < number marks' a → (number marks a < number marks x) × (number marks' a ≡ number marks a)
   still a h = elim (split a) [
     | inl k ↦ k
-    | inr k ↦ (let e : number marks' a ≡ next = k.1 in let f : next ≤ length g = fits_next in absurd (omega arith))
+    | inr k ↦ (let f : next ≤ length g = fits_next in absurd (omega arith))
   ]
 
   start_below : (s : ℕ) → In sfront s → number marks s < number marks x
@@ -103,9 +101,6 @@ module _ (g : List (List Use)) (marks left stack sfront front : List ℕ) (x : �
   left_leads a b ha hb nb =
       let sa = still a ha in
       let sb = still b hb in
-      let la : number marks a < number marks x = sa.0 in
-      let ea : number marks' a ≡ number marks a = sa.1 in
-      let eb : number marks' b ≡ number marks b = sb.1 in
       v.leads a b (omega arith) (omega arith) (λ s h l. elim (in_parts sfront x s h) [
         | inl i ↦ (let es : number marks' s ≡ number marks s = c.low s (start_below s i) in
             let r : number marks' s ≤ number marks' b = nb s i (omega arith) in omega arith)
@@ -115,16 +110,11 @@ module _ (g : List (List Use)) (marks left stack sfront front : List ℕ) (x : �
   left_looked : (a k : ℕ) → length g < number marks' a → number left a ≤ k → k < length (uses_of g a) → IsLooked (length g) marks' sfront a (the_use (uses_of g a) k).to
   left_looked a k ha l m =
       let sa = still a ha in
-      let la : number marks a < number marks x = sa.0 in
-      let ea : number marks' a ≡ number marks a = sa.1 in
       let t : ℕ = (the_use (uses_of g a) k).to in
-      let old : IsLooked (length g) marks (sfront ++ x ∷ []) a t = v.looked a k (omega arith) l m in
-      let met : 1 ≤ number marks t = old.0 in
-      let least : 1 ≤ next = v.least in (
-        elim (split t) [ inl p ↦ (let et : number marks' t ≡ number marks t = p.1 in omega arith) | inr p ↦ (let et : number marks' t ≡ next = p.1 in omega arith) ],
+      let old : IsLooked (length g) marks (sfront ++ x ∷ []) a t = v.looked a k (omega arith) l m in (
+        elim (split t) [ inl p ↦ omega arith | inr p ↦ omega arith ],
         λ ot s h less.
             (let st = still t ot in
-            let et : number marks' t ≡ number marks t = st.1 in
             let es : number marks' s ≡ number marks s = c.low s (start_below s h) in
             let r : number marks s ≤ number marks t = old.1 (omega arith) s (in_left sfront (x ∷ []) s h) (omega arith) in
             omega arith),
@@ -150,66 +140,48 @@ module _ (g : List (List Use)) (marks left stack sfront front : List ℕ) (x : �
       let old : IsLooked (length g) marks (sfront ++ x ∷ []) a (the_use (uses_of g a) k.0).to = v.looked a k.0 (omega arith) (omega arith) k.1.0 in
       let own : IsLooked (length g) marks (sfront ++ x ∷ []) a u.to = subst (λ (w : Use). IsLooked (length g) marks (sfront ++ x ∷ []) a w.to) k.1.1 old in
       let met : 1 ≤ number marks u.to = own.0 in
-      let least : 1 ≤ next = v.least in
       elim (split u.to) [
-        | inl p ↦ (let et : number marks' u.to ≡ number marks u.to = p.1 in
-            let lt : number marks u.to < number marks x = p.0 in
-            elim (cases_lt (length g) (number marks u.to)) [
-              | inl above ↦ (let r : number marks x ≤ number marks u.to = own.1 above x (is_last sfront x) h in absurd (omega arith))
-              | inr within ↦ (let b : number marks u.to < next = finished u.to met within in (omega arith, omega arith))
-            ])
-        | inr p ↦ (let et : number marks' u.to ≡ next = p.1 in (omega arith, omega arith))
+        | inl p ↦ (elim (cases_lt (length g) (number marks u.to)) [
+          | inl above ↦ (let r : number marks x ≤ number marks u.to = own.1 above x (is_last sfront x) h in absurd (omega arith))
+          | inr within ↦ (let b : number marks u.to < next = finished u.to met within in (omega arith, omega arith))
+        ])
+        | inr p ↦ (omega arith, omega arith)
       ]
 
   left_down : (a : ℕ) (u : Use) → 1 ≤ number marks' a → number marks' a ≤ length g → In (uses_of g a) u → (1 ≤ number marks' u.to) × (number marks' u.to ≤ number marks' a)
   left_down a u h k i =
       let o : length g < number marks x = on in
       elim (split a) [
-        | inl p ↦ (let ea : number marks' a ≡ number marks a = p.1 in
-            let both = v.down a u (omega arith) (omega arith) i in
-            let met : 1 ≤ number marks u.to = both.0 in
-            let less : number marks u.to ≤ number marks a = both.1 in
+        | inl p ↦ (let both = v.down a u (omega arith) (omega arith) i in
             let et : number marks' u.to ≡ number marks u.to = c.low u.to (omega arith) in
             (omega arith, omega arith))
-        | inr p ↦ (let ea : number marks' a ≡ next = p.1 in
-            let both = group_down a u p.0 i in
-            let met : 1 ≤ number marks' u.to = both.0 in
-            let less : number marks' u.to ≤ next = both.1 in
+        | inr p ↦ (let both = group_down a u p.0 i in
             (omega arith, omega arith))
       ]
 
   left_same : (a b : ℕ) → 1 ≤ number marks' a → number marks' a ≤ length g → number marks' a ≡ number marks' b → Leads g a b
   left_same a b h k e =
       let o : length g < number marks x = on in
-      let least : 1 ≤ next = v.least in
       let f : next ≤ length g = fits_next in
       elim (split a) [
-        | inl p ↦ (let ea : number marks' a ≡ number marks a = p.1 in
-            let less : number marks a < next = finished a (omega arith) (omega arith) in
+        | inl p ↦ (let less : number marks a < next = finished a (omega arith) (omega arith) in
             elim (split b) [
-              | inl q ↦ (let eb : number marks' b ≡ number marks b = q.1 in v.same a b (omega arith) (omega arith) (omega arith))
-              | inr q ↦ (let eb : number marks' b ≡ next = q.1 in absurd (omega arith))
+              | inl q ↦ v.same a b (omega arith) (omega arith) (omega arith)
+              | inr q ↦ absurd (omega arith)
             ])
-        | inr p ↦ (let ea : number marks' a ≡ next = p.1 in
-            let la : number marks x ≤ number marks a = p.0 in
-            elim (split b) [
-              | inl q ↦ (let eb : number marks' b ≡ number marks b = q.1 in
-                  let less : number marks b < next = finished b (omega arith) (omega arith) in absurd (omega arith))
-              | inr q ↦ (let lb : number marks x ≤ number marks b = q.0 in
-                  v.leads a b (omega arith) (omega arith) (λ s i l. elim (in_parts sfront x s i) [
-                    | inl j ↦ (let r : number marks s < number marks x = start_below s j in omega arith)
-                    | inr es ↦ (let r : number marks s ≡ number marks x = ap (number marks) es in omega arith)
-                  ]))
-            ])
+        | inr p ↦ (elim (split b) [
+          | inl q ↦ (let less : number marks b < next = finished b (omega arith) (omega arith) in absurd (omega arith))
+          | inr q ↦ (v.leads a b (omega arith) (omega arith) (λ s i l. elim (in_parts sfront x s i) [
+            | inl j ↦ (let r : number marks s < number marks x = start_below s j in omega arith)
+            | inr es ↦ (let r : number marks s ≡ number marks x = ap (number marks) es in omega arith)
+          ]))
+        ])
       ]
 
   left_begun : (a : ℕ) → length g < number marks' a → (s : ℕ) × (In sfront s × (number marks' s ≤ number marks' a))
   left_begun a h =
       let sa = still a h in
-      let la : number marks a < number marks x = sa.0 in
-      let ea : number marks' a ≡ number marks a = sa.1 in
       let b = v.begun a (omega arith) in
-      let l : number marks b.0 ≤ number marks a = b.1.1 in
       elim (in_parts sfront x b.0 b.1.0) [
         | inl i ↦ (let es : number marks' b.0 ≡ number marks b.0 = c.low b.0 (start_below b.0 i) in (b.0, (i, omega arith)))
         | inr e ↦ (let es : number marks b.0 ≡ number marks x = ap (number marks) e in absurd (omega arith))
@@ -232,8 +204,6 @@ module _ (g : List (List Use)) (marks left stack sfront front : List ℕ) (x : �
         let e : number marks' a ≡ number marks a = c.low a (front_below a h) in omega arith);
     path_climbs = climbs_same marks marks' front (λ a h. c.low a (front_below a h)) (climbs_front marks front x v.path_climbs);
     through = λ a h. (let sa = still a h in
-        let la : number marks a < number marks x = sa.0 in
-        let ea : number marks' a ≡ number marks a = sa.1 in
         elim (v.through a (omega arith)) [
           | inl i ↦ elim (in_parts front x a i) [
             | inl j ↦ inl j
@@ -247,12 +217,12 @@ module _ (g : List (List Use)) (marks left stack sfront front : List ℕ) (x : �
       | inl p ↦ v.fresh a (sym p.1 ∙ h)
       | inr p ↦ (let e : number marks' a ≡ next = p.1 in let least : 1 ≤ next = v.least in absurd (omega arith))
     ];
-    few = (let few : next ≤ length order + 1 = v.few in let more : length order < length order' = c.more in omega arith);
+    few = (let few : next ≤ length order + 1 = v.few in omega arith);
     least = omega arith;
   }
 
   pub closed_stays : (a : ℕ) → 1 ≤ number marks a → 1 ≤ number marks' a
   closed_stays a h = elim (split a) [
-    | inl p ↦ (let e : number marks' a ≡ number marks a = p.1 in omega arith)
-    | inr p ↦ (let e : number marks' a ≡ next = p.1 in let least : 1 ≤ next = v.least in omega arith)
+    | inl p ↦ omega arith
+    | inr p ↦ omega arith
   ]

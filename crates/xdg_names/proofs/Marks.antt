@@ -65,8 +65,8 @@ module _ (n : ℕ) (marks stack order : List ℕ) (next : ℕ) (v : AreMarks n m
 
     push_off : (a : ℕ) → n < number marks' a → number marks' a < n + 1 + length (stack ++ y ∷ [])
     push_off a h = elim (set_at marks y top a within) [
-      | inl k ↦ (let e : number marks' a ≡ top = k.1 in omega (arith, length_more stack y))
-      | inr k ↦ (let e : number marks' a ≡ number marks a = k.1 in let o : number marks a < n + 1 + length stack = v.off a (omega arith) in omega (arith, length_more stack y))
+      | inl k ↦ omega (arith, length_more stack y)
+      | inr k ↦ (let o : number marks a < n + 1 + length stack = v.off a (omega arith) in omega (arith, length_more stack y))
     ]
 
     push_one : (a b : ℕ) → n < number marks' a → number marks' a ≡ number marks' b → a ≡ b
@@ -89,7 +89,6 @@ module _ (n : ℕ) (marks stack order : List ℕ) (next : ℕ) (v : AreMarks n m
         let sums : sum_by fresh_at marks' + fresh_at (get_or marks y 0) ≡ sum_by fresh_at marks + fresh_at top = sum_by-set fresh_at marks y top 0 within in
         let one : fresh_at (get_or marks y 0) ≡ 1 = is_fresh _ fresh in
         let none : fresh_at top ≡ 0 = not_fresh top (omega arith) in
-        let room : length order + length stack + unmet marks ≡ n = v.room in
         omega (arith, length_more stack y)
 
     pub marks_push : AreMarks n (set marks y (n + 1 + length stack)) (stack ++ y ∷ []) order next
@@ -104,8 +103,8 @@ module _ (n : ℕ) (marks stack order : List ℕ) (next : ℕ) (v : AreMarks n m
           let b : number marks' (number order j) ≡ number marks (number order j) = push_kept (number order j) (v.given j h).0 in
           let r : number marks (number order i) ≤ number marks (number order j) = v.rises i j l h in omega arith);
       placed = λ a h k. elim (set_at marks y top a within) [
-        | inl l ↦ (let e : number marks' a ≡ top = l.1 in absurd (omega arith))
-        | inr l ↦ (let e : number marks' a ≡ number marks a = l.1 in v.placed a (omega arith) (omega arith))
+        | inl l ↦ absurd (omega arith)
+        | inr l ↦ (v.placed a (omega arith) (omega arith))
       ];
       room = push_room;
     }

@@ -44,7 +44,7 @@ module _ (g : List (List Use)) (marks left stack starts path order : List ℕ) (
         same = λ a b h k e. v.same a b (met a h) (finished a) e;
         down = λ a u h. (v.down a u (met a (from_within g a u h)) (finished a) h).1;
         placed = λ a h. v.marks_are.placed a (met a h) (finished a);
-        count = (let room : length order + length stack + unmet marks ≡ length g = v.marks_are.room in
+        count = (
             let s : length stack ≡ 0 = no_stack in
             let u : unmet marks ≡ 0 = all_met marks (λ i l. met i (omega arith)) in
             omega arith);

@@ -36,7 +36,7 @@ module _ (g : List (List Use)) (marks left stack starts path order : List ℕ) (
     marks' = set marks y top
 
     inside : y < length marks
-    inside = let e : length marks ≡ length g = v.marks_are.len in omega arith
+    inside = omega arith
 
     at : (a : ℕ) → ((a ≡ y) × (number marks' a ≡ top)) ⊎ ((a ≢ y) × (number marks' a ≡ number marks a))
     at a = set_at marks y top a inside
@@ -72,17 +72,15 @@ module _ (g : List (List Use)) (marks left stack starts path order : List ℕ) (
     enter_leads a b ha hb nb = elim (at a) [
       | inl k ↦ elim (at b) [
         | inl l ↦ ([], k.0 ∙ sym l.0)
-        | inr l ↦ (let eb : number marks' b ≡ number marks b = l.1 in
-            let less : number marks' b < number marks' y = below b (omega arith) in
+        | inr l ↦ (let less : number marks' b < number marks' y = below b (omega arith) in
             let ea : number marks' a ≡ number marks' y = ap (number marks') k.0 in
             let r : number marks' y ≤ number marks' b = nb y (is_last starts y) (omega arith) in
             absurd (omega arith))
       ]
-      | inr k ↦ (let ea : number marks' a ≡ number marks a = k.1 in
-          elim (at b) [
-            | inl l ↦ subst (Leads g a) (sym l.0) (reached a (omega arith))
-            | inr l ↦ (let eb : number marks' b ≡ number marks b = l.1 in v.leads a b (omega arith) (omega arith) (not_below a b (omega arith) (omega arith) nb))
-          ])
+      | inr k ↦ (elim (at b) [
+        | inl l ↦ subst (Leads g a) (sym l.0) (reached a (omega arith))
+        | inr l ↦ (v.leads a b (omega arith) (omega arith) (not_below a b (omega arith) (omega arith) nb))
+      ])
     ]
 
     enter_looked : (a k : ℕ) → n < number marks' a → number left a ≤ k → k < length (uses_of g a) → IsLooked n marks' (starts ++ y ∷ []) a (the_use (uses_of g a) k).to
@@ -91,8 +89,7 @@ module _ (g : List (List Use)) (marks left stack starts path order : List ℕ) (
           let la : number left a ≡ number left y = ap (number left) e.0 in
           let ua : length (uses_of g a) ≡ length (uses_of g y) = ap (λ x. length (uses_of g x)) e.0 in
           absurd (omega arith))
-      | inr e ↦ (let ea : number marks' a ≡ number marks a = e.1 in
-          let t : ℕ = (the_use (uses_of g a) k).to in
+      | inr e ↦ (let t : ℕ = (the_use (uses_of g a) k).to in
           let old : IsLooked n marks starts a t = v.looked a k (omega arith) l m in
           let met : 1 ≤ number marks t = old.0 in
           let et : number marks' t ≡ number marks t = kept t met in (
@@ -121,21 +118,18 @@ module _ (g : List (List Use)) (marks left stack starts path order : List ℕ) (
       leads = enter_leads;
       looked = enter_looked;
       down = λ a u h k i. elim (at a) [
-        | inl e ↦ (let ea : number marks' a ≡ top = e.1 in absurd (omega arith))
-        | inr e ↦ (let ea : number marks' a ≡ number marks a = e.1 in
-            let both = v.down a u (omega arith) (omega arith) i in
+        | inl e ↦ absurd (omega arith)
+        | inr e ↦ (let both = v.down a u (omega arith) (omega arith) i in
             let met : 1 ≤ number marks u.to = both.0 in
-            let less : number marks u.to ≤ number marks a = both.1 in
             let et : number marks' u.to ≡ number marks u.to = kept u.to met in
             (omega arith, omega arith))
       ];
       same = λ a b h k e. elim (at a) [
-        | inl i ↦ (let ea : number marks' a ≡ top = i.1 in absurd (omega arith))
-        | inr i ↦ (let ea : number marks' a ≡ number marks a = i.1 in
-            elim (at b) [
-              | inl j ↦ (let eb : number marks' b ≡ top = j.1 in absurd (omega arith))
-              | inr j ↦ (let eb : number marks' b ≡ number marks b = j.1 in v.same a b (omega arith) (omega arith) (omega arith))
-            ])
+        | inl i ↦ absurd (omega arith)
+        | inr i ↦ (elim (at b) [
+          | inl j ↦ absurd (omega arith)
+          | inr j ↦ v.same a b (omega arith) (omega arith) (omega arith)
+        ])
       ];
       begun = λ a h. elim (at a) [
         | inl i ↦ (let e : number marks' a ≡ number marks' y = ap (number marks') i.0 in (y, (is_last starts y, omega arith)))
@@ -143,7 +137,6 @@ module _ (g : List (List Use)) (marks left stack starts path order : List ℕ) (
             let b = v.begun a (omega arith) in
             let on : n < number marks b.0 = starts_marked b.0 b.1.0 in
             let es : number marks' b.0 ≡ number marks b.0 = kept b.0 (omega arith) in
-            let l : number marks b.0 ≤ number marks a = b.1.1 in
             (b.0, (in_left starts (y ∷ []) b.0 b.1.0, omega arith)))
       ];
       starts_on = λ s h. elim (in_parts starts y s h) [
@@ -203,13 +196,12 @@ module _ (g : List (List Use)) (marks left stack starts path order : List ℕ) (
       marks_are = v.marks_are;
       leads = v.leads;
       looked = λ a k h l m. elim (left_at a) [
-        | inl e ↦ (let ea : number left' a ≡ r = e.1 in
-            let eo : number left a ≡ number left x = ap (number left) e.0 in
+        | inl e ↦ (let eo : number left a ≡ number left x = ap (number left) e.0 in
             elim (cases_eq k r) [
               | inl is ↦ subst (λ j. IsLooked (length g) marks starts a (the_use (uses_of g a) j).to) (sym is) (subst (λ b. IsLooked (length g) marks starts b (the_use (uses_of g b) r).to) (sym e.0) ahead)
               | inr ne ↦ v.looked a k h (omega arith) m
             ])
-        | inr e ↦ (let ea : number left' a ≡ number left a = e.1 in v.looked a k h (omega arith) m)
+        | inr e ↦ (v.looked a k h (omega arith) m)
       ];
       down = v.down;
       same = v.same;
@@ -224,10 +216,9 @@ module _ (g : List (List Use)) (marks left stack starts path order : List ℕ) (
       ];
       lefts = length-set left x r ∙ v.lefts;
       fits = λ a. elim (left_at a) [
-        | inl e ↦ (let ea : number left' a ≡ r = e.1 in
-            let eo : number left a ≡ number left x = ap (number left) e.0 in
+        | inl e ↦ (let eo : number left a ≡ number left x = ap (number left) e.0 in
             let f : number left a ≤ length (uses_of g a) = v.fits a in omega arith)
-        | inr e ↦ (let ea : number left' a ≡ number left a = e.1 in let f : number left a ≤ length (uses_of g a) = v.fits a in omega arith)
+        | inr e ↦ (let f : number left a ≤ length (uses_of g a) = v.fits a in omega arith)
       ];
       fresh = λ a h. elim (left_at a) [
         | inl e ↦ (let on : length g < number marks x = v.path_on x held in let em : number marks a ≡ number marks x = ap (number marks) e.0 in absurd (omega arith))
