@@ -15,7 +15,7 @@ use Rattle.xdg_problem.specs.Boxes.{entry_decision, attr_decision, edge_decision
 use Rattle.xdg_problem.specs.Places.{below, nodes, places}
 use Rattle.xdg_problem.specs.Vectors.{attr_sizes}
 use Rattle.xdg_problem.proofs.Counted.{length_attrs_of}
-use Rattle.xdg_store.proofs.Located.{place_found}
+use Rattle.xdg_problem.proofs.PlaceFound.{place_found}
 use Rattle.xdg_propcore.specs.Kinds.{entry_kind, attr_kind, edge_kind, attr_kinds, decision_kinds, kind_of}
 
 -- ---- one dimension

@@ -3,10 +3,11 @@ pub mod Losses
 pub mod Waking
 pub mod Settling
 pub mod Holding
-pub mod Touches
 pub mod Analyses
 pub mod Decided
 pub mod DecisionKinds
+pub mod ByNumber
+pub mod Touches
 pub mod Removing
 pub mod SampleLaws
 pub mod SampleSteps

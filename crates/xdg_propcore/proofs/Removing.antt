@@ -5,8 +5,7 @@ use Rattle.std.proofs.lemmas.Bool.{cases_eq}
 use Rattle.std.proofs.lemmas.Nat.Bits.{bit_at-pow_same, bit_at-pow_other}
 use Rattle.xdg_problem.specs.declared.parts.Parts.{Parts}
 use Rattle.xdg_problem.specs.Boxes.{Has, without}
-use Rattle.xdg_rules.proofs.Removing.{keeps_others}
-use Rattle.xdg_store.proofs.Leaving.{taken_gone}
+use Rattle.xdg_problem.proofs.BoxWithout.{without_has, taken_gone}
 use Rattle.xdg_propcore.specs.Kinds.{kind_of}
 use Rattle.xdg_propcore.specs.Losses.{IsLost, Loses}
 
@@ -18,7 +17,7 @@ loses_one parts wakes box d v is has =
       some = (kind_of parts d, record { decision = d; value = v; lost = gone; is = refl });
       each = λ e w lost. elim (cases_eq e d) [
         | inl q ↦ ap (bit_at wakes) (ap (kind_of parts) q) ∙ ap (λ n. bit_at n (kind_of parts d)) is ∙ bit_at-pow_same (kind_of parts d)
-        | inr n ↦ absurd (lost.1 (keeps_others box d v e w (λ q r. n q) lost.0))
+        | inr n ↦ absurd (lost.1 ((without_has box d v e w).1 (lost.0, λ q r. n q)))
       ];
       only = λ k one. elim (cases_eq k (kind_of parts d)) [
         | inl q ↦ record { decision = d; value = v; lost = gone; is = sym q }

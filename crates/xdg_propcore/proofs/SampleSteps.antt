@@ -5,7 +5,7 @@ use Rattle.xdg_problem.specs.Boxes.{Has, IsOnly, LiesIn, without, attr_decision}
 use Rattle.xdg_problem.specs.Tests.{allowed_value}
 use Rattle.xdg_problem.specs.Vectors.{shape}
 use Rattle.xdg_rules.specs.Rules.{IsClosedFor}
-use Rattle.xdg_rules.proofs.Removing.{lies_without}
+use Rattle.xdg_problem.proofs.BoxWithout.{lies_without}
 use Rattle.xdg_store.specs.States.{State, Known}
 use Rattle.xdg_propcore.specs.Kinds.{IsNamed, AreNamed, kind_of}
 use Rattle.xdg_propcore.specs.Losses.{Loses}

@@ -7,7 +7,7 @@ use Rattle.xdg_store.specs.Change.{Removes, RemovesAll, Shrinks, with_box}
 use Rattle.xdg_store.specs.States.{State}
 use Rattle.xdg_store.specs.declared.change.Change.{Change}
 use Rattle.xdg_store.specs.declared.change.Change.TheVariants as changes
-use Rattle.xdg_store.proofs.Leaving.{taken_gone, without_inside, others_stay}
+use Rattle.xdg_problem.proofs.BoxWithout.{without_has, taken_gone, without_inside}
 use Rattle.xdg_propcore.specs.Steps.{Extends}
 use Rattle.xdg_propcore.proofs.Settling.{extends_none}
 
@@ -21,7 +21,7 @@ shrinks_one old d v = record {
   inside = without_inside old.now d v;
   others = λ e other. get_or-set_other old.now d e (set (get_or old.now d []) v false) [] other;
   gone = λ x is h. taken_gone old.now d v (subst (Has (without old.now d v) d) is h);
-  left = λ x other h. others_stay old.now d v d x h (inr other);
+  left = λ x other h. (without_has old.now d v d x).1 (h, λ same. other);
 }
 
 pub one_removed : (change : Change) (old new : State) (d v : ℕ) → Removes change old new d v → RemovesAll change old new d (λ x. x ≡ v)

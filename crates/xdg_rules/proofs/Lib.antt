@@ -15,7 +15,6 @@ pub mod SoundValues
 pub mod SoundPaths
 pub mod Solved
 pub mod Single
-pub mod Removing
 pub mod DecidingBoxes
 pub mod DecidingRules
 pub mod DecidingClosed

@@ -20,7 +20,7 @@ use Rattle.xdg_rules.proofs.ClosedLive.{boxed_live, boxed_closed}
 use Rattle.xdg_rules.proofs.DecidingClosed.{one_boxed_list}
 use Rattle.xdg_rules.proofs.Greatest.{greatest_closed}
 use Rattle.xdg_rules.proofs.Monotone.{monotone}
-use Rattle.xdg_rules.proofs.Removing.{lies_without}
+use Rattle.xdg_problem.proofs.BoxWithout.{lies_without}
 use Rattle.xdg_rules.proofs.Sizes.{some_value}
 use Rattle.xdg_rules.proofs.Single.{single_agrees, only_agrees, only_box, only_lies, agrees_lies, lies_agrees}
 use Rattle.xdg_rules.proofs.Solved.{closed_is_relation}
