@@ -24,7 +24,7 @@ at_front front y p h = get_or-append front (y ∷ []) 0 p h
 
 -- one that has a mark is one of the list
 pub marked_within : (ms : List ℕ) (a : ℕ) → 1 ≤ number ms a → a < length ms
-marked_within ms a h = elim (cases_lt a (length ms)) [ inl l ↦ l | inr past ↦ (let e : number ms a ≡ 0 = get_or_past ms a 0 past in absurd (omega arith)) ]
+marked_within ms a h = elim (cases_lt a (length ms)) [ inl l ↦ l | inr past ↦ absurd (omega (arith, get_or_past ms a 0 past)) ]
 
 pub set_at : (ms : List ℕ) (y v a : ℕ) → y < length ms → ((a ≡ y) × (number (set ms y v) a ≡ v)) ⊎ ((a ≢ y) × (number (set ms y v) a ≡ number ms a))
 set_at ms y v a within = elim (cases_eq a y) [

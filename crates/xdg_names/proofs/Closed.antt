@@ -80,10 +80,10 @@ module _ (n : ℕ) (marks front : List ℕ) (b : ℕ) (order : List ℕ) (given 
     pop_rises : (i j : ℕ) → i < j → j < length order' → number marks' (number order' i) ≤ number marks' (number order' j)
     pop_rises i j l h = elim (member i (omega arith)) [
       | inl x ↦ (elim (member j h) [
-        | inl y ↦ (let r : number marks (number order i) ≤ number marks (number order j) = v.rises i j l y.0 in omega arith)
+        | inl y ↦ omega (arith, v.rises i j l y.0)
         | inr y ↦ omega arith
       ])
-      | inr x ↦ (absurd (omega (arith, length_more order b)))
+      | inr x ↦ absurd (omega (arith, length_more order b))
     ]
 
     pop_room : length order' + length front + unmet marks' ≡ n
@@ -91,8 +91,7 @@ module _ (n : ℕ) (marks front : List ℕ) (b : ℕ) (order : List ℕ) (given 
         let sums : sum_by fresh_at marks' + fresh_at (get_or marks b 0) ≡ sum_by fresh_at marks + fresh_at given = sum_by-set fresh_at marks b given 0 last_within in
         let m : get_or marks b 0 ≡ n + 1 + length front = last_mark in
         let old : fresh_at (get_or marks b 0) ≡ 0 = not_fresh (get_or marks b 0) (omega arith) in
-        let now : fresh_at given ≡ 0 = not_fresh given least in
-        omega (arith, length_more front b, length_more order b)
+        omega (arith, not_fresh given least, length_more front b, length_more order b)
 
     pub marks_pop : AreMarks n (set marks b given) front (order ++ b ∷ []) (given + 1)
     marks_pop = record {
@@ -113,7 +112,7 @@ module _ (n first given : ℕ) (marks order : List ℕ) where
   pub closing_starts : (stack : List ℕ) → AreMarks n marks stack order given → n < number marks first → IsClosingGroup n first given marks order marks stack order
   closing_starts stack v on = record {
     are = weaker n marks stack order given v;
-    high = λ a h. (let o : number marks a < n + 1 + length stack = v.off a (omega arith) in absurd (omega arith));
+    high = λ a h. (absurd (omega (arith, v.off a (omega arith))));
     low = λ a h. refl;
     holds = v.off first on;
     more = omega arith;
@@ -143,7 +142,7 @@ module _ (n first given : ℕ) (marks order : List ℕ) where
     low a h =
         let e : number marks' a ≡ number marks a = v.low a (omega (arith, length_more front b)) in
         let m : number marks' b ≡ n + 1 + length front = mark in
-        elim (now_at a) [ inl k ↦ (let same : number marks' a ≡ number marks' b = ap (number marks') k.0 in absurd (omega arith)) | inr k ↦ k.1 ∙ e ]
+        elim (now_at a) [ inl k ↦ absurd (omega (arith, ap (number marks') k.0)) | inr k ↦ k.1 ∙ e ]
 
     pub inside : b < length marks'
     inside = last_within n marks' front b order' given v.are
@@ -160,7 +159,7 @@ module _ (n first given : ℕ) (marks order : List ℕ) where
             | inl is ↦ (let o : n < number marks' first = omega arith in absurd (ne (sym (v.are.one first b o (omega arith)))))
             | inr less ↦ omega (arith, length_more front b)
           ]);
-      more = (let more : length order ≤ length order' = v.more in omega (arith, length_more order' b));
+      more = (omega (arith, v.more, length_more order' b));
     }
 
     pub closing_ends : b ≡ first → Closes n first given marks order (set marks' b given) front (order' ++ b ∷ [])
@@ -173,5 +172,5 @@ module _ (n first given : ℕ) (marks order : List ℕ) where
           are = marks_pop n marks' front b order' given v.are least most;
           high = λ a h. high a (omega arith);
           low = λ a h. low a (omega arith);
-          more = (let more : length order ≤ length order' = v.more in omega (arith, length_more order' b));
+          more = (omega (arith, v.more, length_more order' b));
         }

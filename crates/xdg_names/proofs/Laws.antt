@@ -15,28 +15,22 @@ use Rattle.xdg_facts.proofs.In.{in_get, in_index}
 
 module _ (g : List (List Use)) (numbers order : List ℕ) (made : AreComponents g numbers order) where
   along : (a : ℕ) (us : List Use) (b : ℕ) → IsPath g a us b → number numbers b ≤ number numbers a
-  along a [] b p = let e : number numbers a ≡ number numbers b = ap (number numbers) p in omega arith
+  along a [] b p = omega (arith, ap (number numbers) p)
   along a (u ∷ us) b p =
-      let here : number numbers u.to ≤ number numbers a = made.down a u p.0 in
-      let rest : number numbers b ≤ number numbers u.to = along u.to us b p.1 in
-      omega arith
+      omega (arith, made.down a u p.0, along u.to us b p.1)
 
   -- A use closes a cycle exactly where it leads to a definition of the number of its own.
   pub closes : (a : ℕ) (u : Use) → In (uses_of g a) u → (number numbers u.to ≡ number numbers a) ↔ Leads g u.to a
   closes a u h = (
     λ e. made.same u.to a (made.graph a u h) (from_within g a u h) e,
-    λ p. (let up : number numbers a ≤ number numbers u.to = along u.to p.0 a p.1 in
-        let down : number numbers u.to ≤ number numbers a = made.down a u h in
-        omega arith),
+    λ p. (omega (arith, along u.to p.0 a p.1, made.down a u h)),
   )
 
   -- Two definitions have one number exactly where each leads to the other.
   pub alike : (a b : ℕ) → a < length g → b < length g → (number numbers a ≡ number numbers b) ↔ (Leads g a b × Leads g b a)
   alike a b h k = (
     λ e. (made.same a b h k e, made.same b a k h (sym e)),
-    λ p. (let up : number numbers b ≤ number numbers a = along a p.0.0 b p.0.1 in
-        let down : number numbers a ≤ number numbers b = along b p.1.0 a p.1.1 in
-        omega arith),
+    λ p. (omega (arith, along a p.0.0 b p.0.1, along b p.1.0 a p.1.1)),
   )
 
   -- Where no use closes a cycle each leads to a lesser number.
@@ -57,8 +51,8 @@ module _ (g : List (List Use)) (numbers order : List ℕ) (made : AreComponents 
       elim (cases_lt j.0 i) [
         | inl l ↦ (j.0, (l, j.1.1))
         | inr past ↦ elim (cases_eq j.0 i) [
-          | inl is ↦ (let e : number numbers (number order j.0) ≡ number numbers (number order i) = ap (λ k. number numbers (number order k)) is in absurd (omega arith))
-          | inr ne ↦ (let r : number numbers (number order i) ≤ number numbers (number order j.0) = made.rises i j.0 (omega arith) j.1.0 in absurd (omega arith))
+          | inl is ↦ absurd (omega (arith, ap (λ k. number numbers (number order k)) is))
+          | inr ne ↦ absurd (omega (arith, made.rises i j.0 (omega arith) j.1.0))
         ]
       ]
 

@@ -16,16 +16,14 @@ module _ (g : List (List Use)) (marks left stack starts front : List ℕ) (x : �
 
   pub last_of_path : (a : ℕ) → In (front ++ x ∷ []) a → number marks a ≤ number marks x
   last_of_path a h = elim (in_parts front x a h) [
-    | inl i ↦ (let l : number marks a < number marks x = climbs_last marks front x v.path_climbs a i in omega arith)
-    | inr e ↦ (let m : number marks a ≡ number marks x = ap (number marks) e in omega arith)
+    | inl i ↦ omega (arith, climbs_last marks front x v.path_climbs a i)
+    | inr e ↦ omega (arith, ap (number marks) e)
   ]
 
   -- a number is to be had
   pub next_fits : next ≤ length g
   next_fits =
-      let off : number marks x < length g + 1 + length stack = v.marks_are.off x last_on in
-      let on : length g < number marks x = last_on in
-      omega arith
+      omega (arith, v.marks_are.off x last_on, last_on)
 
   -- it has a group's start at or below it
   pub has_start : starts ≡ [] → ⊥
@@ -37,7 +35,7 @@ module _ (g : List (List Use)) (marks left stack sfront : List ℕ) (t : ℕ) (f
   not_start h = elim (in_parts sfront t x h) [
     | inl i ↦ (let l : number marks x < number marks t = climbs_last marks sfront t v.starts_climb x i in
         elim (in_parts front x t (v.starts_on t (is_last sfront t))) [
-          | inl j ↦ (let k : number marks t < number marks x = climbs_last marks front x v.path_climbs t j in absurd (omega arith))
+          | inl j ↦ absurd (omega (arith, climbs_last marks front x v.path_climbs t j))
           | inr e ↦ absurd (ne e)
         ])
     | inr e ↦ absurd (ne (sym e))
@@ -88,7 +86,7 @@ module _ (g : List (List Use)) (marks left stack sfront front : List ℕ) (x : �
   still : (a : ℕ) → length g < number marks' a → (number marks a < number marks x) × (number marks' a ≡ number marks a)
   still a h = elim (split a) [
     | inl k ↦ k
-    | inr k ↦ (let f : next ≤ length g = fits_next in absurd (omega arith))
+    | inr k ↦ absurd (omega (arith, fits_next))
   ]
 
   start_below : (s : ℕ) → In sfront s → number marks s < number marks x
@@ -103,8 +101,8 @@ module _ (g : List (List Use)) (marks left stack sfront front : List ℕ) (x : �
       let sb = still b hb in
       v.leads a b (omega arith) (omega arith) (λ s h l. elim (in_parts sfront x s h) [
         | inl i ↦ (let es : number marks' s ≡ number marks s = c.low s (start_below s i) in
-            let r : number marks' s ≤ number marks' b = nb s i (omega arith) in omega arith)
-        | inr e ↦ (let es : number marks s ≡ number marks x = ap (number marks) e in absurd (omega arith))
+            omega (arith, nb s i (omega arith)))
+        | inr e ↦ absurd (omega (arith, ap (number marks) e))
       ])
 
   left_looked : (a k : ℕ) → length g < number marks' a → number left a ≤ k → k < length (uses_of g a) → IsLooked (length g) marks' sfront a (the_use (uses_of g a) k).to
@@ -116,8 +114,7 @@ module _ (g : List (List Use)) (marks left stack sfront front : List ℕ) (x : �
         λ ot s h less.
             (let st = still t ot in
             let es : number marks' s ≡ number marks s = c.low s (start_below s h) in
-            let r : number marks s ≤ number marks t = old.1 (omega arith) s (in_left sfront (x ∷ []) s h) (omega arith) in
-            omega arith),
+            omega (arith, old.1 (omega arith) s (in_left sfront (x ∷ []) s h) (omega arith))),
       )
 
   -- all uses of the group are looked at
@@ -126,7 +123,7 @@ module _ (g : List (List Use)) (marks left stack sfront front : List ℕ) (x : �
       let o : length g < number marks x = on in
       elim (v.through a (omega arith)) [
         | inl i ↦ elim (in_parts front x a i) [
-          | inl j ↦ (let l : number marks a < number marks x = front_below a j in absurd (omega arith))
+          | inl j ↦ absurd (omega (arith, front_below a j))
           | inr e ↦ ap (number left) e ∙ none
         ]
         | inr z ↦ z
@@ -142,7 +139,7 @@ module _ (g : List (List Use)) (marks left stack sfront front : List ℕ) (x : �
       let met : 1 ≤ number marks u.to = own.0 in
       elim (split u.to) [
         | inl p ↦ (elim (cases_lt (length g) (number marks u.to)) [
-          | inl above ↦ (let r : number marks x ≤ number marks u.to = own.1 above x (is_last sfront x) h in absurd (omega arith))
+          | inl above ↦ absurd (omega (arith, own.1 above x (is_last sfront x) h))
           | inr within ↦ (let b : number marks u.to < next = finished u.to met within in (omega arith, omega arith))
         ])
         | inr p ↦ (omega arith, omega arith)
@@ -170,10 +167,10 @@ module _ (g : List (List Use)) (marks left stack sfront front : List ℕ) (x : �
               | inr q ↦ absurd (omega arith)
             ])
         | inr p ↦ (elim (split b) [
-          | inl q ↦ (let less : number marks b < next = finished b (omega arith) (omega arith) in absurd (omega arith))
+          | inl q ↦ absurd (omega (arith, finished b (omega arith) (omega arith)))
           | inr q ↦ (v.leads a b (omega arith) (omega arith) (λ s i l. elim (in_parts sfront x s i) [
-            | inl j ↦ (let r : number marks s < number marks x = start_below s j in omega arith)
-            | inr es ↦ (let r : number marks s ≡ number marks x = ap (number marks) es in omega arith)
+            | inl j ↦ omega (arith, start_below s j)
+            | inr es ↦ omega (arith, ap (number marks) es)
           ]))
         ])
       ]
@@ -184,7 +181,7 @@ module _ (g : List (List Use)) (marks left stack sfront front : List ℕ) (x : �
       let b = v.begun a (omega arith) in
       elim (in_parts sfront x b.0 b.1.0) [
         | inl i ↦ (let es : number marks' b.0 ≡ number marks b.0 = c.low b.0 (start_below b.0 i) in (b.0, (i, omega arith)))
-        | inr e ↦ (let es : number marks b.0 ≡ number marks x = ap (number marks) e in absurd (omega arith))
+        | inr e ↦ absurd (omega (arith, ap (number marks) e))
       ]
 
   pub closed : IsWalking g marks' left stack' sfront front order' (next + 1)
@@ -200,14 +197,13 @@ module _ (g : List (List Use)) (marks left stack sfront front : List ℕ) (x : �
       | inr e ↦ (let l : number marks s < number marks x = start_below s h in let es : number marks s ≡ number marks x = ap (number marks) e in absurd (omega arith))
     ];
     starts_climb = climbs_same marks marks' sfront (λ s h. c.low s (start_below s h)) (climbs_front marks sfront x v.starts_climb);
-    path_on = λ a h. (let o : length g < number marks a = v.path_on a (in_left front (x ∷ []) a h) in
-        let e : number marks' a ≡ number marks a = c.low a (front_below a h) in omega arith);
+    path_on = λ a h. (omega (arith, v.path_on a (in_left front (x ∷ []) a h), c.low a (front_below a h)));
     path_climbs = climbs_same marks marks' front (λ a h. c.low a (front_below a h)) (climbs_front marks front x v.path_climbs);
     through = λ a h. (let sa = still a h in
         elim (v.through a (omega arith)) [
           | inl i ↦ elim (in_parts front x a i) [
             | inl j ↦ inl j
-            | inr e ↦ (let es : number marks a ≡ number marks x = ap (number marks) e in absurd (omega arith))
+            | inr e ↦ absurd (omega (arith, ap (number marks) e))
           ]
           | inr z ↦ inr z
         ]);
@@ -217,7 +213,7 @@ module _ (g : List (List Use)) (marks left stack sfront front : List ℕ) (x : �
       | inl p ↦ v.fresh a (sym p.1 ∙ h)
       | inr p ↦ (let e : number marks' a ≡ next = p.1 in let least : 1 ≤ next = v.least in absurd (omega arith))
     ];
-    few = (let few : next ≤ length order + 1 = v.few in omega arith);
+    few = (omega (arith, v.few));
     least = omega arith;
   }
 

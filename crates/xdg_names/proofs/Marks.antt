@@ -23,9 +23,7 @@ module _ (n : ℕ) (marks stack order : List ℕ) (next : ℕ) (v : AreMarks n m
   pub given_below : (a : ℕ) → 1 ≤ number marks a → number marks a ≤ n → number marks a < next
   given_below a h k =
       let i = in_index order a 0 (v.placed a h k) in
-      let below : number marks (number order i.0) < next = (v.given i.0 i.1.0).1 in
-      let e : number marks (number order i.0) ≡ number marks a = ap (number marks) i.1.1 in
-      omega arith
+      omega (arith, (v.given i.0 i.1.0).1, ap (number marks) i.1.1)
 
   pub weaker : AreMarks n marks stack order (next + 1)
   weaker = record {
@@ -47,7 +45,7 @@ module _ (n : ℕ) (marks stack order : List ℕ) (next : ℕ) (v : AreMarks n m
     marks' = set marks y top
 
     pub push_kept : (a : ℕ) → 1 ≤ number marks a → number (set marks y (n + 1 + length stack)) a ≡ number marks a
-    push_kept a h = elim (set_at marks y top a within) [ inl k ↦ (let e : number marks a ≡ 0 = ap (number marks) k.0 ∙ fresh in absurd (omega arith)) | inr k ↦ k.1 ]
+    push_kept a h = elim (set_at marks y top a within) [ inl k ↦ absurd (omega (arith, ap (number marks) k.0 ∙ fresh)) | inr k ↦ k.1 ]
 
     push_on : (p : ℕ) → p < length (stack ++ y ∷ []) → number marks' (number (stack ++ y ∷ []) p) ≡ n + 1 + p
     push_on p h = elim (cases_eq p (length stack)) [
@@ -66,7 +64,7 @@ module _ (n : ℕ) (marks stack order : List ℕ) (next : ℕ) (v : AreMarks n m
     push_off : (a : ℕ) → n < number marks' a → number marks' a < n + 1 + length (stack ++ y ∷ [])
     push_off a h = elim (set_at marks y top a within) [
       | inl k ↦ omega (arith, length_more stack y)
-      | inr k ↦ (let o : number marks a < n + 1 + length stack = v.off a (omega arith) in omega (arith, length_more stack y))
+      | inr k ↦ omega (arith, v.off a (omega arith), length_more stack y)
     ]
 
     push_one : (a b : ℕ) → n < number marks' a → number marks' a ≡ number marks' b → a ≡ b
@@ -74,11 +72,11 @@ module _ (n : ℕ) (marks stack order : List ℕ) (next : ℕ) (v : AreMarks n m
       | inl k ↦ elim (set_at marks y top b within) [
         | inl l ↦ k.0 ∙ sym l.0
         | inr l ↦ (let ea : number marks' a ≡ top = k.1 in let eb : number marks' b ≡ number marks b = l.1 in
-            let o : number marks b < n + 1 + length stack = v.off b (omega arith) in absurd (omega arith))
+            absurd (omega (arith, v.off b (omega arith))))
       ]
       | inr k ↦ elim (set_at marks y top b within) [
         | inl l ↦ (let ea : number marks' a ≡ number marks a = k.1 in let eb : number marks' b ≡ top = l.1 in
-            let o : number marks a < n + 1 + length stack = v.off a (omega arith) in absurd (omega arith))
+            absurd (omega (arith, v.off a (omega arith))))
         | inr l ↦ (let ea : number marks' a ≡ number marks a = k.1 in let eb : number marks' b ≡ number marks b = l.1 in
             v.one a b (omega arith) (sym ea ∙ e ∙ eb))
       ]
@@ -88,8 +86,7 @@ module _ (n : ℕ) (marks stack order : List ℕ) (next : ℕ) (v : AreMarks n m
     push_room =
         let sums : sum_by fresh_at marks' + fresh_at (get_or marks y 0) ≡ sum_by fresh_at marks + fresh_at top = sum_by-set fresh_at marks y top 0 within in
         let one : fresh_at (get_or marks y 0) ≡ 1 = is_fresh _ fresh in
-        let none : fresh_at top ≡ 0 = not_fresh top (omega arith) in
-        omega (arith, length_more stack y)
+        omega (arith, not_fresh top (omega arith), length_more stack y)
 
     pub marks_push : AreMarks n (set marks y (n + 1 + length stack)) (stack ++ y ∷ []) order next
     marks_push = record {
@@ -99,9 +96,7 @@ module _ (n : ℕ) (marks stack order : List ℕ) (next : ℕ) (v : AreMarks n m
       one = push_one;
       given = λ i h. (let p : 1 ≤ number marks (number order i) = (v.given i h).0 in let q : number marks (number order i) < next = (v.given i h).1 in
           let e : number marks' (number order i) ≡ number marks (number order i) = push_kept (number order i) p in (omega arith, omega arith));
-      rises = λ i j l h. (let a : number marks' (number order i) ≡ number marks (number order i) = push_kept (number order i) (v.given i (omega arith)).0 in
-          let b : number marks' (number order j) ≡ number marks (number order j) = push_kept (number order j) (v.given j h).0 in
-          let r : number marks (number order i) ≤ number marks (number order j) = v.rises i j l h in omega arith);
+      rises = λ i j l h. (omega (arith, push_kept (number order i) (v.given i (omega arith)).0, push_kept (number order j) (v.given j h).0, v.rises i j l h));
       placed = λ a h k. elim (set_at marks y top a within) [
         | inl l ↦ absurd (omega arith)
         | inr l ↦ (v.placed a (omega arith) (omega arith))

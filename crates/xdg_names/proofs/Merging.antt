@@ -1,5 +1,5 @@
 -- Groups that are merged into one.
-use Rattle.std.proofs.Common.{◌≡◌, ℕ, ◌<◌, ◌≤◌, inl, inr, List, [], ◌∷◌, ◌++◌, length, ap, arith}
+use Rattle.std.proofs.Common.{ℕ, ◌<◌, ◌≤◌, inl, inr, List, [], ◌∷◌, ◌++◌, length, ap, arith}
 use Rattle.std.proofs.lemmas.Bool.{cases_lt}
 use Rattle.xdg_names.specs.declared.graph.Use.{Use}
 use Rattle.xdg_names.specs.Leads.{Leads, number}
@@ -22,7 +22,7 @@ module _ (marks : List ℕ) (top : ℕ) (starts : List ℕ) where
   pub merging_goes : (front : List ℕ) (b : ℕ) → IsMerging marks top starts (front ++ b ∷ []) → top < number marks b → IsMerging marks top starts front
   merging_goes front b v above = record {
     old = λ s h. v.old s (in_left front (b ∷ []) s h);
-    all = λ s h l. elim (in_parts front b s (v.all s h l)) [ inl i ↦ i | inr e ↦ (let m : number marks s ≡ number marks b = ap (number marks) e in absurd (omega arith)) ];
+    all = λ s h l. elim (in_parts front b s (v.all s h l)) [ inl i ↦ i | inr e ↦ absurd (omega (arith, ap (number marks) e)) ];
     climb = climbs_front marks front b v.climb;
   }
 
@@ -31,8 +31,8 @@ module _ (marks : List ℕ) (top : ℕ) (starts : List ℕ) where
     kept = λ s h. (
       v.old s h,
       elim (in_parts front b s h) [
-        | inl i ↦ (let l : number marks s < number marks b = climbs_last marks front b v.climb s i in omega arith)
-        | inr e ↦ (let m : number marks s ≡ number marks b = ap (number marks) e in omega arith)
+        | inl i ↦ omega (arith, climbs_last marks front b v.climb s i)
+        | inr e ↦ omega (arith, ap (number marks) e)
       ],
     );
     all = v.all;

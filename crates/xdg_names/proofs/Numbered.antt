@@ -17,10 +17,7 @@ from_within g a u h = elim (cases_lt a (length g)) [ inl l ↦ l | inr past ↦ 
 all_met : (ms : List ℕ) → ((i : ℕ) → i < length ms → 1 ≤ number ms i) → unmet ms ≡ 0
 all_met [] h = refl
 all_met (m ∷ ms) h =
-    let here : fresh_at m ≡ 0 = not_fresh m (h 0 (omega arith)) in
-    let step : unmet (m ∷ ms) ≡ (0 + fresh_at m) + unmet ms = sum_by-append fresh_at (m ∷ []) ms in
-    let rest : unmet ms ≡ 0 = all_met ms (λ i l. h (suc i) (omega arith)) in
-    omega arith
+    omega (arith, not_fresh m (h 0 (omega arith)), sum_by-append fresh_at (m ∷ []) ms, all_met ms (λ i l. h (suc i) (omega arith)))
 
 module _ (g : List (List Use)) (marks left stack starts path order : List ℕ) (next : ℕ) (graph : IsGraph g) (v : IsWalking g marks left stack starts path order next) (none : path ≡ []) (met : (a : ℕ) → a < length g → 1 ≤ number marks a) where
   none_on : (a : ℕ) → length g < number marks a → ⊥
@@ -46,8 +43,7 @@ module _ (g : List (List Use)) (marks left stack starts path order : List ℕ) (
         placed = λ a h. v.marks_are.placed a (met a h) (finished a);
         count = (
             let s : length stack ≡ 0 = no_stack in
-            let u : unmet marks ≡ 0 = all_met marks (λ i l. met i (omega arith)) in
-            omega arith);
-        within = λ i h. (let w : number order i < length marks = marked_within marks (number order i) (v.marks_are.given i h).0 in omega arith);
+            omega (arith, all_met marks (λ i l. met i (omega arith))));
+        within = λ i h. (omega (arith, marked_within marks (number order i) (v.marks_are.given i h).0));
         rises = v.marks_are.rises;
       }

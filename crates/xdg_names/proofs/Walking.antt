@@ -50,10 +50,7 @@ module _ (g : List (List Use)) (marks left stack starts path order : List ℕ) (
     -- those on the stack have lesser marks
     below : (a : ℕ) → n < number marks a → number marks' a < number marks' y
     below a h =
-        let e : number marks' a ≡ number marks a = kept a (omega arith) in
-        let o : number marks a < n + 1 + length stack = v.marks_are.off a h in
-        let t : number marks' y ≡ top = own in
-        omega arith
+        omega (arith, kept a (omega arith), v.marks_are.off a h, own)
 
     starts_marked : (s : ℕ) → In starts s → n < number marks s
     starts_marked s h = v.path_on s (v.starts_on s h)
@@ -64,9 +61,7 @@ module _ (g : List (List Use)) (marks left stack starts path order : List ℕ) (
         let on : n < number marks s = starts_marked s h in
         let es : number marks' s ≡ number marks s = kept s (omega arith) in
         let ea : number marks' a ≡ number marks a = kept a (omega arith) in
-        let eb : number marks' b ≡ number marks b = kept b (omega arith) in
-        let r : number marks' s ≤ number marks' b = nb s (in_left starts (y ∷ []) s h) (omega arith) in
-        omega arith
+        omega (arith, kept b (omega arith), nb s (in_left starts (y ∷ []) s h) (omega arith))
 
     enter_leads : (a b : ℕ) → n < number marks' a → n < number marks' b → NotBelow marks' (starts ++ y ∷ []) a b → Leads g a b
     enter_leads a b ha hb nb = elim (at a) [
@@ -74,8 +69,7 @@ module _ (g : List (List Use)) (marks left stack starts path order : List ℕ) (
         | inl l ↦ ([], k.0 ∙ sym l.0)
         | inr l ↦ (let less : number marks' b < number marks' y = below b (omega arith) in
             let ea : number marks' a ≡ number marks' y = ap (number marks') k.0 in
-            let r : number marks' y ≤ number marks' b = nb y (is_last starts y) (omega arith) in
-            absurd (omega arith))
+            absurd (omega (arith, nb y (is_last starts y) (omega arith))))
       ]
       | inr k ↦ (elim (at b) [
         | inl l ↦ subst (Leads g a) (sym l.0) (reached a (omega arith))
@@ -86,9 +80,7 @@ module _ (g : List (List Use)) (marks left stack starts path order : List ℕ) (
     enter_looked : (a k : ℕ) → n < number marks' a → number left a ≤ k → k < length (uses_of g a) → IsLooked n marks' (starts ++ y ∷ []) a (the_use (uses_of g a) k).to
     enter_looked a k ha l m = elim (at a) [
       | inl e ↦ (let full : number left y ≡ length (uses_of g y) = v.fresh y fresh in
-          let la : number left a ≡ number left y = ap (number left) e.0 in
-          let ua : length (uses_of g a) ≡ length (uses_of g y) = ap (λ x. length (uses_of g x)) e.0 in
-          absurd (omega arith))
+          absurd (omega (arith, ap (number left) e.0, ap (λ x. length (uses_of g x)) e.0)))
       | inr e ↦ (let t : ℕ = (the_use (uses_of g a) k).to in
           let old : IsLooked n marks starts a t = v.looked a k (omega arith) l m in
           let met : 1 ≤ number marks t = old.0 in
@@ -97,11 +89,9 @@ module _ (g : List (List Use)) (marks left stack starts path order : List ℕ) (
             λ ht s h less. elim (in_parts starts y s h) [
               | inl i ↦ (let on : n < number marks s = starts_marked s i in
                   let es : number marks' s ≡ number marks s = kept s (omega arith) in
-                  let r : number marks s ≤ number marks t = old.1 (omega arith) s i (omega arith) in
-                  omega arith)
+                  omega (arith, old.1 (omega arith) s i (omega arith)))
               | inr i ↦ (let es : number marks' s ≡ number marks' y = ap (number marks') i in
-                  let lt : number marks' a < number marks' y = below a (omega arith) in
-                  absurd (omega arith))
+                  absurd (omega (arith, below a (omega arith))))
             ],
           ))
     ]
@@ -153,7 +143,7 @@ module _ (g : List (List Use)) (marks left stack starts path order : List ℕ) (
       lefts = v.lefts;
       fits = v.fits;
       fresh = λ a h. elim (at a) [
-        | inl i ↦ (let e : number marks' a ≡ top = i.1 in absurd (omega arith))
+        | inl i ↦ absurd (omega (arith, i.1))
         | inr i ↦ v.fresh a (sym i.1 ∙ h)
       ];
       few = v.few;
@@ -161,10 +151,10 @@ module _ (g : List (List Use)) (marks left stack starts path order : List ℕ) (
     }
 
     pub entered_met : 1 ≤ number (set marks y (length g + 1 + length stack)) y
-    entered_met = let o : number marks' y ≡ top = own in omega arith
+    entered_met = omega (arith, own)
 
     pub entered_stays : (a : ℕ) → 1 ≤ number marks a → 1 ≤ number (set marks y (length g + 1 + length stack)) a
-    entered_stays a h = let e : number marks' a ≡ number marks a = kept a h in omega arith
+    entered_stays a h = omega (arith, kept a h)
 
     pub entered_on : (a : ℕ) → length g < number marks a → (length g < number (set marks y (length g + 1 + length stack)) a) × IsLooked (length g) (set marks y (length g + 1 + length stack)) (starts ++ y ∷ []) a y
     entered_on a h =
@@ -174,8 +164,8 @@ module _ (g : List (List Use)) (marks left stack starts path order : List ℕ) (
           (
             omega arith,
             λ on s i l. elim (in_parts starts y s i) [
-              | inl j ↦ (let less : number marks' s < number marks' y = below s (starts_marked s j) in omega arith)
-              | inr j ↦ (let es : number marks' s ≡ number marks' y = ap (number marks') j in omega arith)
+              | inl j ↦ omega (arith, below s (starts_marked s j))
+              | inr j ↦ omega (arith, ap (number marks') j)
             ],
           ),
         )
@@ -216,9 +206,8 @@ module _ (g : List (List Use)) (marks left stack starts path order : List ℕ) (
       ];
       lefts = length-set left x r ∙ v.lefts;
       fits = λ a. elim (left_at a) [
-        | inl e ↦ (let eo : number left a ≡ number left x = ap (number left) e.0 in
-            let f : number left a ≤ length (uses_of g a) = v.fits a in omega arith)
-        | inr e ↦ (let f : number left a ≤ length (uses_of g a) = v.fits a in omega arith)
+        | inl e ↦ omega (arith, ap (number left) e.0, v.fits a)
+        | inr e ↦ omega (arith, v.fits a)
       ];
       fresh = λ a h. elim (left_at a) [
         | inl e ↦ (let on : length g < number marks x = v.path_on x held in let em : number marks a ≡ number marks x = ap (number marks) e.0 in absurd (omega arith))
