@@ -6,7 +6,7 @@ use Rattle.xdg_domain.specs.declared.types.Ty.{Ty}
 use Rattle.xdg_domain.specs.declared.types.Ty.TheVariants as y
 use Rattle.xdg_domain.specs.Shapes.{fields, shape}
 use Rattle.xdg_terms.specs.Faults.{fields_in}
-use Rattle.xdg_terms.proofs.Sizes.{record_shape}
+use Rattle.xdg_domain.proofs.Shaped.{shape_rec as record_shape}
 use Rattle.xdg_facts.specs.Membership.{In}
 use Rattle.xdg_facts.proofs.In.{in_at, map_in}
 

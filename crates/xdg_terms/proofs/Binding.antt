@@ -1,22 +1,27 @@
 -- A term with open parameters that are bound to right terms is right under the bindings.
-use Rattle.std.proofs.Common.{◌≡◌, inl, inr, ℕ, Bool, true, false, List, [], Option, Some, None, length, refl, sym, ap, ap₂, ◌∙◌, subst}
+use Rattle.std.proofs.Common.{◌≡◌, inl, inr, ℕ, Bool, true, false, List, [], Option, Some, None, length, map, refl, sym, ap, ap₂, ◌∙◌, subst}
 use Rattle.std.specs.Prelude.{if◌then◌else◌, bytes_eq, ◌||◌}
 use Rattle.std.proofs.lemmas.Bool.{true≢false, false_from_ne_true}
+use Rattle.std.specs.List.{flat_map}
+use Rattle.std.proofs.lemmas.List.{map-id}
+use Rattle.xdg_base.specs.declared.faults.Cause.TheVariants as causes
 use Rattle.xdg_base.specs.declared.faults.Fault.{Fault}
+use Rattle.xdg_ast.specs.Misnamed.{IsUnknown, IsAgain}
 use Rattle.xdg_ast.specs.Grammar.{is_among}
 use Rattle.xdg_ast.specs.declared.names.Name.{Name}
 use Rattle.xdg_ast.specs.declared.terms.TermKind.{TermKind, out-TermKind}
 use Rattle.xdg_ast.specs.declared.terms.ElemKind.{ElemKind}
 use Rattle.xdg_ast.specs.declared.terms.ElemKind.TheOpen.{TermKind-F}
-use Rattle.xdg_domain.specs.Shapes.{Shape, tuple, integer, set, iset, card, valency, mapping, fields, Fields, no_field, field_then, sizes}
+use Rattle.xdg_domain.specs.Shapes.{Shape, truth, constants, tuple, integer, set, iset, card, valency, mapping, fields, Fields, no_field, field_then, sizes}
 use Rattle.xdg_terms.specs.Forms.{Term, Bindings, Look, with_bound, with_open, unless_open, bound, bound_in, bound_to, bound_or, constant_of, constant_in, number_of, number_in, card_of, card_in, generator_of, generator_in, bracket_of, bracket_in, constants_of, brackets_of, counts_of, pairs_of, braces_in, plain_elem, bracketed_elem, counted_elem, keyed_elem}
-use Rattle.xdg_terms.specs.Offences.{is_some, has_form, has_set_form, all_told, OfSeen, OffendsIn, OffendsUnder, OffendsBy, Offends}
+use Rattle.xdg_terms.specs.Offences.{is_some, has_form, has_set_form, all_told, asked, asked_in, keys, keys_of, field_keys, known_fields, cards, OffendsHere, OfSeen, OffendsIn, OffendsUnder, OffendsBy, Offends}
 use Rattle.xdg_terms.specs.Wanted.{Want, free_in, free_of, or_inside, params_in, params_under, params_inside}
 use Rattle.xdg_terms.specs.Replaced.{IsOpenRight, AreBoundRight}
-use Rattle.xdg_terms.proofs.Right.{RightHere, formed}
+use Rattle.xdg_terms.proofs.Right.{RightHere, HoldsNone, formed, told}
 use Rattle.xdg_facts.proofs.Texts.{is_same, same_text}
 use Rattle.xdg_facts.specs.Membership.{In}
-use Rattle.xdg_facts.proofs.In.{in_flat_map, flat_map_in}
+use Rattle.xdg_facts.proofs.In.{in_flat_map, flat_map_in, in_map}
+use Rattle.xdg_facts.proofs.Lists.{fused}
 
 -- ---- a term of a wanted form is no parameter
 
@@ -93,63 +98,92 @@ RightBy look s t = (f : Fault) → OffendsBy look s t f → ⊥
 pub right_in : (look : Look) (s : Shape) (t : Term) → look t ≡ Some t → RightBy look s t → RightIn look s t
 right_in look s t is h f w = h f (subst (λ o. OfSeen o (λ seen. OffendsIn look s seen f)) (sym is) w)
 
-bound_right : (bs : Bindings) (s : Shape) (t : Term) → has_form s t ≡ true → RightIn (with_bound bs) s t → RightBy (with_bound bs) s t
-bound_right bs s t form h f w = h f (subst (λ z. OffendsIn (with_bound bs) s z f) (itself bs s t form) w)
+-- ---- what stands for a right term
 
--- Where nothing is wrong with a term in which parameters are open, and each of these is right where it is bound.
-module _ (free : List (List ℕ)) (bs : Bindings) (P : List ℕ → Shape → Type 0) (each : (p : List ℕ) (u : Shape) → P p u → (t : Term) → RightIn (with_bound bs) u (bound_or t (bound_to bs p))) where
+-- what is said of the term itself is said of its form, of what it names and of its cardinalities
+here_same : (s : Shape) (t u : Term) → has_form s u ≡ true → asked s u ≡ asked s t → keys s u ≡ keys s t → field_keys s u ≡ field_keys s t → cards s u ≡ cards s t → (f : Fault) → OffendsHere s u f → OffendsHere s t f
+here_same s t u form named keyed told counted f w = elim w [
+  | inl r ↦ absurd (true≢false (sym form ∙ r.form))
+  | inr w ↦ inr (elim w [
+    | inl r ↦ inl (record { texts = r.texts; name = r.name; stands = subst (λ all. In all (r.texts, r.name)) named r.stands; missing = r.missing; fault = r.fault })
+    | inr w ↦ inr (elim w [
+      | inl r ↦ inl (subst (λ names. IsAgain names f) keyed r)
+      | inr w ↦ inr (elim w [
+        | inl r ↦ inl (subst (λ names. IsUnknown causes.UnknownName (known_fields s) names f) told r)
+        | inr r ↦ inr (record { card = r.card; stands = subst (λ all. In all r.card) counted r.stands; offends = r.offends })
+      ])
+    ])
+  ])
+]
+
+-- Where nothing is wrong with a term in which parameters are open, nothing is wrong with what stands for it: `image t` for the term, and `put t` where
+-- it is the value of a key, if that is right wherever the term is an open parameter.
+module _ (free : List (List ℕ)) (look : Look) (put image : Term → Term) (seen_image : (t : Term) → look (put t) ≡ Some (image t))
+    (stays : (s : Shape) (t : Term) → HoldsNone s → has_form s t ≡ true → image t ≡ t)
+    (pairs_put : (t : Term) (pairs : List (Name × Term)) → pairs_of t ≡ Some pairs → pairs_of (image t) ≡ Some (map (λ (pair : Name × Term). (pair.0, put pair.1)) pairs))
+    (P : List ℕ → Shape → Type 0)
+    (each : (s : Shape) (t : Term) (name : Name) → free_of free t ≡ Some name → ((cs : Bindings) → bound cs t ≡ bound_or t (bound_to cs name.text)) → P name.text s → RightIn look s (image t)) where
   abbrev Known : List Want → Type 0
   Known wants = (p : List ℕ) (u : Shape) → In wants (p, u) → P p u
 
-  at_param : (s : Shape) (t : Term) (inside : List Want) (name : Name) → free_of free t ≡ Some name → ((cs : Bindings) → bound cs t ≡ bound_or t (bound_to cs name.text)) → Known (or_inside (free_of free t) s inside) → RightBy (with_bound bs) s t
-  at_param s t inside name is means known f w =
-      let p : P name.text s = known name.text s (subst (λ (o : Option Name). In (or_inside o s inside) (name.text, s)) (sym is) (inl refl)) in
-      each name.text s p t f (subst (λ z. OffendsIn (with_bound bs) s z f) (means bs) w)
+  abbrev put_pair : Name × Term → Name × Term
+  put_pair pair = (pair.0, put pair.1)
 
-  inside_of : (s : Shape) (t : Term) (inside : List Want) → free_of free t ≡ None → Known (or_inside (free_of free t) s inside) → Known inside
-  inside_of s t inside is known p u h = known p u (subst (λ (o : Option Name). In (or_inside o s inside) (p, u)) (sym is) h)
-
-  -- of types whose terms hold no others
-  plain : (s : Shape) (t : Term) → ((h : RightIn (with_open free) s t) → RightIn (with_bound bs) s t) → (inside : List Want) → Known (or_inside (free_of free t) s inside) → RightBy (with_open free) s t → RightBy (with_bound bs) s t
-  plain s t to inside known h = elim (seen free t) [
-    | open_param name is means ↦ at_param s t inside name is means known
-    | looked_at is some ↦ (let right = right_in (with_open free) s t some h in bound_right bs s t (formed s t (here_of (with_open free) s t right)) (to right))
+  by_seen : (s : Shape) (t : Term) (inside : List Want) → Known (or_inside (free_of free t) s inside) → RightBy (with_open free) s t → (RightIn (with_open free) s t → Known inside → RightIn look s (image t)) → RightIn look s (image t)
+  by_seen s t inside known h go = elim (seen free t) [
+    | open_param name is means ↦ each s t name is means (known name.text s (subst (λ (o : Option Name). In (or_inside o s inside) (name.text, s)) (sym is) (inl refl)))
+    | looked_at is some ↦ go (right_in (with_open free) s t some h) (λ p u i. known p u (subst (λ (o : Option Name). In (or_inside o s inside) (p, u)) (sym is) i))
   ]
 
-  mutual
-    pub right : (s : Shape) (t : Term) → Known (params_in free s t) → RightBy (with_open free) s t → RightBy (with_bound bs) s t
-    right (mapping k u) t known h = elim (seen free t) [
-      | open_param name is means ↦ at_param (mapping k u) t (params_inside free (mapping k u) t) name is means known
-      | looked_at is some ↦ (
-          let inner = right_in (with_open free) (mapping k u) t some h in
-          let below = inside_of (mapping k u) t (params_inside free (mapping k u) t) is known in
-          bound_right bs (mapping k u) t (formed (mapping k u) t (here_of (with_open free) (mapping k u) t inner))
-          (λ f w. elim w [
-            | inl a ↦ inner f (inl a)
-            | inr b ↦ right u b.0.1 (λ p v i. below p v (flat_map_in (λ (pair : Name × Term). params_in free u pair.1) (all_told (pairs_of t)) b.0 (p, v) b.1.0 i)) (λ g x. inner g (inr (b.0, (b.1.0, x)))) f b.1.1
-          ]))
-    ]
-    right (fields fs) t known h = elim (seen free t) [
-      | open_param name is means ↦ at_param (fields fs) t (params_inside free (fields fs) t) name is means known
-      | looked_at is some ↦ (
-          let inner = right_in (with_open free) (fields fs) t some h in
-          let below = inside_of (fields fs) t (params_inside free (fields fs) t) is known in
-          bound_right bs (fields fs) t (formed (fields fs) t (here_of (with_open free) (fields fs) t inner))
-          (λ f w. elim w [
-            | inl a ↦ inner f (inl a)
-            | inr b ↦ right_under fs b.0 (λ p v i. below p v (flat_map_in (params_under free fs) (all_told (pairs_of t)) b.0 (p, v) b.1.0 i)) (λ g x. inner g (inr (b.0, (b.1.0, x)))) f b.1.1
-          ]))
-    ]
-    right s t known h = plain s t (λ h. h) [] known h
+  keys_put : (t : Term) (pairs : List (Name × Term)) → pairs_of t ≡ Some pairs → keys_of (pairs_of (image t)) ≡ keys_of (pairs_of t)
+  keys_put t pairs h = ap keys_of (pairs_put t pairs h) ∙ fused (λ (pair : Name × Term). pair.0) put_pair pairs ∙ sym (ap keys_of h)
 
-    right_under : (fs : Fields) (pair : Name × Term) → Known (params_under free fs pair) → ((f : Fault) → OffendsUnder (with_open free) fs pair f → ⊥) → (f : Fault) → OffendsUnder (with_bound bs) fs pair f → ⊥
+  -- the values of the keys, where what is wrong with one that is put was wrong before
+  over_pairs : (t : Term) (pairs : List (Name × Term)) → pairs_of t ≡ Some pairs → (params : Name × Term → List Want) (Bad Put : Name × Term → Fault → Type 0) → Known (flat_map params (all_told (pairs_of t)))
+      → ((pair : Name × Term) → Known (params pair) → ((f : Fault) → Bad pair f → ⊥) → (f : Fault) → Put (put_pair pair) f → ⊥) → ((f : Fault) → (pair : Name × Term) × (In (all_told (pairs_of t)) pair × Bad pair f) → ⊥)
+      → (f : Fault) → (pair : Name × Term) × (In (all_told (pairs_of (image t))) pair × Put pair f) → ⊥
+  over_pairs t pairs is params Bad Put known goes right f b =
+      let one = in_map put_pair pairs b.0 (subst (λ o. In (all_told o) b.0) (pairs_put t pairs is) b.1.0) in
+      let among : In (all_told (pairs_of t)) one.0 = subst (λ o. In (all_told o) one.0) (sym is) one.1.0 in
+      goes one.0 (λ p u i. known p u (flat_map_in params (all_told (pairs_of t)) one.0 (p, u) among i)) (λ g x. right g (one.0, (among, x))) f (subst (λ z. Put z f) (sym one.1.1) b.1.1)
+
+  mutual
+    pub right : (s : Shape) (t : Term) → Known (params_in free s t) → RightBy (with_open free) s t → RightIn look s (image t)
+    right (mapping k u) t known h = by_seen (mapping k u) t (params_inside free (mapping k u) t) known h (λ inner below f w.
+        let pairs = told (pairs_of t) (formed (mapping k u) t (here_of (with_open free) (mapping k u) t inner)) in
+        let same = keys_put t pairs.0 pairs.1 in
+        elim w [
+          | inl a ↦ inner f (inl (here_same (mapping k u) t (image t) (ap is_some (pairs_put t pairs.0 pairs.1)) (ap (asked_in (constants k)) same) same refl refl f a))
+          | inr b ↦ over_pairs t pairs.0 pairs.1 (λ pair. params_in free u pair.1) (λ pair g. OfSeen (with_open free pair.1) (λ z. OffendsIn (with_open free) u z g)) (λ pair g. OfSeen (look pair.1) (λ z. OffendsIn look u z g)) below
+              (λ pair these good g x. right u pair.1 these good g (subst (λ o. OfSeen o (λ z. OffendsIn look u z g)) (seen_image pair.1) x)) (λ g x. inner g (inr x)) f b
+        ])
+    right (fields fs) t known h = by_seen (fields fs) t (params_inside free (fields fs) t) known h (λ inner below f w.
+        let pairs = told (pairs_of t) (formed (fields fs) t (here_of (with_open free) (fields fs) t inner)) in
+        let same = keys_put t pairs.0 pairs.1 in
+        elim w [
+          | inl a ↦ inner f (inl (here_same (fields fs) t (image t) (ap is_some (pairs_put t pairs.0 pairs.1)) refl same same refl f a))
+          | inr b ↦ over_pairs t pairs.0 pairs.1 (params_under free fs) (OffendsUnder (with_open free) fs) (OffendsUnder look fs) below (right_under fs) (λ g x. inner g (inr x)) f b
+        ])
+    right s t known h = by_seen s t [] known h (λ inner _. subst (RightIn look s) (sym (stays s t tt (formed s t (here_of (with_open free) s t inner)))) inner)
+
+    right_under : (fs : Fields) (pair : Name × Term) → Known (params_under free fs pair) → ((f : Fault) → OffendsUnder (with_open free) fs pair f → ⊥) → (f : Fault) → OffendsUnder look fs (put_pair pair) f → ⊥
     right_under no_field pair known h f w = w
     right_under (field_then name u fs) pair known h f w = elim w [
-      | inl a ↦ right u pair.1 (λ p v i. known p v (subst (λ (b : Bool). In (if b then params_in free u pair.1 else params_under free fs pair) (p, v)) (sym (is_same name pair.0.text a.0)) i)) (λ g x. h g (inl (a.0, x))) f a.1
+      | inl a ↦ right u pair.1 (λ p v i. known p v (subst (λ (b : Bool). In (if b then params_in free u pair.1 else params_under free fs pair) (p, v)) (sym (is_same name pair.0.text a.0)) i)) (λ g x. h g (inl (a.0, x))) f
+          (subst (λ o. OfSeen o (λ z. OffendsIn look u z f)) (seen_image pair.1) a.1)
       | inr b ↦ right_under fs pair
           (λ p v i. known p v (subst (λ (c : Bool). In (if c then params_in free u pair.1 else params_under free fs pair) (p, v)) (sym (false_from_ne_true (bytes_eq name pair.0.text) (λ e. b.0 (same_text name pair.0.text e)))) i))
           (λ g x. h g (inr (b.0, x))) f b.1
     ]
+
+-- a term is bound where it stands, and so is each value of its keys
+bound_pairs : (bs : Bindings) (t : Term) (pairs : List (Name × Term)) → pairs_of t ≡ Some pairs → pairs_of (bound bs t) ≡ Some (map (λ (pair : Name × Term). (pair.0, pair.1)) pairs)
+bound_pairs bs t pairs h = ap pairs_of (itself bs (mapping truth truth) t (ap is_some h)) ∙ h ∙ ap (λ (ps : List (Name × Term)). Some ps) (sym (map-id pairs))
+
+bound_right : (free : List (List ℕ)) (bs : Bindings) (P : List ℕ → Shape → Type 0) → ((p : List ℕ) (u : Shape) → P p u → (t : Term) → RightIn (with_bound bs) u (bound_or t (bound_to bs p)))
+    → (s : Shape) (t : Term) → ((p : List ℕ) (u : Shape) → In (params_in free s t) (p, u) → P p u) → RightBy (with_open free) s t → RightIn (with_bound bs) s (bound bs t)
+bound_right free bs P each = right free (with_bound bs) (λ t. t) (bound bs) (λ t. refl) (λ s t none form. itself bs s t form) (bound_pairs bs) P
+    (λ s t name is means p. subst (RightIn (with_bound bs) s) (sym (means bs)) (each name.text s p t))
 
 -- ---- no parameter is open
 
@@ -191,9 +225,9 @@ form_of s b h = formed s b (here_of (with_open []) s b (right_in (with_open []) 
 
 pub closed_right : (bs : Bindings) (s : Shape) (b : Term) → IsOpenRight [] s b → RightIn (with_bound bs) s b
 closed_right bs s b h f w =
-    right [] bs (λ p u. ⊥) (λ p u none. absurd none) s b (λ p u. no_params s b (p, u)) h f (subst (λ z. OffendsIn (with_bound bs) s z f) (sym (itself bs s b (form_of s b h))) w)
+    bound_right [] bs (λ p u. ⊥) (λ p u none. absurd none) s b (λ p u. no_params s b (p, u)) h f (subst (λ z. OffendsIn (with_bound bs) s z f) (sym (itself bs s b (form_of s b h))) w)
 
 pub bound_law : (free : List (List ℕ)) (bs : Bindings) (s : Shape) (t : Term) → IsOpenRight free s t → AreBoundRight free bs s t → (f : Fault) → Offends bs s t f → ⊥
 bound_law free bs s t h known =
-    right free bs (λ p u. (b : Term) × ((bound_to bs p ≡ Some b) × IsOpenRight [] u b))
+    bound_right free bs (λ p u. (b : Term) × ((bound_to bs p ≡ Some b) × IsOpenRight [] u b))
     (λ p u k t. subst (λ o. RightIn (with_bound bs) u (bound_or t o)) (sym k.1.0) (closed_right bs u k.0 k.1.1)) s t known h

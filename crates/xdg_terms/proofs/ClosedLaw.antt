@@ -1,8 +1,7 @@
 -- A term with open parameters is right without parameters once right terms stand in their places.
-use Rattle.std.proofs.Common.{◌≡◌, inl, inr, ℕ, Bool, true, false, List, [], ◌∷◌, map, Option, Some, None, length, refl, sym, ap, ap₂, ◌∙◌, subst}
-use Rattle.std.specs.Prelude.{if◌then◌else◌, bytes_eq, option_map}
-use Rattle.std.proofs.lemmas.Bool.{true≢false, false≢true, false_from_ne_true, or_cases}
-use Rattle.xdg_base.specs.declared.faults.Fault.{Fault}
+use Rattle.std.proofs.Common.{◌≡◌, inl, inr, ℕ, true, false, List, [], ◌∷◌, map, Option, Some, None, length, refl, sym, ap, ap₂, ◌∙◌, subst}
+use Rattle.std.specs.Prelude.{option_map}
+use Rattle.std.proofs.lemmas.Bool.{true≢false, false≢true, or_cases}
 use Rattle.xdg_ast.specs.declared.names.Name.{Name}
 use Rattle.xdg_ast.specs.declared.names.Spanned.{Spanned}
 use Rattle.xdg_ast.specs.declared.terms.TermKind.{TermKind, out-TermKind, roll-TermKind, roll-out-TermKind}
@@ -11,19 +10,16 @@ use Rattle.xdg_ast.specs.declared.terms.ElemKind.{ElemKind, out-ElemKind}
 use Rattle.xdg_ast.specs.declared.terms.ElemKind.TheVariants as e
 use Rattle.xdg_ast.specs.declared.terms.ElemKind.TheOpen.{TermKind-F, ElemKind-F}
 use Rattle.xdg_domain.specs.Shapes as d
-use Rattle.xdg_domain.specs.Shapes.{Shape, domain, tuple, truth, integer, text, set, iset, card, valency, mapping, fields, Fields, no_field, field_then, sizes}
+use Rattle.xdg_domain.specs.Shapes.{Shape, tuple, integer, text, set, iset, card, valency, mapping, fields, sizes}
 use Rattle.xdg_terms.specs.Forms.{Term, Card, Bindings, with_open, bound, bound_in, bound_to, bound_or, constant_of, constant_in, number_of, number_in, card_of, card_in, generator_of, generator_in, bracket_of, bracket_in, constants_of, brackets_of, counts_of, pairs_of, braces_in, all_of, then_also, plain_elem, bracketed_elem, counted_elem, keyed_in, keyed_elem}
-use Rattle.xdg_terms.specs.Offences.{is_some, has_form, has_set_form, all_told, keys_of, asked_in, OffendsHere, OfSeen, OffendsIn, OffendsUnder}
+use Rattle.xdg_terms.specs.Offences.{is_some, has_form, has_set_form, OfSeen, OffendsIn}
 use Rattle.xdg_terms.specs.Closed.{closed, closed_by, closing, kind_by, closing_kind, closing_elem}
-use Rattle.xdg_terms.specs.Wanted.{Want, free_in, free_of, or_inside, params_in, params_under, params_inside}
+use Rattle.xdg_terms.specs.Wanted.{free_in, free_of}
 use Rattle.xdg_terms.specs.Replaced.{IsOpenRight, AreBoundRight}
-use Rattle.xdg_terms.proofs.Right.{HoldsNone, formed, told}
+use Rattle.xdg_terms.proofs.Right.{HoldsNone, told}
 use Rattle.xdg_terms.proofs.Formed.{plain_is, bracketed_is, counted_is}
 use Rattle.xdg_terms.proofs.Replacing.{closed_is}
-use Rattle.xdg_terms.proofs.Binding.{open_param, looked_at, seen, no_form, RightIn, RightBy, here_of, right_in, all_looked_at}
-use Rattle.xdg_facts.proofs.Texts.{is_same, same_text}
-use Rattle.xdg_facts.specs.Membership.{In}
-use Rattle.xdg_facts.proofs.In.{flat_map_in}
+use Rattle.xdg_terms.proofs.Binding.{no_form, RightIn, right, right_in, all_looked_at}
 
 module _ (bs : Bindings) where
   -- ---- elements without terms stay
@@ -141,110 +137,13 @@ module _ (bs : Bindings) where
   unfolding pairs_of closing
   pairs_closed t pairs h = ap (λ (z : Term). braces_in keyed_elem (out-TermKind z.kind)) (closed_is bs t) ∙ pairs_by t (out-TermKind t.kind) pairs refl h
 
-  same_keys : (pairs : List (Name × Term)) → map (λ (pair : Name × Term). pair.0) (map pair_closed pairs) ≡ map (λ (pair : Name × Term). pair.0) pairs
-  same_keys [] = refl
-  same_keys (pair ∷ pairs) = ap (λ names. pair.0 ∷ names) (same_keys pairs)
-
-  keys_closed : (t : Term) (pairs : List (Name × Term)) → pairs_of t ≡ Some pairs → keys_of (pairs_of (closed bs t)) ≡ keys_of (pairs_of t)
-  keys_closed t pairs h = ap keys_of (pairs_closed t pairs h) ∙ same_keys pairs ∙ sym (ap keys_of h)
-
-  -- what is wrong with the keys was wrong before
-  map_here : (key u : Shape) (t : Term) (pairs : List (Name × Term)) → pairs_of t ≡ Some pairs → (f : Fault) → OffendsHere (mapping key u) (closed bs t) f → OffendsHere (mapping key u) t f
-  map_here key u t pairs h f w = elim w [
-    | inl r ↦ absurd (true≢false (sym (ap is_some (pairs_closed t pairs h)) ∙ r.form))
-    | inr w ↦ elim w [
-      | inl r ↦ inr (inl (record { texts = r.texts; name = r.name; stands = subst (λ names. In (asked_in (d.constants key) names) (r.texts, r.name)) (keys_closed t pairs h) r.stands; missing = r.missing; fault = r.fault }))
-      | inr w ↦ elim w [
-        | inl r ↦ inr (inr (inl (record { before = r.before; name = r.name; after = r.after; parts = sym (keys_closed t pairs h) ∙ r.parts; earlier = r.earlier; fault = r.fault })))
-        | inr w ↦ elim w [ inl r ↦ absurd r.used | inr r ↦ absurd r.stands ]
-      ]
-    ]
-  ]
-
-  record_here : (fs : Fields) (t : Term) (pairs : List (Name × Term)) → pairs_of t ≡ Some pairs → (f : Fault) → OffendsHere (fields fs) (closed bs t) f → OffendsHere (fields fs) t f
-  record_here fs t pairs h f w = elim w [
-    | inl r ↦ absurd (true≢false (sym (ap is_some (pairs_closed t pairs h)) ∙ r.form))
-    | inr w ↦ elim w [
-      | inl r ↦ absurd r.stands
-      | inr w ↦ elim w [
-        | inl r ↦ inr (inr (inl (record { before = r.before; name = r.name; after = r.after; parts = sym (keys_closed t pairs h) ∙ r.parts; earlier = r.earlier; fault = r.fault })))
-        | inr w ↦ elim w [
-          | inl r ↦ inr (inr (inr (inl (record { name = r.name; used = subst (λ names. In names r.name) (keys_closed t pairs h) r.used; missing = r.missing; fault = r.fault }))))
-          | inr r ↦ absurd r.stands
-        ]
-      ]
-    ]
-  ]
-
-  in_closed : (pairs : List (Name × Term)) (pair : Name × Term) → In (map pair_closed pairs) pair → (one : Name × Term) × (In pairs one × (pair_closed one ≡ pair))
-  in_closed [] pair h = absurd h
-  in_closed (x ∷ pairs) pair h = elim h [ inl q ↦ (x, (inl refl, q)) | inr l ↦ (let r = in_closed pairs pair l in (r.0, (inr r.1.0, r.1.1))) ]
-
-  -- ---- the law
-
-  module _ (free : List (List ℕ)) where
-    abbrev Known : List Want → Type 0
-    Known wants = (param : List ℕ) (u : Shape) → In wants (param, u) → (b : Term) × ((bound_to bs param ≡ Some b) × IsOpenRight [] u b)
-
-    at_param : (s : Shape) (t : Term) (inside : List Want) (name : Name) → free_of free t ≡ Some name → ((cs : Bindings) → bound cs t ≡ bound_or t (bound_to cs name.text)) → Known (or_inside (free_of free t) s inside) → RightIn (with_open []) s (closed bs t)
-    at_param s t inside name is means known f w =
-        let b = known name.text s (subst (λ (o : Option Name). In (or_inside o s inside) (name.text, s)) (sym is) (inl refl)) in
-        let same : closed bs t ≡ b.0 = param_bound free t name is ∙ means bs ∙ ap (bound_or t) b.1.0 in
-        right_in (with_open []) s b.0 (all_looked_at b.0) b.1.1 f (subst (λ z. OffendsIn (with_open []) s z f) same w)
-
-    below_of : (s : Shape) (t : Term) (inside : List Want) → free_of free t ≡ None → Known (or_inside (free_of free t) s inside) → Known inside
-    below_of s t inside is known p u h = known p u (subst (λ (o : Option Name). In (or_inside o s inside) (p, u)) (sym is) h)
-
-    plain : (s : Shape) (t : Term) → HoldsNone s → (RightIn (with_open free) s t → RightIn (with_open []) s t) → (inside : List Want) → Known (or_inside (free_of free t) s inside) → RightBy (with_open free) s t → RightIn (with_open []) s (closed bs t)
-    plain s t none to inside known h = elim (seen free t) [
-      | open_param name is means ↦ at_param s t inside name is means known
-      | looked_at is some ↦ (
-          let right = right_in (with_open free) s t some h in
-          subst (RightIn (with_open []) s) (sym (stays s t none (formed s t (here_of (with_open free) s t right)))) (to right))
-    ]
-
-    mutual
-      pub replaced : (s : Shape) (t : Term) → Known (params_in free s t) → RightBy (with_open free) s t → RightIn (with_open []) s (closed bs t)
-      replaced (mapping key u) t known h = elim (seen free t) [
-        | open_param name is means ↦ at_param (mapping key u) t (params_inside free (mapping key u) t) name is means known
-        | looked_at is some ↦ (
-            let inner = right_in (with_open free) (mapping key u) t some h in
-            let below = below_of (mapping key u) t (params_inside free (mapping key u) t) is known in
-            let pairs = told (pairs_of t) (formed (mapping key u) t (here_of (with_open free) (mapping key u) t inner)) in
-            λ f w. elim w [
-              | inl a ↦ inner f (inl (map_here key u t pairs.0 pairs.1 f a))
-              | inr b ↦ (
-                  let one = in_closed pairs.0 b.0 (subst (λ o. In (all_told o) b.0) (pairs_closed t pairs.0 pairs.1) b.1.0) in
-                  let among : In (all_told (pairs_of t)) one.0 = subst (λ o. In (all_told o) one.0) (sym pairs.1) one.1.0 in
-                  replaced u one.0.1 (λ p v i. below p v (flat_map_in (λ (pair : Name × Term). params_in free u pair.1) (all_told (pairs_of t)) one.0 (p, v) among i)) (λ g x. inner g (inr (one.0, (among, x)))) f
-                  (subst (λ o. OfSeen o (λ z. OffendsIn (with_open []) u z f)) (ap (with_open []) (sym (ap (λ (z : Name × Term). z.1) one.1.1)) ∙ all_looked_at (closed bs one.0.1)) b.1.1))
-            ])
-      ]
-      replaced (fields fs) t known h = elim (seen free t) [
-        | open_param name is means ↦ at_param (fields fs) t (params_inside free (fields fs) t) name is means known
-        | looked_at is some ↦ (
-            let inner = right_in (with_open free) (fields fs) t some h in
-            let below = below_of (fields fs) t (params_inside free (fields fs) t) is known in
-            let pairs = told (pairs_of t) (formed (fields fs) t (here_of (with_open free) (fields fs) t inner)) in
-            λ f w. elim w [
-              | inl a ↦ inner f (inl (record_here fs t pairs.0 pairs.1 f a))
-              | inr b ↦ (
-                  let one = in_closed pairs.0 b.0 (subst (λ o. In (all_told o) b.0) (pairs_closed t pairs.0 pairs.1) b.1.0) in
-                  let among : In (all_told (pairs_of t)) one.0 = subst (λ o. In (all_told o) one.0) (sym pairs.1) one.1.0 in
-                  replaced_under fs one.0 (λ p v i. below p v (flat_map_in (params_under free fs) (all_told (pairs_of t)) one.0 (p, v) among i)) (λ g x. inner g (inr (one.0, (among, x)))) f (subst (λ z. OffendsUnder (with_open []) fs z f) (sym one.1.1) b.1.1))
-            ])
-      ]
-      replaced s t known h = plain s t tt (λ h. h) [] known h
-
-      replaced_under : (fs : Fields) (pair : Name × Term) → Known (params_under free fs pair) → ((f : Fault) → OffendsUnder (with_open free) fs pair f → ⊥) → (f : Fault) → OffendsUnder (with_open []) fs (pair_closed pair) f → ⊥
-      replaced_under no_field pair known h f w = w
-      replaced_under (field_then name u fs) pair known h f w = elim w [
-        | inl a ↦ replaced u pair.1 (λ p v i. known p v (subst (λ (b : Bool). In (if b then params_in free u pair.1 else params_under free fs pair) (p, v)) (sym (is_same name pair.0.text a.0)) i)) (λ g x. h g (inl (a.0, x))) f
-            (subst (λ o. OfSeen o (λ z. OffendsIn (with_open []) u z f)) (all_looked_at (closed bs pair.1)) a.1)
-        | inr b ↦ replaced_under fs pair
-            (λ p v i. known p v (subst (λ (c : Bool). In (if c then params_in free u pair.1 else params_under free fs pair) (p, v)) (sym (false_from_ne_true (bytes_eq name pair.0.text) (λ q. b.0 (same_text name pair.0.text q)))) i))
-            (λ g x. h g (inr (b.0, x))) f b.1
-      ]
+-- what a parameter is bound to is right without parameters
+param_right : (free : List (List ℕ)) (bs : Bindings) (s : Shape) (t : Term) (name : Name) → free_of free t ≡ Some name → ((cs : Bindings) → bound cs t ≡ bound_or t (bound_to cs name.text))
+    → (b : Term) × ((bound_to bs name.text ≡ Some b) × IsOpenRight [] s b) → RightIn (with_open []) s (closed bs t)
+param_right free bs s t name is means b =
+    subst (RightIn (with_open []) s) (sym (param_bound bs free t name is ∙ means bs ∙ ap (bound_or t) b.1.0)) (right_in (with_open []) s b.0 (all_looked_at b.0) b.1.1)
 
 pub closed_law : (free : List (List ℕ)) (bs : Bindings) (s : Shape) (t : Term) → IsOpenRight free s t → AreBoundRight free bs s t → IsOpenRight [] s (closed bs t)
-closed_law free bs s t h known f w = replaced bs free s t known h f (subst (λ o. OfSeen o (λ z. OffendsIn (with_open []) s z f)) (all_looked_at (closed bs t)) w)
+closed_law free bs s t h known f w =
+    right free (with_open []) (closed bs) (closed bs) (λ u. all_looked_at (closed bs u)) (stays bs) (pairs_closed bs) (λ p u. (b : Term) × ((bound_to bs p ≡ Some b) × IsOpenRight [] u b)) (param_right free bs) s t known h
+    f (subst (λ o. OfSeen o (λ z. OffendsIn (with_open []) s z f)) (all_looked_at (closed bs t)) w)

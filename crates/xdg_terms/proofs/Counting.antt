@@ -3,7 +3,9 @@ use Rattle.std.proofs.Common.{◌≡◌, ℕ, ◌+◌, ◌<◌, ◌≤◌, List,
 use Rattle.std.specs.Prelude.{Bool, true, false, nat_lt, nat_le, ◌==◌, ◌&&◌, ◌||◌}
 use Rattle.std.specs.List.{list_any}
 use Rattle.std.proofs.lemmas.Bool.{cases_eq, cases_lt, eq-eqb, ne_eqb, lt-ltb, le-ltb, le-leb, lt-leb}
+use Rattle.std.proofs.Math.Bool.{and-true}
 use Rattle.std.proofs.lemmas.List.{drop_all}
+use Rattle.xdg_terms.proofs.Right.{all_kept}
 use Rattle.xdg_ast.specs.declared.names.Num.{Num}
 use Rattle.xdg_ast.specs.declared.terms.CardKind.{CardKind}
 use Rattle.xdg_ast.specs.declared.terms.CardKind.TheVariants as c
@@ -16,19 +18,11 @@ use Rattle.xdg_facts.proofs.Rising.{numbers_agree, none_of}
 
 -- ---- what was found
 
-and_true : (b : Bool) → (b && true) ≡ b
-and_true true = refl
-and_true false = refl
-
-kept_some : (s : List ℕ) → (s ≡ [] → ⊥) → some_or_all s ≡ s
-kept_some [] h = absurd (h refl)
-kept_some (n ∷ ns) h = refl
-
 pub found_some : (p : ℕ → Bool) (made : Option (List ℕ)) (s : List ℕ) → made ≡ Some s → AreCards made → ((n : ℕ) → n < 128 → told made n ≡ p n) → s ≡ some_or_all (cards p)
 found_some p made s is are same =
     let these : IsCards s = subst AreCards is are in
     let whole : s ≡ cards p = these.whole ∙ numbers_agree 128 (has s) p (λ n below. ap (λ m. told m n) (sym is) ∙ same n below) in
-    whole ∙ sym (kept_some (cards p) (λ none. these.some (whole ∙ none)))
+    whole ∙ all_kept (cards p) (λ none. these.some (whole ∙ none))
 
 pub found_none : (p : ℕ → Bool) (made : Option (List ℕ)) (all : List ℕ) → made ≡ None → ((n : ℕ) → n < 128 → told made n ≡ p n) → all ≡ cards (λ _. true) → all ≡ some_or_all (cards p)
 found_none p made all is same whole =
@@ -116,4 +110,4 @@ of_form kind form made is e = e ∙ sym (ap card_numbers is)
 
 pub some_numbers : some_or_all (cards (within 1 127)) ≡ card_numbers c.Some1
 unfolding card_numbers
-some_numbers = ap some_or_all (numbers_agree 128 (within 1 127) (λ n. nat_lt 0 n) (λ n below. ap (λ b. nat_le 1 n && b) (le-leb n 127 (omega (arith, below))) ∙ and_true (nat_le 1 n)))
+some_numbers = ap some_or_all (numbers_agree 128 (within 1 127) (λ n. nat_lt 0 n) (λ n below. ap (λ b. nat_le 1 n && b) (le-leb n 127 (omega (arith, below))) ∙ and-true (nat_le 1 n)))

@@ -1,5 +1,5 @@
 -- What is wrong in a term of the wanted form, told of its elements one by one.
-use Rattle.std.proofs.Common.{◌≡◌, ℕ, Bool, true, false, List, [], ◌∷◌, ◌++◌, length, Option, Some, None, refl, sym, ap, ap₂, ◌∙◌, eqb, eq-eqb}
+use Rattle.std.proofs.Common.{◌≡◌, ℕ, true, false, List, [], ◌∷◌, ◌++◌, length, Option, Some, None, refl, sym, ap, ap₂, ◌∙◌, eqb, eq-eqb}
 use Rattle.std.specs.List.{flat_map}
 use Rattle.std.proofs.lemmas.Bool.{ne_eqb, true≢false}
 use Rattle.std.proofs.lemmas.List.Folds.{flat_map-map}
@@ -18,9 +18,11 @@ use Rattle.xdg_domain.specs.Shapes as d
 use Rattle.xdg_domain.specs.Shapes.{Shape, Shapes, Fields, sizes, in_a_row, names_of}
 use Rattle.xdg_names.specs.First.{first, earlier}
 use Rattle.xdg_names.proofs.First.{first_append}
-use Rattle.xdg_terms.specs.Forms.{Term, Card, Look, bracket_of, bracket_in, then_also, all_of, braces_in, plain_in, plain_elem, bracketed_in, bracketed_elem, counted_in, counted_elem, keyed_in, keyed_elem, constants_of, brackets_of, counts_of, pairs_of, generator_of, generator_in}
+use Rattle.xdg_terms.specs.Forms.{Term, Card, Look, bracket_of, bracket_in, all_of, braces_in, plain_in, plain_elem, bracketed_in, bracketed_elem, counted_in, counted_elem, keyed_in, keyed_elem, constants_of, brackets_of, counts_of, pairs_of, generator_of, generator_in}
 use Rattle.xdg_terms.specs.Offences.{is_some, gen_names}
 use Rattle.xdg_terms.specs.Faults as spec
+use Rattle.xdg_terms.proofs.Right.{told}
+use Rattle.xdg_terms.proofs.Read.{so_many, split, ended}
 
 -- ---- layers
 
@@ -53,25 +55,13 @@ tuple_wrong ss t names is other = sym (ap (λ o. spec.formed o (spec.missing_in_
 
 -- ---- braces
 
-abbrev Both : {A : Type 0} → Option A → Option (List A) → List A → Type 0
-Both {A} o os xs = (x : A) × ((ys : List A) × ((o ≡ Some x) × ((os ≡ Some ys) × (xs ≡ x ∷ ys))))
-
-both : {A : Type 0} (o : Option A) (os : Option (List A)) (xs : List A) → then_also o os ≡ Some xs → Both o os xs
-both (Some x) (Some ys) xs h = (x, (ys, (refl, (refl, cc))))
-both o os xs h = absurd (cc)
-
 -- what holds of each element of the form holds of all
 pub told_as : {A B : Type 0} (form : Spanned ElemKind → Option A) (g : A → List B) (h : Spanned ElemKind → List B) → ((e : Spanned ElemKind) (x : A) → form e ≡ Some x → h e ≡ g x)
     → (es : List (Spanned ElemKind)) (xs : List A) → all_of form es ≡ Some xs → flat_map h es ≡ flat_map g xs
-unfolding all_of
-told_as {A = A} {B = B} form g h each [] xs is = let e : xs ≡ [] = cc in rw e refl
-told_as {A = A} {B = B} form g h each (e ∷ es) xs is =
-    let two = both (form e) (all_of form es) xs is in
-    ap₂ (λ (ys zs : List B). ys ++ zs) (each e two.0 two.1.1.0) (told_as form g h each es two.1.0 two.1.1.1.0) ∙ sym (ap (flat_map g) two.1.1.1.1)
-
-pub there_is : {A : Type 0} (o : Option A) → true ≡ is_some o → (x : A) × (o ≡ Some x)
-there_is None h = absurd (true≢false h)
-there_is (Some x) h = (x, refl)
+told_as form g h each [] xs is = ap (flat_map g) (sym (ended form xs is))
+told_as form g h each (e ∷ es) xs is =
+    let two = split form e es xs is in
+    ap₂ (λ (ys zs : List _). ys ++ zs) (each e two.x two.one) (told_as form g h each es two.rest two.others) ∙ ap (flat_map g) (sym two.is)
 
 pub there_is_none : {A : Type 0} (o : Option A) → false ≡ is_some o → o ≡ None
 there_is_none None h = refl
@@ -85,7 +75,7 @@ braces_wrong form parts t es is h = ap (λ o. spec.formed o parts t) (ap (braces
 braces_right : {A : Type 0} (form : Spanned ElemKind → Option A) (parts : List A → List Fault) (whole : List Fault) (t : Term) (es : List (Spanned ElemKind)) → t.kind ≡ k.Braces es → true ≡ is_some (all_of form es)
     → ((xs : List A) → all_of form es ≡ Some xs → whole ≡ parts xs) → whole ≡ spec.formed (braces_in form (out-TermKind t.kind)) parts t
 braces_right form parts whole t es is h same =
-    let one = there_is (all_of form es) h in
+    let one = told (all_of form es) (sym h) in
     same one.0 one.1 ∙ sym (ap (λ o. spec.formed o parts t) (ap (braces_in form) (out_braces t es is) ∙ one.1))
 
 -- the first of two parts of a list
@@ -98,12 +88,8 @@ pub plain_is : (l : ElemKind-F ElemKind TermKind) (x : Name) → plain_in l ≡ 
 plain_is (ElemKind-F.ElemKind::Const name) x h = let e : name ≡ x = cc in ap ElemKind-F.ElemKind::Const e
 plain_is l x h = absurd (cc)
 
-pub so_many : (b : Bool) (names xs : List Name) → (if b then Some names else None) ≡ Some xs → names ≡ xs
-so_many true names xs h = cc
-so_many false names xs h = absurd (cc)
-
 pub bracketed_is : (n : ℕ) (l : ElemKind-F ElemKind TermKind) (x : List Name) → bracketed_in n l ≡ Some x → l ≡ ElemKind-F.ElemKind::Tuple x
-bracketed_is n (ElemKind-F.ElemKind::Tuple names) x h = ap ElemKind-F.ElemKind::Tuple (so_many (eqb (length names) n) names x h)
+bracketed_is n (ElemKind-F.ElemKind::Tuple names) x h = ap ElemKind-F.ElemKind::Tuple (so_many (eqb (length names) n) n names x refl h).0
 bracketed_is n l x h = absurd (cc)
 
 pub counted_is : (l : ElemKind-F ElemKind TermKind) (x : Name × Card) → counted_in l ≡ Some x → l ≡ ElemKind-F.Count x.0 x.1
@@ -143,7 +129,7 @@ bracket_each ss n e x h = ap (spec.bracket_missing_in ss) (bracketed_is n (out-E
 
 pub tuples_right : (ss : Shapes) (n : ℕ) (t : Term) (es : List (Spanned ElemKind)) → t.kind ≡ k.Braces es → n ≡ length (sizes ss) → true ≡ is_some (all_of (bracketed_elem n) es) → flat_map (spec.bracket_missing ss) es ≡ spec.tuples_faults ss t
 tuples_right ss n t es is many h =
-    let one = there_is (all_of (bracketed_elem n) es) h in
+    let one = told (all_of (bracketed_elem n) es) (sym h) in
     told_as (bracketed_elem n) (spec.missing_in_turn (d.constants_of ss)) (spec.bracket_missing ss) (bracket_each ss n) es one.0 one.1
     ∙ tuples_by ss t (Some one.0) None (brackets_told n (length (sizes ss)) t es (Some one.0) is many one.1) (not_generated t es is)
 
@@ -179,47 +165,38 @@ module _ {A : Type 0} (form : Spanned ElemKind → Option (Name × A)) (key : (e
       braces_right form (λ pairs. (flat_map rule (spec.keys_in pairs) ++ spec.all_twice [] (spec.keys_in pairs)) ++ flat_map g pairs) ((flat_map (spec.key_faults rule) es ++ spec.all_twice [] (spec.keys es)) ++ flat_map h es) t es is right
       (λ xs a. ap₂ (λ (ys zs : List Fault). ys ++ zs) (keys_right form key says rule es xs a) (told_as form g h each es xs a))
 
-valency_right : (texts : List (List ℕ)) (t : Term) (es : List (Spanned ElemKind)) → t.kind ≡ k.Braces es → true ≡ is_some (all_of counted_elem es)
-    → (flat_map (spec.key_faults (spec.missing causes.NotMember texts)) es ++ spec.all_twice [] (spec.keys es)) ++ flat_map spec.count_faults es ≡ spec.valency_faults texts t
+pub valency_told : (texts : List (List ℕ)) (t : Term) (es : List (Spanned ElemKind)) → t.kind ≡ k.Braces es → true ≡ is_some (all_of counted_elem es) → (whole one other : Option Fault)
+    → one ≡ first (flat_map (spec.key_faults (spec.missing causes.NotMember texts)) es ++ spec.all_twice [] (spec.keys es)) → other ≡ first (flat_map spec.count_faults es) → whole ≡ earlier one other → whole ≡ first (spec.valency_faults texts t)
 unfolding spec.valency_faults counts_of counted_elem spec.count_faults spec.key_faults spec.key_of
-valency_right texts t es is h =
-    pairs_right counted_elem (λ e p k. ap spec.key_in (counted_is (out-ElemKind e.kind) p k)) (λ rule e p k. ap (spec.key_faults_in rule) (counted_is (out-ElemKind e.kind) p k)) (spec.missing causes.NotMember texts)
-    (λ p. spec.card_faults p.1) spec.count_faults (λ e p k. ap spec.count_faults_in (counted_is (out-ElemKind e.kind) p k)) t es is h
+valency_told texts t es is h =
+    sum_told (flat_map (spec.key_faults (spec.missing causes.NotMember texts)) es ++ spec.all_twice [] (spec.keys es)) (flat_map spec.count_faults es) (spec.valency_faults texts t)
+    (pairs_right counted_elem (λ e p k. ap spec.key_in (counted_is (out-ElemKind e.kind) p k)) (λ rule e p k. ap (spec.key_faults_in rule) (counted_is (out-ElemKind e.kind) p k)) (spec.missing causes.NotMember texts)
+    (λ p. spec.card_faults p.1) spec.count_faults (λ e p k. ap spec.count_faults_in (counted_is (out-ElemKind e.kind) p k)) t es is h)
 
 pub valency_wrong : (texts : List (List ℕ)) (t : Term) (es : List (Spanned ElemKind)) → t.kind ≡ k.Braces es → false ≡ is_some (all_of counted_elem es) → spec.wrong_kind t ≡ spec.valency_faults texts t
 unfolding spec.valency_faults counts_of
 valency_wrong texts t es is h = sym (braces_wrong counted_elem _ t es is h)
 
-mapping_right : (look : Look) (texts : List (List ℕ)) (s : Shape) (t : Term) (es : List (Spanned ElemKind)) → t.kind ≡ k.Braces es → true ≡ is_some (all_of keyed_elem es)
-    → (flat_map (spec.key_faults (spec.missing causes.NotMember texts)) es ++ spec.all_twice [] (spec.keys es)) ++ flat_map (spec.value_faults look s) es ≡ spec.mapping_faults look texts s t
+pub mapping_told : (look : Look) (texts : List (List ℕ)) (s : Shape) (t : Term) (es : List (Spanned ElemKind)) → t.kind ≡ k.Braces es → true ≡ is_some (all_of keyed_elem es) → (whole one other : Option Fault)
+    → one ≡ first (flat_map (spec.key_faults (spec.missing causes.NotMember texts)) es ++ spec.all_twice [] (spec.keys es)) → other ≡ first (flat_map (spec.value_faults look s) es) → whole ≡ earlier one other → whole ≡ first (spec.mapping_faults look texts s t)
 unfolding spec.mapping_faults pairs_of keyed_elem spec.value_faults spec.key_faults spec.key_of
-mapping_right look texts s t es is h =
-    pairs_right keyed_elem (λ e p k. ap spec.key_in (keyed_is (out-ElemKind e.kind) p k)) (λ rule e p k. ap (spec.key_faults_in rule) (keyed_is (out-ElemKind e.kind) p k)) (spec.missing causes.NotMember texts)
-    (λ p. spec.faults look s p.1) (spec.value_faults look s) (λ e p k. ap (spec.value_faults_in look s) (keyed_is (out-ElemKind e.kind) p k)) t es is h
+mapping_told look texts s t es is h =
+    sum_told (flat_map (spec.key_faults (spec.missing causes.NotMember texts)) es ++ spec.all_twice [] (spec.keys es)) (flat_map (spec.value_faults look s) es) (spec.mapping_faults look texts s t)
+    (pairs_right keyed_elem (λ e p k. ap spec.key_in (keyed_is (out-ElemKind e.kind) p k)) (λ rule e p k. ap (spec.key_faults_in rule) (keyed_is (out-ElemKind e.kind) p k)) (spec.missing causes.NotMember texts)
+    (λ p. spec.faults look s p.1) (spec.value_faults look s) (λ e p k. ap (spec.value_faults_in look s) (keyed_is (out-ElemKind e.kind) p k)) t es is h)
 
 pub mapping_wrong : (look : Look) (texts : List (List ℕ)) (s : Shape) (t : Term) (es : List (Spanned ElemKind)) → t.kind ≡ k.Braces es → false ≡ is_some (all_of keyed_elem es) → spec.wrong_kind t ≡ spec.mapping_faults look texts s t
 unfolding spec.mapping_faults pairs_of
 mapping_wrong look texts s t es is h = sym (braces_wrong keyed_elem _ t es is h)
 
-record_right : (look : Look) (fs : Fields) (t : Term) (es : List (Spanned ElemKind)) → t.kind ≡ k.Braces es → true ≡ is_some (all_of keyed_elem es)
-    → (flat_map (spec.key_faults (spec.missing causes.UnknownName (names_of fs))) es ++ spec.all_twice [] (spec.keys es)) ++ flat_map (spec.elem_faults look fs) es ≡ spec.record_faults look fs t
+pub record_told : (look : Look) (fs : Fields) (t : Term) (es : List (Spanned ElemKind)) → t.kind ≡ k.Braces es → true ≡ is_some (all_of keyed_elem es) → (whole one other : Option Fault)
+    → one ≡ first (flat_map (spec.key_faults (spec.missing causes.UnknownName (names_of fs))) es ++ spec.all_twice [] (spec.keys es)) → other ≡ first (flat_map (spec.elem_faults look fs) es) → whole ≡ earlier one other → whole ≡ first (spec.record_faults look fs t)
 unfolding spec.record_faults pairs_of keyed_elem spec.elem_faults spec.key_faults spec.key_of
-record_right look fs t es is h =
-    pairs_right keyed_elem (λ e p k. ap spec.key_in (keyed_is (out-ElemKind e.kind) p k)) (λ rule e p k. ap (spec.key_faults_in rule) (keyed_is (out-ElemKind e.kind) p k)) (spec.missing causes.UnknownName (names_of fs))
-    (spec.field_faults look fs) (spec.elem_faults look fs) (λ e p k. ap (spec.elem_faults_in look fs) (keyed_is (out-ElemKind e.kind) p k)) t es is h
+record_told look fs t es is h =
+    sum_told (flat_map (spec.key_faults (spec.missing causes.UnknownName (names_of fs))) es ++ spec.all_twice [] (spec.keys es)) (flat_map (spec.elem_faults look fs) es) (spec.record_faults look fs t)
+    (pairs_right keyed_elem (λ e p k. ap spec.key_in (keyed_is (out-ElemKind e.kind) p k)) (λ rule e p k. ap (spec.key_faults_in rule) (keyed_is (out-ElemKind e.kind) p k)) (spec.missing causes.UnknownName (names_of fs))
+    (spec.field_faults look fs) (spec.elem_faults look fs) (λ e p k. ap (spec.elem_faults_in look fs) (keyed_is (out-ElemKind e.kind) p k)) t es is h)
 
 pub record_wrong : (look : Look) (fs : Fields) (t : Term) (es : List (Spanned ElemKind)) → t.kind ≡ k.Braces es → false ≡ is_some (all_of keyed_elem es) → spec.wrong_kind t ≡ spec.record_faults look fs t
 unfolding spec.record_faults pairs_of
 record_wrong look fs t es is h = sym (braces_wrong keyed_elem _ t es is h)
-
-pub valency_told : (texts : List (List ℕ)) (t : Term) (es : List (Spanned ElemKind)) → t.kind ≡ k.Braces es → true ≡ is_some (all_of counted_elem es) → (whole one other : Option Fault)
-    → one ≡ first (flat_map (spec.key_faults (spec.missing causes.NotMember texts)) es ++ spec.all_twice [] (spec.keys es)) → other ≡ first (flat_map spec.count_faults es) → whole ≡ earlier one other → whole ≡ first (spec.valency_faults texts t)
-valency_told texts t es is h = sum_told (flat_map (spec.key_faults (spec.missing causes.NotMember texts)) es ++ spec.all_twice [] (spec.keys es)) (flat_map spec.count_faults es) (spec.valency_faults texts t) (valency_right texts t es is h)
-
-pub mapping_told : (look : Look) (texts : List (List ℕ)) (s : Shape) (t : Term) (es : List (Spanned ElemKind)) → t.kind ≡ k.Braces es → true ≡ is_some (all_of keyed_elem es) → (whole one other : Option Fault)
-    → one ≡ first (flat_map (spec.key_faults (spec.missing causes.NotMember texts)) es ++ spec.all_twice [] (spec.keys es)) → other ≡ first (flat_map (spec.value_faults look s) es) → whole ≡ earlier one other → whole ≡ first (spec.mapping_faults look texts s t)
-mapping_told look texts s t es is h = sum_told (flat_map (spec.key_faults (spec.missing causes.NotMember texts)) es ++ spec.all_twice [] (spec.keys es)) (flat_map (spec.value_faults look s) es) (spec.mapping_faults look texts s t) (mapping_right look texts s t es is h)
-
-pub record_told : (look : Look) (fs : Fields) (t : Term) (es : List (Spanned ElemKind)) → t.kind ≡ k.Braces es → true ≡ is_some (all_of keyed_elem es) → (whole one other : Option Fault)
-    → one ≡ first (flat_map (spec.key_faults (spec.missing causes.UnknownName (names_of fs))) es ++ spec.all_twice [] (spec.keys es)) → other ≡ first (flat_map (spec.elem_faults look fs) es) → whole ≡ earlier one other → whole ≡ first (spec.record_faults look fs t)
-record_told look fs t es is h = sum_told (flat_map (spec.key_faults (spec.missing causes.UnknownName (names_of fs))) es ++ spec.all_twice [] (spec.keys es)) (flat_map (spec.elem_faults look fs) es) (spec.record_faults look fs t) (record_right look fs t es is h)

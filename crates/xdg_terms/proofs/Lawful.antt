@@ -1,9 +1,9 @@
 -- The sets, maps and records of terms without an offence.
 use Rattle.std.proofs.Common.{◌≡◌, ◌⊎◌, inl, inr, ℕ, ◌<◌, List, [], ◌++◌, length, get_or, Some, None, refl, sym, ap, ◌∙◌}
-use Rattle.std.specs.Prelude.{◌↔◌, Bool, true, false, ◌||◌}
+use Rattle.std.specs.Prelude.{◌↔◌, Bool, true, false, ◌||◌, nat_lt}
 use Rattle.std.specs.List.{flat_map}
 use Rattle.std.specs.List.Sorted.{IsStrictlyIncreasing}
-use Rattle.std.proofs.lemmas.Bool.{false≢true, or_cases, cases_lt}
+use Rattle.std.proofs.lemmas.Bool.{false≢true, or_cases, and_parts, ltb-true}
 use Rattle.xdg_ast.specs.declared.names.Name.{Name}
 use Rattle.xdg_ast.specs.declared.names.Spanned.{Spanned}
 use Rattle.xdg_ast.specs.declared.terms.GenKind.{GenKind}
@@ -20,12 +20,12 @@ use Rattle.xdg_terms.specs.Built.{listed, generated, set_in, set_of, elems_of}
 use Rattle.xdg_terms.proofs.SameMembers.{as_set_has, as_set_rises}
 use Rattle.xdg_terms.proofs.Right.{Stands, told}
 use Rattle.xdg_terms.proofs.Read.{braces_read}
-use Rattle.xdg_terms.proofs.Meant.{domain_set, bracket_set, asked_named}
+use Rattle.xdg_terms.proofs.Meant.{domain_set, bracket_set}
 use Rattle.xdg_facts.specs.Membership.{In, Differ}
-use Rattle.xdg_facts.proofs.In.{in_left, flat_map_in}
+use Rattle.xdg_facts.proofs.In.{in_left, flat_map_in, map_in}
 use Rattle.xdg_facts.specs.Rises.{has}
 use Rattle.xdg_ast.specs.Texts.{texts as texts_of}
-use Rattle.xdg_facts.proofs.Rising.{has_beyond, has_of}
+use Rattle.xdg_facts.proofs.Rising.{has_of, has_tested}
 use Rattle.xdg_domain.proofs.Numbers.{below_has, numbers_increase}
 
 -- ---- sets
@@ -38,11 +38,7 @@ domain_set_in cs (TermKind-F.Braces elems) differ formed stand =
     let names = all_told (all_of plain_elem elems) in
     let is : all_of plain_elem elems ≡ Some names = r.1 ∙ ap (λ z. Some z) (sym (ap all_told r.1)) in (
       as_set_rises (listed (domain cs) elems),
-      λ n. (
-          let both = domain_set cs elems names differ is (λ name among. stand cs name (asked_named cs names name among)) n in (
-            (λ h. both.0 (sym (as_set_has (listed (domain cs) elems) n) ∙ h)),
-            (λ h. as_set_has (listed (domain cs) elems) n ∙ both.1 h),
-          )),
+      λ n. rw (as_set_has (listed (domain cs) elems) n) (domain_set cs elems names differ is (λ name among. stand cs name (map_in (λ (z : Name). (cs, z)) names name among)) n),
     )
 domain_set_in cs k differ formed stand = absurd (false≢true formed)
 
@@ -55,12 +51,10 @@ Named ss k n =
 generated_has : (ss : Shapes) (gen : Gen) (n : ℕ) → (has (generated (tuple ss) gen) n ≡ true) ↔ ((n < product (sizes ss)) × (fulfils (tuple_texts ss n) gen.kind ≡ true))
 unfolding generated
 generated_has ss gen n =
+    let all = product (sizes ss) in
     let test : ℕ → Bool = λ m. fulfils (tuple_texts ss m) gen.kind in (
-      (λ h. elim (cases_lt n (product (sizes ss))) [
-        | inl below ↦ (below, sym (has_of (product (sizes ss)) test n below) ∙ h)
-        | inr beyond ↦ absurd (false≢true (sym (has_beyond (product (sizes ss)) test n beyond) ∙ h))
-      ]),
-      (λ h. has_of (product (sizes ss)) test n h.0 ∙ h.1),
+      (λ h. (let b = and_parts (nat_lt n all) (test n) (sym (has_tested all test n) ∙ h) in (ltb-true n all b.0, b.1))),
+      (λ h. has_of all test n h.0 ∙ h.1),
     )
 
 generated_rises : (ss : Shapes) (gen : Gen) → IsStrictlyIncreasing (generated (tuple ss) gen)
@@ -77,11 +71,11 @@ tuple_set_in ss (TermKind-F.Braces elems) type formed stand =
     let lists = all_told (all_of form elems) in
     let is : all_of form elems ≡ Some lists = r.1 ∙ ap (λ z. Some z) (sym (ap all_told r.1)) in (
       as_set_rises (listed (tuple ss) elems),
-      λ n. (
+      λ n. rw (as_set_has (listed (tuple ss) elems) n) (
           let both = bracket_set ss elems lists type is (λ names among texts name asked.
           stand texts name (in_left (flat_map (asked_in_turn (constants_of ss)) lists) [] (texts, name) (flat_map_in (asked_in_turn (constants_of ss)) lists names (texts, name) among asked))) n in (
-            (λ h. (let b = both.0 (sym (as_set_has (listed (tuple ss) elems) n) ∙ h) in (b.0, inl b.1))),
-            (λ h. as_set_has (listed (tuple ss) elems) n ∙ both.1 (h.0, elim h.1 [ inl b ↦ b | inr g ↦ absurd (none_some g.0 g.1.0) ])),
+            (λ h. (let b = both.0 h in (b.0, inl b.1))),
+            (λ h. both.1 (h.0, elim h.1 [ inl b ↦ b | inr g ↦ absurd (none_some g.0 g.1.0) ])),
           )),
     )
   where

@@ -6,7 +6,6 @@ pub mod Saying
 pub mod Formed
 pub mod Law
 pub mod Loops
-pub mod Sizes
 pub mod Right
 pub mod Read
 pub mod Meant

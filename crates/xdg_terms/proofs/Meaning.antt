@@ -8,7 +8,7 @@ use Rattle.xdg_ast.specs.declared.names.Name.{Name}
 use Rattle.xdg_domain.specs.Cards.{IsCards}
 use Rattle.xdg_domain.specs.Valencies.{said_at, KeysRise}
 use Rattle.xdg_domain.specs.Shapes as d
-use Rattle.xdg_domain.specs.Shapes.{Shape, domain, tuple, truth, integer, text, set, iset, card, valency, mapping, fields, Shapes, Fields, no_field, field_then, sizes, count, constants, constants_of, IsDomain, IsSmall, IsTuple, IsMapped, IsType, AreTypes}
+use Rattle.xdg_domain.specs.Shapes.{Shape, domain, tuple, truth, integer, text, set, iset, card, valency, mapping, fields, Shapes, Fields, no_field, field_then, sizes, count, constants, constants_of, IsDomain, IsSmall, IsMapped, IsType, AreTypes}
 use Rattle.xdg_domain.specs.Tuples.{index}
 use Rattle.xdg_domain.specs.Values.{EachSaid, IsIn, IsFieldOf, IsValue}
 use Rattle.xdg_domain.specs.declared.values.Value.{Value, out-Value}
@@ -28,6 +28,7 @@ use Rattle.xdg_terms.proofs.Lawful.{set_law, set_below, counts_read, pairs_read}
 use Rattle.xdg_terms.proofs.SaidKeys.{made_of, put_rises, put_here, put_later, said_made, from_rises, keys_said, keys_each}
 use Rattle.xdg_facts.proofs.Texts.{same_text, is_same}
 use Rattle.xdg_facts.specs.Membership.{In, Differ}
+use Rattle.xdg_facts.proofs.In.{map_in}
 
 -- the term means the value, which is one of the type where its numbers are in range
 abbrev pub GoodIn : Bindings → Shape → Term → Value-F Value → Type 0
@@ -90,10 +91,6 @@ domain_count : (k : Shape) → IsDomain k → length (constants k) ≤ count k
 domain_count (domain cs) h = omega arith
 domain_count k h = absurd h
 
-in_values : {A : Type 0} (pairs : List (Name × A)) (pair : Name × A) (w : A) → In pairs pair → pair.1 ≡ w → In (map (λ (other : Name × A). other.1) pairs) w
-in_values [] pair w h e = absurd h
-in_values (other ∷ pairs) pair w h e = elim h [ inl is ↦ inl (ap (λ (z : Name × _). z.1) is ∙ e) | inr k ↦ inr (in_values pairs pair w k e) ]
-
 valency_good : (bs : Bindings) (k : Shape) (t : Term) → IsDomain k → RightHere (valency k) t → GoodIn bs (valency k) t (Value-F.Valency (said_from (λ (w : Card). card_numbers w.kind) (first_for counted_elem (elems_of t)) 0 (constants k)))
 valency_good bs k t type h =
     let make : Card → List ℕ = λ w. card_numbers w.kind in
@@ -103,7 +100,7 @@ valency_good bs k t type h =
     let is : counts_of t ≡ Some pairs = r.1 ∙ ap (λ z. Some z) (sym (ap all_told r.1)) in
     let same : (name : List ℕ) → find name ≡ written_for pairs name = same_first counted_elem (elems_of t) pairs (counts_read t pairs is) in
     let each : (name : List ℕ) (w : Card) → written_for pairs name ≡ Some w → AllowedBy w (make w) =
-    λ name w e. (let q = written pairs name w e in allowed w (card_right (valency k) t w h (in_values pairs q.pair w q.among q.value))) in
+    λ name w e. (let q = written pairs name w e in allowed w (card_right (valency k) t w h (subst (In (map (λ (pair : Name × Card). pair.1) pairs)) q.value (map_in (λ (pair : Name × Card). pair.1) pairs q.pair q.among)))) in
     let rises : KeysRise 0 (said_from make find 0 (constants k)) = from_rises AllowedBy make find 0 (constants k) in
     ((rises, keys_said AllowedBy make find pairs (constants k) same each), λ _. (rises, keys_each IsCards make find pairs same (λ name w e. (each name w e).0) (count k) (constants k) (domain_count k type)))
 

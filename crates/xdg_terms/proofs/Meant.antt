@@ -8,13 +8,14 @@ use Rattle.xdg_domain.specs.Shapes.{domain, tuple, Shapes, no_shape, shape_then,
 use Rattle.xdg_domain.specs.Tuples.{index, places, InRange}
 use Rattle.xdg_domain.proofs.TupleNumbers.{index_below, places_of_index, index_of_places, places_in_range}
 use Rattle.xdg_terms.specs.Forms.{all_of, plain_elem, bracketed_elem}
-use Rattle.xdg_terms.specs.Offences.{asked_in, asked_in_turn}
+use Rattle.xdg_terms.specs.Offences.{asked_in_turn}
 use Rattle.xdg_terms.specs.Means.{IsAt, chosen, tuple_texts}
 use Rattle.xdg_terms.specs.Built.{place_from, places_behind, number_of_places, tuple_number, listed}
 use Rattle.xdg_terms.proofs.Placing.{placed, are_chosen}
 use Rattle.xdg_terms.proofs.Right.{Stands}
 use Rattle.xdg_terms.proofs.Read.{listed_numbers, numbers_listed, plain_alike, bracketed_alike, each_long}
 use Rattle.xdg_facts.specs.Membership.{In, Differ}
+use Rattle.xdg_facts.proofs.In.{in_get, in_map, map_in}
 use Rattle.xdg_facts.specs.Rises.{has}
 use Rattle.xdg_domain.proofs.Constants.{domain_differs}
 use Rattle.xdg_ast.specs.Texts.{texts as texts_of}
@@ -28,9 +29,7 @@ at_place cs name n h =
     (subst (λ k. k < length cs) e p.within, subst (λ k. get_or cs k [] ≡ name) e p.name_is)
 
 pub among_at : (cs : List (List ℕ)) (k : ℕ) (t : List ℕ) → k < length cs → get_or cs k [] ≡ t → In cs t
-among_at [] k t within is = absurd (omega (arith, within))
-among_at (c ∷ cs) zero t within is = inl is
-among_at (c ∷ cs) (suc k) t within is = inr (among_at cs k t (omega (arith, within)) is)
+among_at cs k t within is = subst (In cs) is (in_get cs k [] within)
 
 -- in a list whose texts all differ a text stands in one place
 pub one_place : (cs : List (List ℕ)) (m n : ℕ) → Differ cs → m < length cs → n < length cs → get_or cs m [] ≡ get_or cs n [] → m ≡ n
@@ -92,28 +91,15 @@ number_of_tuple ss names n type same h within texts =
 
 -- ---- sets
 
--- the texts that stand in a list of names
-named_among : (names : List Name) (name : Name) (t : List ℕ) → In names name → name.text ≡ t → In (texts_of names) t
-named_among [] name t h is = absurd h
-named_among (x ∷ names) name t h is = elim h [ inl e ↦ inl (ap (λ (z : Name). z.text) e ∙ is) | inr k ↦ inr (named_among names name t k is) ]
-
-among_named : (names : List Name) (t : List ℕ) → In (texts_of names) t → (name : Name) × (In names name × (name.text ≡ t))
-among_named [] t h = absurd h
-among_named (x ∷ names) t h = elim h [ inl e ↦ (x, (inl refl, e)) | inr k ↦ (let r = among_named names t k in (r.0, (inr r.1.0, r.1.1))) ]
-
-pub asked_named : (texts : List (List ℕ)) (names : List Name) (name : Name) → In names name → In (asked_in texts names) (texts, name)
-asked_named texts [] name h = absurd h
-asked_named texts (x ∷ names) name h = elim h [ inl e ↦ inl (ap (λ (z : Name). (texts, z)) e) | inr k ↦ inr (asked_named texts names name k) ]
-
 pub domain_set : (cs : List (List ℕ)) (elems : List (Spanned ElemKind)) (names : List Name) → Differ cs → all_of plain_elem elems ≡ Some names → ((name : Name) → In names name → Stands cs name) → (n : ℕ)
     → (has (listed (domain cs) elems) n ≡ true) ↔ ((n < length cs) × In (texts_of names) (get_or cs n []))
 domain_set cs elems names differ read stand n = (
   (λ h. (
       let r = listed_numbers (domain cs) plain_elem (λ (name : Name). place_from 0 cs name.text) (plain_alike cs) elems names n read h in
       let p = at_place cs (r.0).text n r.1.1 in
-      (p.0, named_among names r.0 (get_or cs n []) r.1.0 (sym p.1)))),
+      (p.0, subst (In (texts_of names)) (sym p.1) (map_in (λ (name : Name). name.text) names r.0 r.1.0)))),
   (λ h. (
-      let r = among_named names (get_or cs n []) h.1 in
+      let r = in_map (λ (name : Name). name.text) names (get_or cs n []) h.1 in
       let s = stand r.0 r.1.0 in
       let p = at_place cs (r.0).text s.0 s.1 in
       let same : s.0 ≡ n = one_place cs s.0 n differ p.0 h.0 (p.1 ∙ r.1.1) in

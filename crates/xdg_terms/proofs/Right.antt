@@ -1,8 +1,8 @@
 -- What a term without an offence has: its form, its constants, its cardinalities.
 use Rattle.std.proofs.Common.{◌≡◌, inl, inr, ℕ, ◌<◌, ◌+◌, List, [], ◌∷◌, Option, Some, None, refl, sym, ap, ◌∙◌, subst, arith}
-use Rattle.std.specs.Prelude.{Bool, true, false, nat_lt, nat_le, ◌&&◌, ◌==◌, if◌then◌else◌, bytes_eq}
+use Rattle.std.specs.Prelude.{Bool, true, false, nat_le, ◌==◌, if◌then◌else◌, bytes_eq}
 use Rattle.std.specs.List.{list_any}
-use Rattle.std.proofs.lemmas.Bool.{true≢false, false≢true, or_left, eq-eqb, cases_lt, lt-ltb, le-ltb, le-leb}
+use Rattle.std.proofs.lemmas.Bool.{true≢false, false≢true, or_left, eq-eqb, cases_lt, le-leb}
 use Rattle.xdg_base.specs.Faults.{fault_at}
 use Rattle.xdg_base.specs.declared.faults.Cause.TheVariants as causes
 use Rattle.xdg_base.specs.declared.faults.Fault.{Fault}
@@ -20,7 +20,7 @@ use Rattle.xdg_facts.proofs.Truths.{and_2}
 use Rattle.xdg_facts.proofs.Texts.{is_same}
 use Rattle.xdg_facts.specs.Membership.{In}
 use Rattle.xdg_facts.specs.Rises.{has}
-use Rattle.xdg_facts.proofs.Rising.{numbers_agree, has_beyond, has_of, rises_of}
+use Rattle.xdg_facts.proofs.Rising.{numbers_whole, has_tested, has_of, rises_of}
 
 -- nothing is wrong with the term itself
 abbrev pub RightHere : Shape → Term → Type 0
@@ -112,22 +112,16 @@ witness written (c.Interval low high) h = (
 not_empty : (p : ℕ → Bool) (n : ℕ) → n < 128 → p n ≡ true → cards p ≡ [] → ⊥
 not_empty p n below passes none = true≢false (sym passes ∙ sym (has_of 128 p n below) ∙ ap (λ s. has s n) none)
 
-all_kept : (s : List ℕ) → (s ≡ [] → ⊥) → s ≡ some_or_all s
+pub all_kept : (s : List ℕ) → (s ≡ [] → ⊥) → s ≡ some_or_all s
 all_kept [] h = absurd (h refl)
 all_kept (n ∷ ns) h = refl
 
-has_cards : (p : ℕ → Bool) (n : ℕ) → has (cards p) n ≡ (nat_lt n 128 && p n)
-has_cards p n = elim (cases_lt n 128) [
-  | inl below ↦ has_of 128 p n below ∙ ap (λ b. b && p n) (sym (lt-ltb n 128 below))
-  | inr beyond ↦ has_beyond 128 p n beyond ∙ ap (λ b. b && p n) (sym (le-ltb n 128 beyond))
-]
-
 are_allowed : (p : ℕ → Bool) (n : ℕ) → n < 128 → p n ≡ true → IsCards (cards p)
-are_allowed p n below passes = record { rises = rises_of 128 p; whole = numbers_agree 128 p (has (cards p)) (λ k low. sym (has_of 128 p k low)); some = not_empty p n below passes }
+are_allowed p n below passes = record { rises = rises_of 128 p; whole = numbers_whole 128 p; some = not_empty p n below passes }
 
 pub allowed : (written : Card) → CardRight written → AllowedBy written (card_numbers written.kind)
 unfolding card_numbers
 allowed written h =
     let w = witness written written.kind h in
     let same : cards (allows written.kind) ≡ some_or_all (cards (allows written.kind)) = all_kept (cards (allows written.kind)) (not_empty (allows written.kind) w.0 w.1.0 w.1.1) in
-    subst (AllowedBy written) same (are_allowed (allows written.kind) w.0 w.1.0 w.1.1, has_cards (allows written.kind))
+    subst (AllowedBy written) same (are_allowed (allows written.kind) w.0 w.1.0 w.1.1, has_tested 128 (allows written.kind))

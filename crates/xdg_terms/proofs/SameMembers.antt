@@ -1,16 +1,15 @@
 -- Rising lists with the same members are the same, and a list of the numbers that pass a test, made number by number.
-use Rattle.std.proofs.Common.{◌≡◌, ℕ, ◌+◌, List, [], ◌∷◌, ◌++◌, refl, ap, sym, ◌∙◌, inl, inr}
+use Rattle.std.proofs.Common.{◌≡◌, ℕ, ◌+◌, List, [], ◌∷◌, ◌++◌, refl, ap, sym, ◌∙◌}
 use Rattle.std.proofs.lemmas.List.{append-nil}
 use Rattle.std.specs.Prelude.{Bool, true, false, cond, filter}
 use Rattle.std.specs.List.{range_with_len}
 use Rattle.std.specs.List.Sorted.{IsStrictlyIncreasing}
-use Rattle.std.proofs.lemmas.Bool.{cases_lt}
 use Rattle.std.proofs.lemmas.List.Elements.{filter-append}
 use Rattle.xdg_domain.proofs.Sorting.{range_more}
 use Rattle.xdg_domain.specs.Joined.{above}
 use Rattle.xdg_terms.specs.Built.{as_set}
 use Rattle.xdg_facts.specs.Rises.{has, numbers_below}
-use Rattle.xdg_facts.proofs.Rising.{has_beyond, has_of}
+use Rattle.xdg_facts.proofs.Rising.{has_exact}
 use Rattle.xdg_domain.proofs.Numbers.{has_beyond_above, increasing_same, numbers_increase}
 
 -- ---- rising lists
@@ -33,7 +32,7 @@ below_same p n made is fails = is ∙ sym (append-nil (numbers_below n p)) ∙ a
 
 pub as_set_has : (ns : List ℕ) (n : ℕ) → has (as_set ns) n ≡ has ns n
 unfolding as_set
-as_set_has ns n = elim (cases_lt n (above ns)) [ inl below ↦ has_of (above ns) (has ns) n below | inr beyond ↦ has_beyond (above ns) (has ns) n beyond ∙ sym (has_beyond_above ns n beyond) ]
+as_set_has ns = has_exact (above ns) (has ns) (has_beyond_above ns)
 
 pub as_set_rises : (ns : List ℕ) → IsStrictlyIncreasing (as_set ns)
 unfolding as_set

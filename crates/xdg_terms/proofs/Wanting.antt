@@ -12,7 +12,8 @@ use Rattle.xdg_terms.specs.Forms.{Term, keyed_elem, all_of, braces_in, pairs_of}
 use Rattle.xdg_terms.specs.Offences.{is_some, all_told}
 use Rattle.xdg_terms.specs.Faults.{fields_in}
 use Rattle.xdg_terms.specs.Wanted.{Want, params_in, params_under, params_inside, value_params_in, value_params, part_params_in, part_params}
-use Rattle.xdg_terms.proofs.Formed.{keyed_is, told_as, there_is, there_is_none, out_braces}
+use Rattle.xdg_terms.proofs.Formed.{keyed_is, told_as, there_is_none, out_braces}
+use Rattle.xdg_terms.proofs.Right.{told}
 
 pairs_are : (t : Term) (es : List (Spanned ElemKind)) → t.kind ≡ k.Braces es → pairs_of t ≡ all_of keyed_elem es
 unfolding pairs_of
@@ -20,7 +21,7 @@ pairs_are t es is = ap (braces_in keyed_elem) (out_braces t es is)
 
 -- all elements are keys with terms
 pub all_keyed : (t : Term) (es : List (Spanned ElemKind)) → t.kind ≡ k.Braces es → true ≡ is_some (all_of keyed_elem es) → all_of keyed_elem es ≡ Some (all_told (pairs_of t))
-all_keyed t es is h = let one = there_is (all_of keyed_elem es) h in one.1 ∙ ap Some (sym (ap all_told (pairs_are t es is ∙ one.1)))
+all_keyed t es is h = let one = told (all_of keyed_elem es) (sym h) in one.1 ∙ ap Some (sym (ap all_told (pairs_are t es is ∙ one.1)))
 
 pub not_keyed : (t : Term) (es : List (Spanned ElemKind)) → t.kind ≡ k.Braces es → false ≡ is_some (all_of keyed_elem es) → all_of keyed_elem [] ≡ Some (all_told (pairs_of t))
 unfolding all_of

@@ -5,7 +5,7 @@ use Rattle.xdg_names.specs.First.{first}
 use Rattle.xdg_terms.specs.Faults as spec
 use Rattle.xdg_terms.specs.Readings.{look_of}
 use Rattle.xdg_terms.proofs.Loops.{each_turn}
-use Rattle.xdg_terms.proofs.Sizes.{record_shape}
+use Rattle.xdg_domain.proofs.Shaped.{shape_rec}
 use Rattle.xdg_terms.proofs.Formed.{mapping_told, mapping_wrong, record_told, record_wrong}
 use Rattle.xdg_terms.proofs.checking.+check_term.Goals as goal
 
@@ -34,4 +34,4 @@ check_seen-returns-in-Rec t c =
     let written = c.args.term.now in
     let all = c.as_slice-in-Rec.result.now in
     let is : y.Rec all ≡ c.args.ty.now = cc in
-    c.check_record.ensures ∙ ap (λ s. first (spec.faults_in look s written)) (sym (record_shape all) ∙ ap shape is)
+    c.check_record.ensures ∙ ap (λ s. first (spec.faults_in look s written)) (sym (shape_rec all) ∙ ap shape is)

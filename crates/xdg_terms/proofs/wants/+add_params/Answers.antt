@@ -4,7 +4,7 @@ use Rattle.xdg_domain.specs.declared.types.Ty.TheVariants as y
 use Rattle.xdg_domain.specs.Shapes.{shape, mapping}
 use Rattle.xdg_terms.specs.Faults.{fields_in}
 use Rattle.xdg_terms.specs.Wanted as spec
-use Rattle.xdg_terms.proofs.Sizes.{record_shape}
+use Rattle.xdg_domain.proofs.Shaped.{shape_rec}
 use Rattle.xdg_terms.proofs.Wanting.{inside_map, inside_record, under_here}
 use Rattle.xdg_terms.proofs.wants.+add_params.Goals as goal
 use Rattle.xdg_domain.proofs.Opened.{shape_map}
@@ -20,7 +20,7 @@ add_inside-returns-in-Rec t c =
     let all = c.as_slice.result.now in
     let is : c.args.ty.now ≡ y.Rec all = cc in
     subst (λ us. IfOk c.add_parts.result (λ _. spec.wants_of c.add_parts.new.found.items ≡ spec.wants_of c.args.found.now.items ++ us))
-    (inside_record c.args.params.now (shape c.args.ty.now) (fields_in all) c.args.term.now c.keyed-in-Rec.result.now (ap shape is ∙ record_shape all) c.keyed-in-Rec.ensures)
+    (inside_record c.args.params.now (shape c.args.ty.now) (fields_in all) c.args.term.now c.keyed-in-Rec.result.now (ap shape is ∙ shape_rec all) c.keyed-in-Rec.ensures)
     c.add_parts.ensures
 
 pub add_under-returns-then-eq : goal.add_under-returns-then-eq
