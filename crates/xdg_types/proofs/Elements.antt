@@ -1,14 +1,12 @@
 -- Texts that stand in lists, and lists whose texts differ.
-use Rattle.std.proofs.Common.{◌≡◌, ◌⊎◌, inl, inr, ℕ, zero, suc, ◌<◌, ◌≤◌, List, [], ◌∷◌, ◌++◌, length, ap, sym, ◌∙◌, refl, arith}
-use Rattle.std.specs.Str.{bytes_eq}
-use Rattle.std.proofs.lemmas.Bool.{cases_Bool, true≢false, false_from_ne_true}
-use Rattle.std.proofs.lemmas.Slice.Eq.{bytes_eq-Decides}
+use Rattle.std.proofs.Common.{◌≡◌, ◌⊎◌, inl, inr, ℕ, zero, suc, ◌<◌, ◌≤◌, List, [], ◌∷◌, ◌++◌, length, ap, sym, refl, arith}
+use Rattle.std.proofs.lemmas.Bool.{cases_Bool}
 use Rattle.xdg_ast.specs.declared.names.Name.{Name}
 use Rattle.xdg_names.specs.Texts.{has_text, AllDiffer}
-use Rattle.xdg_names.proofs.Texts.{has_among}
+use Rattle.xdg_names.proofs.Texts.{has_among, not_among, no_text}
 use Rattle.xdg_facts.specs.Membership.{In, Differ}
 use Rattle.xdg_ast.specs.Texts.{texts}
-use Rattle.xdg_facts.proofs.In.{in_append}
+use Rattle.xdg_facts.proofs.In.{in_append, in_map, map_in}
 
 pub not_more : (m n : ℕ) → (m < n → ⊥) → n ≤ m
 not_more m n h = omega arith
@@ -16,18 +14,10 @@ not_more m n h = omega arith
 -- ---- membership
 
 pub among_or_not : (xs : List (List ℕ)) (t : List ℕ) → In xs t ⊎ (In xs t → ⊥)
-among_or_not [] t = inr (λ h. h)
-among_or_not (x ∷ xs) t = elim (cases_Bool (bytes_eq x t)) [
-  | inl e ↦ inl (inl ((bytes_eq-Decides x t).0 e))
-  | inr e ↦ elim (among_or_not xs t) [
-    | inl k ↦ inl (inr k)
-    | inr k ↦ inr (λ h. elim h [ inl same ↦ true≢false (sym ((bytes_eq-Decides x t).1 same) ∙ e) | inr l ↦ k l ])
-  ]
-]
+among_or_not xs t = elim (cases_Bool (has_text xs t)) [ inl e ↦ inl (has_among xs t e) | inr e ↦ inr (not_among xs t e) ]
 
 pub in_texts : (ns : List Name) (n : Name) → In ns n → In (texts ns) n.text
-in_texts [] n h = absurd h
-in_texts (m ∷ ns) n h = elim h [ inl e ↦ inl (ap (λ (k : Name). k.text) e) | inr k ↦ inr (in_texts ns n k) ]
+in_texts = map_in (λ n. n.text)
 
 -- ---- parts of lists
 
@@ -57,11 +47,7 @@ among_part (n ∷ ns) t h = elim h [
 ]
 
 pub among_name : (ns : List Name) (t : List ℕ) → In (texts ns) t → (n : Name) × (In ns n × (n.text ≡ t))
-among_name [] t h = absurd h
-among_name (n ∷ ns) t h = elim h [
-  | inl e ↦ (n, (inl refl, e))
-  | inr k ↦ (let r = among_name ns t k in (r.0, (inr r.1.0, r.1.1)))
-]
+among_name = in_map (λ n. n.text)
 
 -- ---- lists whose texts differ
 
@@ -83,4 +69,4 @@ differ_append (x ∷ xs) ys h k apart = (
 -- texts that differ are found each at its own place
 pub all_differ : (xs : List (List ℕ)) → Differ xs → AllDiffer xs
 all_differ [] h = tt
-all_differ (x ∷ xs) h = (false_from_ne_true (has_text xs x) (λ e. h.0 (has_among xs x e)), all_differ xs h.1)
+all_differ (x ∷ xs) h = (no_text xs x h.0, all_differ xs h.1)

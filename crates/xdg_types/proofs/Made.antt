@@ -12,6 +12,7 @@ use Rattle.xdg_types.specs.declared.table.DimType.{DimType}
 use Rattle.xdg_types.specs.Parts.{Dimension}
 use Rattle.xdg_types.specs.Table.{AreDims}
 use Rattle.xdg_facts.specs.Membership.{In, Differ}
+use Rattle.xdg_facts.proofs.In.{in_get, map_in}
 use Rattle.xdg_ast.specs.Texts.{texts}
 
 -- ---- names by number
@@ -20,11 +21,6 @@ abbrev pub names_in : List DimType → List (List ℕ)
 names_in dims = map (λ dim. dim.name) dims
 
 module _ {A : Type 0} (name : A → List ℕ) where
-  among_at : (xs : List A) (k : ℕ) (d : A) → k < length xs → In (map name xs) (name (get_or xs k d))
-  among_at [] k d h = absurd (omega arith)
-  among_at (x ∷ xs) zero d h = inl refl
-  among_at (x ∷ xs) (suc k) d h = inr (among_at xs k d (omega arith))
-
   fresh : (xs : List A) (k : ℕ) (d : A) → Differ (map name xs) → k < length xs → has_text (map name (take k xs)) (name (get_or xs k d)) ≡ false
   fresh [] k d differ h = absurd (omega arith)
   fresh (x ∷ xs) zero d differ h = refl
@@ -32,7 +28,7 @@ module _ {A : Type 0} (name : A → List ℕ) where
       let less : k < length xs = omega arith in
       let t = name (get_or xs k d) in
       let other : bytes_eq (name x) t ≡ false = elim (cases_Bool (bytes_eq (name x) t)) [
-        | inl e ↦ absurd (differ.0 (subst (In (map name xs)) (sym ((bytes_eq-Decides (name x) t).0 e)) (among_at xs k d less)))
+        | inl e ↦ absurd (differ.0 (subst (In (map name xs)) (sym ((bytes_eq-Decides (name x) t).0 e)) (map_in name xs (get_or xs k d) (in_get xs k d less))))
         | inr e ↦ e
       ] in
       ap (λ b. b || has_text (map name (take k xs)) t) other ∙ fresh xs k d differ.1 less
