@@ -128,12 +128,16 @@ mutual
   tells_in text (Value-F.Str a) (Value-F.Str b) g h = text_told a b (same_list a b) refl
   tells_in (set s) (Value-F.Set a) (Value-F.Set b) g h = rw v.outs-Set (either_is a b)
   tells_in (iset s) (Value-F.Set a) (Value-F.Set b) g h = rw v.outs-Set (both_is a b)
-  tells_in card (Value-F.Card a) (Value-F.Card b) g h = made_told of_card v.Card refl (λ c. refl) (allowed a b) _ (AllowsBoth a b) (λ z. JoinsIn card (Value-F.Card a) (Value-F.Card b) (out-Value z)) (λ c k. rw (v.outs-Card c) k) (allowed_tells a b g)
-  tells_in (valency key) (Value-F.Valency a) (Value-F.Valency b) g h = made_told of_valency v.Valency refl (λ c. refl) (merged (λ _. allowed) a b) _ (λ c. SaysBoth (λ _. AllowsBoth) a b c) (λ z. JoinsIn (valency key) (Value-F.Valency a) (Value-F.Valency b) (out-Value z)) (λ c k. rw (v.outs-Valency c) k)
+  tells_in card (Value-F.Card a) (Value-F.Card b) g h =
+      made_told of_card v.Card refl (λ c. refl) (allowed a b) _ (AllowsBoth a b) (λ z. JoinsIn card (Value-F.Card a) (Value-F.Card b) (out-Value z)) (λ c k. rw (v.outs-Card c) k) (allowed_tells a b g)
+  tells_in (valency key) (Value-F.Valency a) (Value-F.Valency b) g h =
+      made_told of_valency v.Valency refl (λ c. refl) (merged (λ _. allowed) a b) _ (λ c. SaysBoth (λ _. AllowsBoth) a b c) (λ z. JoinsIn (valency key) (Value-F.Valency a) (Value-F.Valency b) (out-Value z)) (λ c k. rw (v.outs-Valency c) k)
       (merged_tells (λ _. allowed) (λ _. AllowsBoth) (λ _. IsApart) (λ n ns. (n < count key) × IsCards ns) (λ n x y p q. allowed_tells x y p.1) a b g.0 h.0 g.1 h.1)
-  tells_in (mapping key u) (Value-F.Map a) (Value-F.Map b) g h = made_told of_map v.Map refl (λ c. refl) (merged (λ _. joined u) a b) _ (λ c. SaysBoth (λ _. Joins u) a b c) (λ z. JoinsIn (mapping key u) (Value-F.Map a) (Value-F.Map b) (out-Value z)) (λ c k. rw (v.outs-Map c) k)
+  tells_in (mapping key u) (Value-F.Map a) (Value-F.Map b) g h =
+      made_told of_map v.Map refl (λ c. refl) (merged (λ _. joined u) a b) _ (λ c. SaysBoth (λ _. Joins u) a b c) (λ z. JoinsIn (mapping key u) (Value-F.Map a) (Value-F.Map b) (out-Value z)) (λ c k. rw (v.outs-Map c) k)
       (merged_tells (λ _. joined u) (λ _. Joins u) (λ _. Clashes u) (λ n x. (n < count key) × IsIn u (out-Value x)) (λ n x y p q. tells_in u (out-Value x) (out-Value y) p.1 q.1) a b g.0 h.0 g.1 h.1)
-  tells_in (fields fs) (Value-F.Rec a) (Value-F.Rec b) g h = made_told of_record v.Rec refl (λ c. refl) (merged (joined_field fs) a b) _ (λ c. SaysBoth (JoinsField fs) a b c) (λ z. JoinsIn (fields fs) (Value-F.Rec a) (Value-F.Rec b) (out-Value z)) (λ c k. rw (v.outs-Rec c) k)
+  tells_in (fields fs) (Value-F.Rec a) (Value-F.Rec b) g h =
+      made_told of_record v.Rec refl (λ c. refl) (merged (joined_field fs) a b) _ (λ c. SaysBoth (JoinsField fs) a b c) (λ z. JoinsIn (fields fs) (Value-F.Rec a) (Value-F.Rec b) (out-Value z)) (λ c k. rw (v.outs-Rec c) k)
       (merged_tells (joined_field fs) (JoinsField fs) (ClashesField fs) (IsFieldOf fs) (tells_field fs) a b g.0 h.0 g.1 h.1)
   tells_in _ _ _ g h = absurd (assumption (g, h))
 

@@ -4,7 +4,8 @@ use Rattle.xdg_domain.proofs.Compared.{differ_key, differ_value, made}
 use Rattle.xdg_domain.proofs.+same.Goals as goal
 
 pub values::Value::equals-returns-in-Valency-Valency : goal.values::Value::equals-returns-in-Valency-Valency
-values::Value::equals-returns-in-Valency-Valency t c = made v.Valency Value-F.Valency v.outs-Valency (λ x y e. cc) _ _ _ _ _ _ _ c.in-Valency-Valency.is-0 c.in-Valency-Valency.is-1 c.as_slice.ensures.same c.as_slice-in-Valency-Valency.ensures.same c.same_cards.ensures
+values::Value::equals-returns-in-Valency-Valency t c =
+    made v.Valency Value-F.Valency v.outs-Valency (λ x y e. cc) _ _ _ _ _ _ _ c.in-Valency-Valency.is-0 c.in-Valency-Valency.is-1 c.as_slice.ensures.same c.as_slice-in-Valency-Valency.ensures.same c.same_cards.ensures
 
 pub values::Value::equals-returns-in-Map-Map : goal.values::Value::equals-returns-in-Map-Map
 values::Value::equals-returns-in-Map-Map t c = made v.Map Value-F.Map v.outs-Map (λ x y e. cc) _ _ _ _ _ _ _ c.in-Map-Map.is-0 c.in-Map-Map.is-1 c.as_slice-in-Map-Map.ensures c.as_slice-in-Map-Map-2.ensures c.same_entries.ensures
