@@ -101,43 +101,36 @@ module _ (ps : List (List ℕ)) (ts : List (List (Bor Ty))) (p : List ℕ) (ty :
     pub adds_pushed : Adds (on ps ts) (on ps (slice_set ts k (types ++ ty ∷ []))) ((p, shape ty.now) ∷ [])
     adds_pushed q s = pushed_by q s (place_of ps q) refl
 
--- the same of what stands there
-
-pub new_added : (ps qs : List (List ℕ)) (ts us : List (List (Bor Ty))) (p : List ℕ) (ty : Bor Ty) (types : List (Bor Ty)) → has_text ps p ≡ false → length ts ≡ length ps → qs ≡ ps ++ p ∷ [] → types ≡ ty ∷ [] → us ≡ ts ++ types ∷ []
-    → Adds (on ps ts) (on qs us) ((p, shape ty.now) ∷ [])
-new_added ps qs ts us p ty types fresh even a b c =
-    subst (λ xs. Adds (on ps ts) (on xs us) ((p, shape ty.now) ∷ [])) (sym a) (subst (λ ys. Adds (on ps ts) (on (ps ++ p ∷ []) ys) ((p, shape ty.now) ∷ [])) (sym (c ∙ ap (λ l. ts ++ l ∷ []) b)) (adds_new ps ts p ty fresh even))
-
-pub known_added : (ps qs : List (List ℕ)) (ts : List (List (Bor Ty))) (p : List ℕ) (ty : Bor Ty) (k : ℕ) (types : List (Bor Ty)) → qs ≡ ps → Some k ≡ place_of qs p → k < length ts → types ≡ get_or ts k types → In (shapes types) (shape ty.now)
-    → Adds (on ps ts) (on qs (slice_set ts k types)) ((p, shape ty.now) ∷ [])
-known_added ps qs ts p ty k types a b within c among =
-    let at : place_of ps p ≡ Some k = sym (b ∙ ap (λ xs. place_of xs p) a) in
-    let same : get_or ts k [] ≡ types = get_or_default ts k [] types within ∙ sym c in
-    let there : slice_set ts k types ≡ ts = ap (slice_set ts k) (sym same) ∙ set-get_or ts k [] in
-    subst (λ xs. Adds (on ps ts) (on xs (slice_set ts k types)) ((p, shape ty.now) ∷ [])) (sym a)
-    (subst (λ ys. Adds (on ps ts) (on ps ys) ((p, shape ty.now) ∷ [])) (sym there)
-    (adds_known (on ps ts) p (shape ty.now) (subst (λ l. In l (shape ty.now)) (sym (ap (shapes_at ts) at ∙ ap shapes same)) among)))
-
-pub pushed_added : (ps qs : List (List ℕ)) (ts : List (List (Bor Ty))) (p : List ℕ) (ty : Bor Ty) (k : ℕ) (types more : List (Bor Ty)) → qs ≡ ps → Some k ≡ place_of qs p → k < length ts → types ≡ get_or ts k types → more ≡ types ++ ty ∷ []
-    → Adds (on ps ts) (on qs (slice_set ts k more)) ((p, shape ty.now) ∷ [])
-pushed_added ps qs ts p ty k types more a b within c d =
-    subst (λ xs. Adds (on ps ts) (on xs (slice_set ts k more)) ((p, shape ty.now) ∷ [])) (sym a)
-    (subst (λ ys. Adds (on ps ts) (on ps (slice_set ts k ys)) ((p, shape ty.now) ∷ [])) (sym d)
-    (adds_pushed ps ts p ty k (sym (b ∙ ap (λ xs. place_of xs p) a)) within types (get_or_default ts k [] types within ∙ sym c)))
-
--- ---- and each parameter has a list of types
+-- the same of what stands there, and each parameter has a list of types
 
 pub new_grown : (ps qs : List (List ℕ)) (ts us : List (List (Bor Ty))) (p : List ℕ) (ty : Bor Ty) (types : List (Bor Ty)) → has_text ps p ≡ false → length ts ≡ length ps → qs ≡ ps ++ p ∷ [] → types ≡ ty ∷ [] → us ≡ ts ++ types ∷ []
     → (length us ≡ length qs) × Adds (on ps ts) (on qs us) ((p, shape ty.now) ∷ [])
 new_grown ps qs ts us p ty types fresh even a b c = (
   ap length c ∙ length-append ts (types ∷ []) ∙ ap (λ n. n + 1) even ∙ sym (length-append ps (p ∷ [])) ∙ sym (ap length a),
-  new_added ps qs ts us p ty types fresh even a b c,
+  subst (λ xs. Adds (on ps ts) (on xs us) ((p, shape ty.now) ∷ [])) (sym a)
+      (subst (λ ys. Adds (on ps ts) (on (ps ++ p ∷ []) ys) ((p, shape ty.now) ∷ [])) (sym (c ∙ ap (λ l. ts ++ l ∷ []) b)) (adds_new ps ts p ty fresh even)),
 )
 
-pub known_grown : (ps qs : List (List ℕ)) (ts : List (List (Bor Ty))) (p : List ℕ) (ty : Bor Ty) (k : ℕ) (types : List (Bor Ty)) → length ts ≡ length ps → qs ≡ ps → Some k ≡ place_of qs p → k < length ts → types ≡ get_or ts k types
-    → In (shapes types) (shape ty.now) → (length (slice_set ts k types) ≡ length qs) × Adds (on ps ts) (on qs (slice_set ts k types)) ((p, shape ty.now) ∷ [])
-known_grown ps qs ts p ty k types even a b within c among = (length-set ts k types ∙ even ∙ sym (ap length a), known_added ps qs ts p ty k types a b within c among)
+module _ (ps qs : List (List ℕ)) (ts : List (List (Bor Ty))) (p : List ℕ) (ty : Bor Ty) (k : ℕ) (types : List (Bor Ty))
+    (even : length ts ≡ length ps) (a : qs ≡ ps) (b : Some k ≡ place_of qs p) (within : k < length ts) (c : types ≡ get_or ts k types) where
+  at : place_of ps p ≡ Some k
+  at = sym (b ∙ ap (λ xs. place_of xs p) a)
 
-pub pushed_grown : (ps qs : List (List ℕ)) (ts : List (List (Bor Ty))) (p : List ℕ) (ty : Bor Ty) (k : ℕ) (types more : List (Bor Ty)) → length ts ≡ length ps → qs ≡ ps → Some k ≡ place_of qs p → k < length ts → types ≡ get_or ts k types
-    → more ≡ types ++ ty ∷ [] → (length (slice_set ts k more) ≡ length qs) × Adds (on ps ts) (on qs (slice_set ts k more)) ((p, shape ty.now) ∷ [])
-pushed_grown ps qs ts p ty k types more even a b within c d = (length-set ts k more ∙ even ∙ sym (ap length a), pushed_added ps qs ts p ty k types more a b within c d)
+  old : get_or ts k [] ≡ types
+  old = get_or_default ts k [] types within ∙ sym c
+
+  pub known_grown : In (shapes types) (shape ty.now) → (length (slice_set ts k types) ≡ length qs) × Adds (on ps ts) (on qs (slice_set ts k types)) ((p, shape ty.now) ∷ [])
+  known_grown among =
+      let there : slice_set ts k types ≡ ts = ap (slice_set ts k) (sym old) ∙ set-get_or ts k [] in (
+        length-set ts k types ∙ even ∙ sym (ap length a),
+        subst (λ xs. Adds (on ps ts) (on xs (slice_set ts k types)) ((p, shape ty.now) ∷ [])) (sym a)
+            (subst (λ ys. Adds (on ps ts) (on ps ys) ((p, shape ty.now) ∷ [])) (sym there)
+            (adds_known (on ps ts) p (shape ty.now) (subst (λ l. In l (shape ty.now)) (sym (ap (shapes_at ts) at ∙ ap shapes old)) among))),
+      )
+
+  pub pushed_grown : (more : List (Bor Ty)) → more ≡ types ++ ty ∷ [] → (length (slice_set ts k more) ≡ length qs) × Adds (on ps ts) (on qs (slice_set ts k more)) ((p, shape ty.now) ∷ [])
+  pushed_grown more d = (
+    length-set ts k more ∙ even ∙ sym (ap length a),
+    subst (λ xs. Adds (on ps ts) (on xs (slice_set ts k more)) ((p, shape ty.now) ∷ [])) (sym a)
+        (subst (λ ys. Adds (on ps ts) (on ps (slice_set ts k ys)) ((p, shape ty.now) ∷ [])) (sym d) (adds_pushed ps ts p ty k at within types old)),
+  )

@@ -16,6 +16,9 @@ use Rattle.xdg_classes.specs.Known.{shown, KnowsClasses}
 use Rattle.xdg_classes.specs.Lent.{class_def}
 use Rattle.xdg_classes.specs.Ordered.{class_at}
 use Rattle.xdg_facts.proofs.Truths.{none_or}
+use Rattle.xdg_facts.proofs.Options.{some_same}
+use Rattle.xdg_facts.proofs.Texts.{same_text, is_same}
+use Rattle.xdg_facts.specs.Membership.{In}
 use Rattle.xdg_ast.specs.Texts.{texts}
 
 -- ---- the class with a name
@@ -24,36 +27,45 @@ module _ (c : ClassDef) (name : List ℕ) where
   -- the first one stays
   named_kept : (cs : List ClassDef) (d : ClassDef) → class_named cs name ≡ Some d → class_named (cs ++ c ∷ []) name ≡ Some d
   named_kept [] d e = absurd cc
-  named_kept (x ∷ cs) d e = by (bytes_eq x.name.text name) (named_kept cs d) e
-    where
-      by : (b : Bool) → (class_named cs name ≡ Some d → class_named (cs ++ c ∷ []) name ≡ Some d)
-          → (if b then Some x else class_named cs name) ≡ Some d → (if b then Some x else class_named (cs ++ c ∷ []) name) ≡ Some d
-      by true rest e = e
-      by false rest e = rest e
+  named_kept (x ∷ cs) d e = elim (bytes_eq x.name.text name) as (λ b. (if b then Some x else class_named cs name) ≡ Some d → (if b then Some x else class_named (cs ++ c ∷ []) name) ≡ Some d) [
+    | true ↦ λ k. k
+    | false ↦ named_kept cs d
+  ] e
 
   named_new : (cs : List ClassDef) → class_named cs name ≡ None → class_named (cs ++ c ∷ []) name ≡ (if bytes_eq c.name.text name then Some c else None)
   named_new [] e = refl
-  named_new (x ∷ cs) e = by (bytes_eq x.name.text name) (named_new cs) e
-    where
-      by : (b : Bool) → (class_named cs name ≡ None → class_named (cs ++ c ∷ []) name ≡ (if bytes_eq c.name.text name then Some c else None))
-          → (if b then Some x else class_named cs name) ≡ None → (if b then Some x else class_named (cs ++ c ∷ []) name) ≡ (if bytes_eq c.name.text name then Some c else None)
-      by true rest e = absurd cc
-      by false rest e = rest e
+  named_new (x ∷ cs) e = elim (bytes_eq x.name.text name) as (λ b. (if b then Some x else class_named cs name) ≡ None → (if b then Some x else class_named (cs ++ c ∷ []) name) ≡ (if bytes_eq c.name.text name then Some c else None)) [
+    | true ↦ λ k. absurd cc
+    | false ↦ named_new cs
+  ] e
+
+-- the class that is found stands there, and has the name
+pub named_in : (cs : List ClassDef) (name : List ℕ) (c : ClassDef) → class_named cs name ≡ Some c → In cs c × (c.name.text ≡ name)
+named_in [] name c h = absurd cc
+named_in (x ∷ cs) name c h = elim (bytes_eq x.name.text name) as (λ b. bytes_eq x.name.text name ≡ b → (if b then Some x else class_named cs name) ≡ Some c → In (x ∷ cs) c × (c.name.text ≡ name)) [
+  | true ↦ λ t e. (let is = some_same x c e in (inl is, ap (λ (y : ClassDef). y.name.text) (sym is) ∙ same_text x.name.text name t))
+  | false ↦ λ t e. (let k = named_in cs name c e in (inr k.0, k.1))
+] refl h
+
+-- a name that some class has is found
+pub named_some : (cs : List ClassDef) (name : List ℕ) → In (texts (class_names cs)) name → (c : ClassDef) × (class_named cs name ≡ Some c)
+named_some [] name h = absurd h
+named_some (x ∷ cs) name h = elim (bytes_eq x.name.text name) as (λ b. bytes_eq x.name.text name ≡ b → (c : ClassDef) × ((if b then Some x else class_named cs name) ≡ Some c)) [
+  | true ↦ λ t. (x, refl)
+  | false ↦ λ t. elim h [ inl same ↦ absurd (true≢false (sym (is_same x.name.text name same) ∙ t)) | inr k ↦ named_some cs name k ]
+] refl
 
 -- the place of a name among the names of the classes is that of the first class with that name
 
 pub class_placed : (cs : List ClassDef) (name : List ℕ) → class_at cs (place_of (texts (class_names cs)) name) ≡ class_named cs name
 class_placed [] name = refl
-class_placed (c ∷ cs) name = by (bytes_eq c.name.text name) (class_placed cs name)
+class_placed (c ∷ cs) name =
+    let rest = place_of (texts (class_names cs)) name in
+    elim (bytes_eq c.name.text name) as (λ b. class_at (c ∷ cs) (if b then Some 0 else option_map suc rest) ≡ (if b then Some c else class_named cs name)) [ true ↦ refl | false ↦ later rest ∙ class_placed cs name ]
   where
     later : (o : Option ℕ) → class_at (c ∷ cs) (option_map suc o) ≡ class_at cs o
     later None = refl
     later (Some k) = refl
-
-    by : (b : Bool) → class_at cs (place_of (texts (class_names cs)) name) ≡ class_named cs name
-        → class_at (c ∷ cs) (if b then Some 0 else option_map suc (place_of (texts (class_names cs)) name)) ≡ (if b then Some c else class_named cs name)
-    by true rest = refl
-    by false rest = later (place_of (texts (class_names cs)) name) ∙ rest
 
 -- ---- one class more
 
@@ -122,28 +134,23 @@ module _ (ds : List LentClass) (i : ℕ) (d : LentClass) (within : i < length ds
       ap (map class_def) more ∙ map-append class_def (take i ds) (d ∷ [])
 
   module _ (names : List (List ℕ)) (all : List Params) (knows : KnowsClasses (map class_def (take i ds)) names (map shown all)) where
-    pub turn_same : has_text names d.name.now.text ≡ true → KnowsClasses (map class_def (take (i + 1) ds)) names (map shown all)
-    turn_same stands = subst (λ cs. KnowsClasses cs names (map shown all)) (sym front) (knows_same (map class_def (take i ds)) names (map shown all) knows (class_def d) stands)
-
-    pub turn_new : (params : Params) (more : List (List ℕ)) (next : List Params) → has_text names d.name.now.text ≡ false → more ≡ names ++ d.name.now.text ∷ [] → shown params ≡ asked_by (class_def d) → next ≡ all ++ params ∷ []
-        → KnowsClasses (map class_def (take (i + 1) ds)) more (map shown next)
-    turn_new params more next fresh grown asks added =
-        let shows : map shown next ≡ map shown all ++ asked_by (class_def d) ∷ [] = ap (map shown) added ∙ map-append shown all (params ∷ []) ∙ ap (λ w. map shown all ++ w ∷ []) asks in
-        subst (λ cs. KnowsClasses cs more (map shown next)) (sym front)
-        (subst (λ ns. KnowsClasses (map class_def (take i ds) ++ class_def d ∷ []) ns (map shown next)) (sym grown)
-        (subst (λ ws. KnowsClasses (map class_def (take i ds) ++ class_def d ∷ []) (names ++ d.name.now.text ∷ []) ws) (sym shows)
-        (knows_new (map class_def (take i ds)) names (map shown all) knows (class_def d) fresh)))
-
-    -- the same by what the index tells
+    -- by what the index tells
     pub told_same : (text : List ℕ) (added : Bool) (more : List (List ℕ)) (next : List Params) → text ≡ d.name.now.text → added ≡ not (has_text names text) → more ≡ (if added then names ++ text ∷ [] else names) → added ≡ false → next ≡ all
         → KnowsClasses (map class_def (take (i + 1) ds)) more (map shown next)
     told_same text added more next at new grown off rest =
         let stands : has_text names d.name.now.text ≡ true = ap (has_text names) (sym at) ∙ not-false (has_text names text) (sym new ∙ off) in
         let ns : more ≡ names = grown ∙ ap (λ b. if b then names ++ text ∷ [] else names) off in
-        subst (λ ws. KnowsClasses (map class_def (take (i + 1) ds)) more (map shown ws)) (sym rest) (subst (λ ns. KnowsClasses (map class_def (take (i + 1) ds)) ns (map shown all)) (sym ns) (turn_same stands))
+        subst (λ ws. KnowsClasses (map class_def (take (i + 1) ds)) more (map shown ws)) (sym rest)
+        (subst (λ ns. KnowsClasses (map class_def (take (i + 1) ds)) ns (map shown all)) (sym ns)
+        (subst (λ cs. KnowsClasses cs names (map shown all)) (sym front) (knows_same (map class_def (take i ds)) names (map shown all) knows (class_def d) stands)))
 
     pub told_new : (text : List ℕ) (added : Bool) (more : List (List ℕ)) (next : List Params) (params : Params) → text ≡ d.name.now.text → added ≡ not (has_text names text) → more ≡ (if added then names ++ text ∷ [] else names) → added ≡ true
         → shown params ≡ asked_by (class_def d) → next ≡ all ++ params ∷ [] → KnowsClasses (map class_def (take (i + 1) ds)) more (map shown next)
     told_new text added more next params at new grown on asks rest =
         let fresh : has_text names d.name.now.text ≡ false = ap (has_text names) (sym at) ∙ not-true (has_text names text) (sym new ∙ on) in
-        turn_new params more next fresh (grown ∙ ap (λ b. if b then names ++ text ∷ [] else names) on ∙ ap (λ t. names ++ t ∷ []) at) asks rest
+        let ns : more ≡ names ++ d.name.now.text ∷ [] = grown ∙ ap (λ b. if b then names ++ text ∷ [] else names) on ∙ ap (λ t. names ++ t ∷ []) at in
+        let shows : map shown next ≡ map shown all ++ asked_by (class_def d) ∷ [] = ap (map shown) rest ∙ map-append shown all (params ∷ []) ∙ ap (λ w. map shown all ++ w ∷ []) asks in
+        subst (λ cs. KnowsClasses cs more (map shown next)) (sym front)
+        (subst (λ ns. KnowsClasses (map class_def (take i ds) ++ class_def d ∷ []) ns (map shown next)) (sym ns)
+        (subst (λ ws. KnowsClasses (map class_def (take i ds) ++ class_def d ∷ []) (names ++ d.name.now.text ∷ []) ws) (sym shows)
+        (knows_new (map class_def (take i ds)) names (map shown all) knows (class_def d) fresh)))

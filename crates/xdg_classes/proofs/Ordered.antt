@@ -1,5 +1,5 @@
 -- The graph of the classes, and the order in which each class comes after those that it uses.
-use Rattle.std.proofs.Common.{◌≡◌, inl, ℕ, ◌<◌, List, [], ◌∷◌, length, map, get_or, refl, sym, ap, ◌∙◌, subst, arith, Option}
+use Rattle.std.proofs.Common.{◌≡◌, inl, ℕ, ◌<◌, List, [], length, map, get_or, refl, sym, ap, ◌∙◌, subst, arith, Option}
 use Rattle.std.proofs.lemmas.List.{get_or-map, length-map}
 use Rattle.xdg_base.specs.declared.faults.Fault.{Fault}
 use Rattle.xdg_names.specs.declared.graph.Use.{Use}
@@ -25,13 +25,10 @@ use Rattle.xdg_classes.specs.Graph.{class_uses, class_graph}
 use Rattle.xdg_classes.specs.Ordered.{OrdersClasses}
 use Rattle.xdg_classes.specs.Lent.{class_def}
 use Rattle.xdg_facts.specs.Membership.{In}
+use Rattle.xdg_facts.proofs.Lists.{some_at}
 use Rattle.xdg_facts.proofs.In.{in_flat_map}
 use Rattle.xdg_types.proofs.InUse.{in_use}
 use Rattle.xdg_ast.specs.Texts.{texts}
-
-some_of : (cs : List ClassDef) (a : ℕ) → a < length cs → ClassDef
-some_of [] a less = absurd (omega (arith, less))
-some_of (c ∷ cs) a less = c
 
 module _ (statements : List Statement) where
   abbrev cs : List ClassDef
@@ -56,7 +53,7 @@ module _ (statements : List Statement) where
   is_graph : IsGraph g
   is_graph a u h =
       let inside : a < length g = from_within g a u h in
-      let some = some_of cs a (omega (arith, inside, graph_long)) in
+      let some = (some_at cs a (omega (arith, inside, graph_long))).0 in
       let k = in_flat_map (λ (call : Called). use_of known call.name) (calls (body (get_or cs a some).body.kind)) u (subst (λ us. In us u) (uses_at a (omega (arith, inside, graph_long)) some) h) in
       let at = (place_of-Some known k.0.name.text u.to (in_use k.0.name (place_of known k.0.name.text) u k.1.1)).0 in
       let long : length known ≡ length cs = texts_long cs in

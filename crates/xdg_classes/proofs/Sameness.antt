@@ -1,7 +1,6 @@
 -- Lists that are the same one by one.
 use Rattle.std.proofs.Common.{◌≡◌, ℕ, ◌+◌, ◌<◌, List, [], ◌∷◌, ◌++◌, length, take, get_or, map, sym, ap, ap₂, ◌∙◌, subst, add-one}
 use Rattle.std.proofs.Math.Seq.{take-suc}
-use Rattle.std.proofs.lemmas.List.{map-append}
 use Rattle.xdg_domain.specs.declared.types.Ty.{Ty}
 use Rattle.xdg_domain.specs.declared.types.Ty.TheVariants as y
 use Rattle.xdg_domain.specs.Shapes.{fields, shape}
@@ -20,10 +19,6 @@ same_text_turn xs ys i x y within below is at same so_far = taken xs i x within 
 -- a list that has what stands at a place
 pub found_at : {A B : Type 0} (f : A → B) (xs : List A) (i : ℕ) (x : A) (y : B) → i < length xs → x ≡ get_or xs i x → f x ≡ y → In (map f xs) y
 found_at f xs i x y within is same = subst (In (map f xs)) same (map_in f xs x (in_at xs i x within is))
-
-module _ {A B : Type 0} (f : A → B) where
-  one_more : (xs : List A) (i : ℕ) (x : A) → i < length xs → x ≡ get_or xs i x → map f (take (i + 1) xs) ≡ map f (take i xs) ++ f x ∷ []
-  one_more xs i x within is = rw (add-one, take-suc xs i x) (map-append f (take i xs) (get_or xs i x ∷ []) ∙ ap (λ z. map f (take i xs) ++ f z ∷ []) (sym is))
 
 -- record types whose fields have the same shapes
 pub same_records : (one other : Ty) (xs ys ps qs : List (List ℕ × Ty)) → one ≡ y.Rec xs → other ≡ y.Rec ys → ps ≡ xs → qs ≡ ys → fields_in ps ≡ fields_in qs → shape one ≡ shape other

@@ -2,14 +2,13 @@
 use Rattle.std.proofs.Common.{◌≡◌, inl, inr, ℕ, zero, suc, ◌+◌, ◌<◌, Bool, true, false, List, [], ◌∷◌, length, map, slice_set, Option, Some, None, refl, sym, ap, ◌∙◌, subst, arith}
 use Rattle.std.specs.Prelude.{◌↔◌, bytes_eq, if◌then◌else◌, option_map, slice_get, slice_index_or}
 use Rattle.std.specs.List.{flat_map}
-use Rattle.std.proofs.lemmas.Bool.{true≢false, cases_eq, or_left, or_right}
+use Rattle.std.proofs.lemmas.Bool.{true≢false, cases_eq}
 use Rattle.std.proofs.lemmas.List.{length-map}
 use Rattle.std.proofs.lemmas.Option.{slice_get-map, slice_get_within, get_or_from_slice_get}
-use Rattle.std.proofs.lemmas.Slice.Eq.{bytes_eq-Decides}
 use Rattle.xdg_ast.specs.declared.names.Name.{Name}
 use Rattle.xdg_ast.specs.declared.names.Pair.{Pair}
 use Rattle.xdg_names.specs.Texts.{has_text, place_of}
-use Rattle.xdg_names.proofs.Texts.{place_of-Some, place_of-None}
+use Rattle.xdg_names.proofs.Texts.{place_of-Some, place_of-None, among_has}
 use Rattle.xdg_domain.specs.Shapes.{Shape}
 use Rattle.xdg_names.specs.Leads.{number, uses_of}
 use Rattle.xdg_names.specs.declared.graph.Use.{Use}
@@ -180,15 +179,8 @@ module _ (statements : List Statement) (table : Table) (features : Features) (ma
       let r = wants_of_some table (named_bodies statements) class param s w in
       let d = in_map named defs r.0 r.1.0 in
       let named_so : d.0.name.text ≡ class = ap (λ (z : NamedBody). z.name) d.1.1 ∙ r.1.1 in
-      let stands : has_text names class ≡ true = subst (λ ns. has_text ns class ≡ true) (sym fits.orders.names) (has_named defs d.0 class d.1.0 named_so) in
-      true≢false (sym stands ∙ place_of-None names class missing)
-    where
-      has_named : (ds : List ClassDef) (d : ClassDef) (class : List ℕ) → In ds d → d.name.text ≡ class → has_text (texts (class_names ds)) class ≡ true
-      has_named [] d class h e = absurd h
-      has_named (x ∷ xs) d class h e = elim h [
-        | inl a ↦ or_left (bytes_eq x.name.text class) (has_text (texts (class_names xs)) class) ((bytes_eq-Decides x.name.text class).1 (ap (λ (z : ClassDef). z.name.text) a ∙ e))
-        | inr k ↦ or_right (bytes_eq x.name.text class) (has_text (texts (class_names xs)) class) (has_named xs d class k e)
-      ]
+      let among : In (texts (class_names defs)) class = subst (In (texts (class_names defs))) named_so (in_texts (class_names defs) d.0.name (map_in (λ (x : ClassDef). x.name) defs d.0 d.1.0)) in
+      true≢false (sym (subst (λ ns. has_text ns class ≡ true) (sym fits.orders.names) (among_has (texts (class_names defs)) class among)) ∙ place_of-None names class missing)
 
   module _ (all : List WantedTypes) (i : ℕ) (within : i < length made.order) (so_far : AreRightUpTo statements table made all i) (c : ClassDef) (is : slice_get defs (number made.order i) ≡ Some c) where
     used_by : (call : Called) → In (calls (body c.body.kind)) call → (o : Option ℕ) → place_of names call.name.text ≡ o → (q : List ℕ) (s : Shape) → In (given_in (at_place all o) q) s ↔ Wants table (named_bodies statements) call.name.text q s

@@ -1,6 +1,5 @@
 -- What is told of items one after the other.
 use Rattle.std.proofs.Common.{◌≡◌, ◌⊎◌, inl, inr, ℕ, ◌+◌, ◌<◌, ◌≤◌, List, [], ◌∷◌, ◌++◌, length, take, get_or, map, Option, refl, sym, subst}
-use Rattle.std.specs.Prelude.{Result, Ok, Err, IfOk}
 use Rattle.std.proofs.lemmas.List.{take_all}
 use Rattle.xdg_base.specs.declared.faults.Fault.{Fault}
 use Rattle.xdg_names.specs.First.{Tells, earlier}
@@ -8,10 +7,6 @@ use Rattle.xdg_names.proofs.First.{tells_as, tells_both}
 use Rattle.xdg_classes.specs.Wrong.{SomeOf}
 use Rattle.xdg_classes.proofs.Sameness.{taken}
 use Rattle.xdg_facts.proofs.In.{in_append, in_left, in_right, in_map, map_in}
-
-pub if_ok : {A E : Type 0} (P Q : A → Type 0) → ((x : A) → P x → Q x) → (r : Result A E) → IfOk r P → IfOk r Q
-if_ok P Q to (Ok x) h = to x h
-if_ok P Q to (Err e) h = h
 
 pub tells_sum : (P Q : Fault → Type 0) (a b whole : Option Fault) → Tells P a → Tells Q b → whole ≡ earlier a b → Tells (λ f. P f ⊎ Q f) whole
 tells_sum P Q a b whole h k is = subst (Tells (λ f. P f ⊎ Q f)) (sym is) (tells_both P Q a b h k)

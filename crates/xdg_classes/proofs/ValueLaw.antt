@@ -104,25 +104,14 @@ module _ (statements : List Statement) (table : Table) (look : List ℕ → List
   complete : ValueOffends statements table f → SomeOf statements (StatementWrong look tell) f
   complete h = elim h [
     | inl r ↦ from_body r.scoped r.among (inl (r.said, (r.stands, inr (r.pair, (r.has, inl (subst (λ o. FeatureWrong o r.scoped.params r.pair f) (sym (same r.said.dim.text r.pair.key.text ∙ r.missing)) r.fault))))))
-    | inr h ↦ elim h [
-      | inl r ↦ from_body r.scoped r.among (inl (r.said, (r.stands, inl r.again)))
-      | inr h ↦ elim h [
-        | inl r ↦ from_body r.scoped r.among (inl (r.said, (r.stands, inr (r.pair, (r.has, inl (subst (λ o. FeatureWrong o r.scoped.params r.pair f) (sym (same r.said.dim.text r.pair.key.text ∙ r.feature)) r.offends))))))
-        | inr h ↦ elim h [
-          | inl r ↦ from_body r.scoped r.among (inr (r.call, (r.stands, (r.pair, (r.has, inl (r.shape, ((known r.call.name.text r.pair.key.text r.shape).1 r.wanted, r.offends)))))))
-          | inr h ↦ elim h [
-            | inl r ↦ from_class r.class r.among (r.param, (r.has, subst (λ o. GivenWrong (tell r.class.name.text r.param.name.text) o f) (sym r.preset) (inl (r.shape, ((known r.class.name.text r.param.name.text r.shape).1 r.wanted, r.offends)))))
-            | inr h ↦ elim h [
-              | inl r ↦ from_body r.scoped r.among (inl (r.said, (r.stands, inr (r.pair, (r.has, inr r.offends)))))
-              | inr h ↦ elim h [
-                | inl r ↦ from_body r.scoped r.among (inr (r.call, (r.stands, (r.pair, (r.has, inr r.offends)))))
-                | inr r ↦ from_class r.class r.among (r.param, (r.has, subst (λ o. GivenWrong (tell r.class.name.text r.param.name.text) o f) (sym r.preset) (inr r.offends)))
-              ]
-            ]
-          ]
-        ]
-      ]
-    ]
+    | inr (inl r) ↦ from_body r.scoped r.among (inl (r.said, (r.stands, inl r.again)))
+    | inr (inr (inl r)) ↦ from_body r.scoped r.among (inl (r.said, (r.stands, inr (r.pair, (r.has, inl (subst (λ o. FeatureWrong o r.scoped.params r.pair f) (sym (same r.said.dim.text r.pair.key.text ∙ r.feature)) r.offends))))))
+    | inr (inr (inr (inl r))) ↦ from_body r.scoped r.among (inr (r.call, (r.stands, (r.pair, (r.has, inl (r.shape, ((known r.call.name.text r.pair.key.text r.shape).1 r.wanted, r.offends)))))))
+    | inr (inr (inr (inr (inl r)))) ↦
+        from_class r.class r.among (r.param, (r.has, subst (λ o. GivenWrong (tell r.class.name.text r.param.name.text) o f) (sym r.preset) (inl (r.shape, ((known r.class.name.text r.param.name.text r.shape).1 r.wanted, r.offends)))))
+    | inr (inr (inr (inr (inr (inl r))))) ↦ from_body r.scoped r.among (inl (r.said, (r.stands, inr (r.pair, (r.has, inr r.offends)))))
+    | inr (inr (inr (inr (inr (inr (inl r)))))) ↦ from_body r.scoped r.among (inr (r.call, (r.stands, (r.pair, (r.has, inr r.offends)))))
+    | inr (inr (inr (inr (inr (inr (inr r)))))) ↦ from_class r.class r.among (r.param, (r.has, subst (λ o. GivenWrong (tell r.class.name.text r.param.name.text) o f) (sym r.preset) (inr r.offends)))
   ]
 
 pub value_law : (statements : List Statement) (table : Table) (look : List ℕ → List ℕ → Option Shape) → ((dim name : List ℕ) → look dim name ≡ feature_shape table dim name) → (tell : List ℕ → List ℕ → List Shape)

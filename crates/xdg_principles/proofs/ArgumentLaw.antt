@@ -1,6 +1,8 @@
 -- The offences of arguments that the pass lists are those of the rows.
-use Rattle.std.proofs.Common.{◌≡◌, inl, inr, false, ℕ, List, [], ◌++◌, Option, None, Some, refl, sym, subst}
+use Rattle.std.proofs.Common.{◌≡◌, ◌⊎◌, ◌∙◌, inl, inr, false, ℕ, List, [], ◌++◌, Option, None, Some, refl, sym, subst}
 use Rattle.std.specs.List.{flat_map}
+use Rattle.std.proofs.lemmas.List.{append-nil}
+use Rattle.std.proofs.lemmas.List.Folds.{flat_map-map}
 use Rattle.std.specs.Prelude.{Result, Ok, Err, IfOk}
 use Rattle.xdg_base.specs.Faults.{fault_at}
 use Rattle.xdg_base.specs.declared.faults.Cause.TheVariants as causes
@@ -9,14 +11,14 @@ use Rattle.xdg_ast.specs.declared.names.Name.{Name}
 use Rattle.xdg_domain.specs.Shapes.{shape}
 use Rattle.xdg_domain.specs.declared.types.Ty.{Ty}
 use Rattle.xdg_names.specs.First.{Tells, first}
-use Rattle.xdg_names.proofs.First.{tells_as, first-tells}
 use Rattle.xdg_terms.specs.Forms.{Term}
 use Rattle.xdg_types.specs.NameFaults.{repeats}
 use Rattle.xdg_types.specs.Parts.{Statement}
 use Rattle.xdg_types.specs.Table.{Table}
 use Rattle.xdg_types.specs.declared.table.DimType.{DimType}
-use Rattle.xdg_ast.specs.Misnamed.{IsUnknown}
-use Rattle.xdg_names.proofs.Listing.{Lists}
+use Rattle.xdg_ast.specs.Misnamed.{IsUnknown, IsAgain}
+use Rattle.xdg_names.proofs.Listing.{Lists, lists_tell, lists_both, lists_each}
+use Rattle.xdg_types.proofs.Listings.{nested}
 use Rattle.xdg_types.proofs.NamesAgain.{all_again}
 use Rattle.xdg_types.proofs.NamesKnown.{all_unknown}
 use Rattle.xdg_problem.specs.declared.forms.Parameter.{Parameter}
@@ -32,11 +34,11 @@ use Rattle.xdg_principles.specs.Uses.{Use, principle_uses}
 use Rattle.xdg_principles.specs.Settings.{Setting, Argument, Called, setting_of, setting_if, setting, arguments_in, labels, member_type, term_in, constant_in, listed_in, called_in}
 use Rattle.xdg_principles.specs.Wanted.{is_wanted}
 use Rattle.xdg_principles.specs.Arguments.{OneOffends, ArgumentOffends, has_form, truths}
-use Rattle.xdg_principles.specs.ArgumentFaults.{form_faults, type_faults, member_faults, outside, inner_faults, one_faults, setting_faults, known_faults, use_faults, argument_faults}
+use Rattle.xdg_principles.specs.ArgumentFaults.{form_faults, type_faults, member_faults, outside, inner_faults, one_faults, known_faults, use_faults, argument_faults}
 use Rattle.xdg_principles.proofs.WantedLaw.{wanted_false, true_wanted}
 use Rattle.xdg_principles.proofs.MemberPlaces.{no_type, type_there}
 use Rattle.xdg_facts.specs.Membership.{In}
-use Rattle.xdg_facts.proofs.In.{in_append, in_left, in_right, in_unless, unless_in, in_flat_map, flat_map_in, in_map, map_in}
+use Rattle.xdg_facts.proofs.In.{in_append, in_left, in_right, in_unless, unless_in}
 
 module _ (x : Argument) where
   abbrev s : Setting
@@ -70,18 +72,19 @@ module _ (x : Argument) where
   all_outside : (known : List (List ℕ)) (names : List Name) → Lists (flat_map (outside known) names) (IsUnknown causes.NotMember known names)
   all_outside known = all_unknown causes.NotMember known known (λ t. refl)
 
-  of_labels : (which : Which) → p.wanted ≡ a.Labels which → (f : Fault) → In (flat_map (outside (labels s which)) (listed_in s p) ++ repeats [] (listed_in s p)) f → OneOffends x f
-  of_labels which wanted f h = elim (in_append (flat_map (outside (labels s which)) (listed_in s p)) (repeats [] (listed_in s p)) f h) [
-    | inl o ↦ inr (inr (inr (inr (inl (record { which = which; wanted = wanted; unknown = (all_outside (labels s which) (listed_in s p)).sound f o })))))
-    | inr r ↦ inr (inr (inr (inr (inr (record { which = which; wanted = wanted; again = (all_again (listed_in s p)).sound f r })))))
-  ]
+  all_labels : (which : Which)
+      → Lists (flat_map (outside (labels s which)) (listed_in s p) ++ repeats [] (listed_in s p)) (λ f. IsUnknown causes.NotMember (labels s which) (listed_in s p) f ⊎ IsAgain (listed_in s p) f)
+  all_labels which = lists_both (all_outside (labels s which) (listed_in s p)) (all_again (listed_in s p))
 
   of_inner : (wanted : Wanted) → p.wanted ≡ wanted → (f : Fault) → In (inner_faults s p wanted) f → OneOffends x f
   of_inner (a.Member sort which typing) e f h = of_called sort which typing e (called_in s p) refl f h
-  of_inner (a.Labels which) e f h = of_labels which e f h
+  of_inner (a.Labels which) e f h = elim ((all_labels which).sound f h) [
+    | inl o ↦ inr (inr (inr (inr (inl (record { which = which; wanted = e; unknown = o })))))
+    | inr r ↦ inr (inr (inr (inr (inr (record { which = which; wanted = e; again = r })))))
+  ]
   of_inner a.Truth e f h = inr (inr (inr (inl (record { wanted = e; unknown = (all_outside truths (told (constant_in s p))).sound f h }))))
 
-  pub of_one : (f : Fault) → In (one_faults s p) f → OneOffends x f
+  of_one : (f : Fault) → In (one_faults s p) f → OneOffends x f
   of_one f h = elim (in_append (form_faults p.wanted (term_in s p)) (inner_faults s p p.wanted) f h) [
     | inl l ↦ of_form (term_in s p) refl f l
     | inr r ↦ of_inner p.wanted refl f r
@@ -100,55 +103,35 @@ module _ (x : Argument) where
   to_type sort which typing wanted called given type has f h = inner (a.Member sort which typing) wanted f
       (subst (λ (o : Option Called). In (member_faults s sort which typing o) f) (sym given) (subst (λ (o : Option Ty). In (type_faults s typing called.at o) f) (sym has) h))
 
-  pub to_one : (f : Fault) → OneOffends x f → In (one_faults s p) f
+  to_one : (f : Fault) → OneOffends x f → In (one_faults s p) f
   to_one f h = elim h [
     | inl w ↦ in_left (form_faults p.wanted (term_in s p)) (inner_faults s p p.wanted) f (to_form (term_in s p) w.term w.given w.form f (sym w.fault))
-    | inr h₁ ↦ elim h₁ [
-      | inl u ↦ to_type u.sort u.which u.typing u.wanted u.called u.given None (type_there s u.sort u.which u.called.text u.missing) f (inl (sym u.fault))
-      | inr h₂ ↦ elim h₂ [
-        | inl w ↦ to_type w.sort w.which w.typing w.wanted w.called w.given (Some w.type) w.has f
-            (unless_in (is_wanted s w.typing (shape w.type)) (fault_at causes.WrongKind w.called.at) f (true_wanted s w.typing (shape w.type) w.wrong) (sym w.fault))
-        | inr h₃ ↦ elim h₃ [
-          | inl n ↦ inner a.Truth n.wanted f ((all_outside truths (told (constant_in s p))).complete f n.unknown)
-          | inr h₄ ↦ elim h₄ [
-            | inl n ↦ inner (a.Labels n.which) n.wanted f
-                (in_left (flat_map (outside (labels s n.which)) (listed_in s p)) (repeats [] (listed_in s p)) f ((all_outside (labels s n.which) (listed_in s p)).complete f n.unknown))
-            | inr r ↦ inner (a.Labels r.which) r.wanted f
-                (in_right (flat_map (outside (labels s r.which)) (listed_in s p)) (repeats [] (listed_in s p)) f ((all_again (listed_in s p)).complete f r.again))
-          ]
-        ]
-      ]
-    ]
+    | inr (inl u) ↦ to_type u.sort u.which u.typing u.wanted u.called u.given None (type_there s u.sort u.which u.called.text u.missing) f (inl (sym u.fault))
+    | inr (inr (inl w)) ↦ to_type w.sort w.which w.typing w.wanted w.called w.given (Some w.type) w.has f
+        (unless_in (is_wanted s w.typing (shape w.type)) (fault_at causes.WrongKind w.called.at) f (true_wanted s w.typing (shape w.type) w.wrong) (sym w.fault))
+    | inr (inr (inr (inl n))) ↦ inner a.Truth n.wanted f ((all_outside truths (told (constant_in s p))).complete f n.unknown)
+    | inr (inr (inr (inr (inl n)))) ↦ inner (a.Labels n.which) n.wanted f ((all_labels n.which).complete f (inl n.unknown))
+    | inr (inr (inr (inr (inr r)))) ↦ inner (a.Labels r.which) r.wanted f ((all_labels r.which).complete f (inr r.again))
   ]
+
+  pub all_one : Lists (one_faults s p) (OneOffends x)
+  all_one = record { sound = of_one; complete = to_one }
 
 -- ---- all arguments
 
-abbrev argument : Setting → Parameter → Argument
-argument s p = record { setting = s; parameter = p }
+-- what is wrong with an argument
+abbrev argument_wrong : Argument → List Fault
+argument_wrong x = one_faults x.setting x.parameter
 
-setting_sound : (s : Setting) (f : Fault) → In (setting_faults s) f → (x : Argument) × (In (arguments_in s) x × OneOffends x f)
-setting_sound s f h =
-    let k = in_flat_map (one_faults s) (parameters s.form) f h in
-    (argument s k.0, (map_in (argument s) (parameters s.form) k.0 k.1.0, of_one (argument s k.0) f k.1.1))
+-- with all arguments of a use
+abbrev setting_wrong : Setting → List Fault
+setting_wrong s = flat_map argument_wrong (arguments_in s)
 
-setting_complete : (s : Setting) (x : Argument) (f : Fault) → In (arguments_in s) x → OneOffends x f → In (setting_faults s) f
-setting_complete s x f stands h =
-    let k = in_map (argument s) (parameters s.form) x stands in
-    flat_map_in (one_faults s) (parameters s.form) k.0 f k.1.0 (to_one (argument s k.0) f (subst (λ (y : Argument). OneOffends y f) (sym k.1.1) h))
-
-module _ (dims : List DimType) (one : Use) where
-  use_sound : (principle : Option Principle) (f : Fault) → In (known_faults dims one principle) f → (x : Argument) × (In (flat_map arguments_in (setting_if dims one principle)) x × OneOffends x f)
-  use_sound None f h = absurd h
-  use_sound (Some principle) f h =
-      let s : Setting = setting_of dims one principle in
-      let k = setting_sound s f h in
-      (k.0, (in_left (arguments_in s) [] k.0 k.1.0, k.1.1))
-
-  use_complete : (principle : Option Principle) (x : Argument) (f : Fault) → In (flat_map arguments_in (setting_if dims one principle)) x → OneOffends x f → In (known_faults dims one principle) f
-  use_complete None x f stands h = absurd stands
-  use_complete (Some principle) x f stands h =
-      let s : Setting = setting_of dims one principle in
-      elim (in_append (arguments_in s) [] x stands) [ inl l ↦ setting_complete s x f l h | inr z ↦ absurd z ]
+of_use : (dims : List DimType) (one : Use) (principle : Option Principle) → known_faults dims one principle ≡ flat_map setting_wrong (setting_if dims one principle)
+of_use dims one None = refl
+of_use dims one (Some principle) =
+    let s : Setting = setting_of dims one principle in
+    sym (append-nil (setting_wrong s) ∙ flat_map-map argument_wrong (λ (parameter : Parameter). record { setting = s; parameter = parameter }) (parameters s.form))
 
 module _ (statements : List Statement) (table : Table) where
   abbrev dims : List DimType
@@ -157,24 +140,11 @@ module _ (statements : List Statement) (table : Table) where
   abbrev settings : List Setting
   settings = flat_map (setting dims) (principle_uses statements)
 
-  sound : (f : Fault) → In (argument_faults statements dims) f → ArgumentOffends statements table f
-  sound f h =
-      let k = in_flat_map (use_faults dims) (principle_uses statements) f h in
-      let r = use_sound dims k.0 (named k.0.name.text) f k.1.1 in
-      let q = in_flat_map arguments_in (setting dims k.0) r.0 r.1.0 in
-      (r.0, (flat_map_in arguments_in settings q.0 r.0 (flat_map_in (setting dims) (principle_uses statements) k.0 q.0 k.1.0 q.1.0) q.1.1, r.1.1))
-
-  complete : (f : Fault) → ArgumentOffends statements table f → In (argument_faults statements dims) f
-  complete f h =
-      let k = in_flat_map arguments_in settings h.0 h.1.0 in
-      let q = in_flat_map (setting dims) (principle_uses statements) k.0 k.1.0 in
-      flat_map_in (use_faults dims) (principle_uses statements) q.0 f q.1.0
-      (use_complete dims q.0 (named q.0.name.text) h.0 f (flat_map_in arguments_in (setting dims q.0) k.0 h.0 q.1.1 k.1.1) h.1.1)
-
-  -- the first of the list is the first offence
-  arguments_tell : Tells (ArgumentOffends statements table) (first (argument_faults statements dims))
-  arguments_tell = tells_as (In (argument_faults statements dims)) (ArgumentOffends statements table) sound complete (first (argument_faults statements dims)) (first-tells (argument_faults statements dims))
+  all_arguments : Lists (argument_faults statements dims) (ArgumentOffends statements table)
+  all_arguments =
+      nested setting_wrong (setting dims) (use_faults dims) (λ one. of_use dims one (named one.name.text)) (principle_uses statements)
+      (nested argument_wrong arguments_in setting_wrong (λ s. refl) settings (lists_each argument_wrong OneOffends (flat_map arguments_in settings) (λ x stands. all_one x)))
 
   pub arguments_first : {E : Type 0} (result : Result (Option Fault) E) → IfOk result (λ found. found ≡ first (argument_faults statements dims)) → IfOk result (Tells (ArgumentOffends statements table))
-  arguments_first (Ok found) is = subst (Tells (ArgumentOffends statements table)) (sym is) arguments_tell
+  arguments_first (Ok found) is = subst (Tells (ArgumentOffends statements table)) (sym is) (lists_tell (argument_faults statements dims) all_arguments)
   arguments_first (Err error) is = tt

@@ -1,9 +1,14 @@
 -- The arguments of a principle, one by one.
-use Rattle.std.proofs.Common.{◌≡◌, ℕ, ◌||◌, List, [], ◌++◌, map, Option, None, Some, sym, ap, ◌∙◌}
+use Rattle.std.proofs.Common.{◌≡◌, ℕ, Bool, ◌||◌, List, [], ◌∷◌, ◌++◌, map, Option, None, Some, sym, ap, ◌∙◌}
 use Rattle.std.specs.List.{flat_map}
+use Rattle.std.specs.Prelude.{if◌then◌else◌}
 use Rattle.std.proofs.lemmas.Grind.{flat_map-append}
 use Rattle.std.proofs.lemmas.List.{map-append, append-nil}
+use Rattle.xdg_base.specs.Faults.{fault_at}
+use Rattle.xdg_base.specs.declared.faults.Cause.TheVariants as causes
 use Rattle.xdg_base.specs.declared.faults.Fault.{Fault}
+use Rattle.xdg_ast.specs.declared.names.Name.{Name}
+use Rattle.xdg_types.specs.NameFaults.{foreign}
 use Rattle.xdg_names.specs.First.{first, earlier}
 use Rattle.xdg_names.proofs.First.{first_append, earlier-none}
 use Rattle.xdg_names.specs.Texts.{has_text}
@@ -14,6 +19,11 @@ use Rattle.xdg_principles.specs.Settings.{Setting}
 use Rattle.xdg_problem.specs.Forms.{key_text, told}
 use Rattle.xdg_principles.specs.Names.{required_key}
 use Rattle.xdg_names.proofs.Texts.{has_text-append}
+
+-- a key that is judged by whether it is known
+pub foreign_told : (known : List (List ℕ)) (key : Name) (text : List ℕ) (is_known : Bool) (found : Option Fault) → found ≡ first (if is_known then [] else fault_at causes.WrongParams key.span.start ∷ [])
+    → is_known ≡ has_text known text → text ≡ key.text → found ≡ first (foreign known key)
+foreign_told known key text is_known found is told same = is ∙ ap (λ b. first (if b then [] else fault_at causes.WrongParams key.span.start ∷ [])) (told ∙ ap (has_text known) same)
 
 pub nothing_more : (found : Option Fault) → earlier found None ≡ found
 nothing_more found = earlier-none found

@@ -1,7 +1,8 @@
 -- What is made of each use with its principle is made of the use.
-use Rattle.std.proofs.Common.{◌≡◌, ℕ, List, [], ◌∷◌, map, Option, refl, ap, ◌∙◌}
+use Rattle.std.proofs.Common.{◌≡◌, ℕ, List, map, Option, ap, ◌∙◌}
 use Rattle.std.specs.List.{flat_map}
 use Rattle.std.proofs.lemmas.List.Folds.{flat_map-map}
+use Rattle.xdg_facts.proofs.Lists.{fused}
 use Rattle.xdg_problem.specs.declared.parts.Principle.{Principle}
 use Rattle.xdg_types.specs.NameFaults.{different}
 use Rattle.xdg_types.specs.Parts.{Statement, dim_names, used_names}
@@ -27,9 +28,5 @@ pub arguments_told : (statements : List Statement) (uses : Uses) (dims : List Di
     → flat_map (arguments.found_faults dims) (map told uses.found) ≡ arguments.argument_faults statements dims
 arguments_told statements uses dims are = faults_told (arguments.found_faults dims) statements uses are
 
-built_each : (dims : List DimType) (uses : List Use) → map (built_found dims) (map with_principle uses) ≡ map (built dims) uses
-built_each dims [] = refl
-built_each dims (one ∷ uses) = ap (λ xs. built dims one ∷ xs) (built_each dims uses)
-
 pub built_told : (statements : List Statement) (uses : Uses) (dims : List DimType) → AreUsesOf statements uses → map (built_found dims) (map told uses.found) ≡ map (built dims) (principle_uses statements)
-built_told statements uses dims are = ap (map (built_found dims)) are ∙ built_each dims (principle_uses statements)
+built_told statements uses dims are = ap (map (built_found dims)) are ∙ fused (built_found dims) with_principle (principle_uses statements)

@@ -1,5 +1,5 @@
 -- Names by number.
-use Rattle.std.proofs.Common.{◌≡◌, ℕ, zero, suc, ◌+◌, ◌<◌, ◌≤◌, List, [], ◌∷◌, length, drop, drop-cons, get_or, Option, None, Some, add-one, ap, sym, ◌∙◌, refl, subst, arith}
+use Rattle.std.proofs.Common.{◌≡◌, ℕ, zero, suc, ◌+◌, ◌<◌, ◌≤◌, List, [], ◌∷◌, length, get_or, Option, None, Some, ap, sym, ◌∙◌, refl, subst, arith}
 use Rattle.std.specs.Prelude.{slice_get, option_map}
 use Rattle.std.proofs.lemmas.Option.{slice_get-map}
 use Rattle.xdg_names.specs.Texts.{place_of}
@@ -29,9 +29,6 @@ differ_at (d ∷ ds) sort (suc k) dim keeps h e = differ_at ds sort k dim keeps.
 abbrev pub shifted : ℕ → Option ℕ → Option ℕ
 shifted i None = None
 shifted i (Some n) = Some (i + n)
-
-front : (xs : List (List ℕ)) (i : ℕ) (x : List ℕ) → i < length xs → x ≡ get_or xs i x → drop i xs ≡ x ∷ drop (i + 1) xs
-front xs i x within is = rw (add-one, drop-cons xs i x) (ap (λ y. y ∷ drop (suc i) xs) (sym is))
 
 -- ---- labels
 

@@ -1,8 +1,6 @@
 -- The offences of names that the pass lists are those of the rules.
-use Rattle.std.proofs.Common.{◌≡◌, inl, inr, ◌⊎◌, ℕ, Bool, true, false, List, [], ◌++◌, Option, None, Some, refl, sym, ap, ◌∙◌, subst}
+use Rattle.std.proofs.Common.{◌≡◌, inl, inr, ◌⊎◌, ℕ, true, List, [], ◌++◌, None, Some, refl, sym, ap, ◌∙◌}
 use Rattle.std.specs.List.{flat_map}
-use Rattle.std.specs.Prelude.{if◌then◌else◌}
-use Rattle.std.proofs.lemmas.Bool.{false≢true}
 use Rattle.std.proofs.lemmas.List.{append-nil}
 use Rattle.xdg_base.specs.Faults.{fault_at}
 use Rattle.xdg_base.specs.declared.faults.Cause.TheVariants as causes
@@ -13,8 +11,9 @@ use Rattle.xdg_names.specs.Texts.{has_text}
 use Rattle.xdg_types.specs.NameFaults.{unknown, repeats, different}
 use Rattle.xdg_ast.specs.Misnamed.{IsUnknown, IsTwice}
 use Rattle.xdg_types.specs.Parts.{Statement, dim_names, used_names, keys}
-use Rattle.xdg_names.proofs.Listing.{Lists, lists_tell, lists_both}
+use Rattle.xdg_names.proofs.Listing.{Lists, lists_tell, lists_as, lists_both, lists_each}
 use Rattle.xdg_types.proofs.Listings.{joined_each, nested, regrouped}
+use Rattle.xdg_types.proofs.Optional.{lists_one, lists_option, lists_if}
 use Rattle.xdg_types.proofs.Distinct.{same_known}
 use Rattle.xdg_names.proofs.Texts.{has_among, among_has, not_among, no_text}
 use Rattle.xdg_types.proofs.NamesAgain.{all_twice}
@@ -26,19 +25,8 @@ use Rattle.xdg_problem.specs.declared.parts.Principle.{Principle}
 use Rattle.xdg_problem.specs.Forms.{form_of}
 use Rattle.xdg_problem.specs.Names.{named}
 use Rattle.xdg_principles.specs.Uses.{Use, principle_uses, values}
-use Rattle.xdg_facts.specs.Membership.{In}
-use Rattle.xdg_facts.proofs.In.{in_append, in_left, in_right, in_unless, unless_in, in_flat_map, flat_map_in}
+use Rattle.xdg_facts.proofs.In.{in_unless, unless_in, in_flat_map, flat_map_in}
 use Rattle.xdg_ast.specs.Texts.{texts}
-
--- ---- a list under a test
-
-when_some : {A : Type 0} (b : Bool) (xs : List A) (x : A) → In (if b then xs else []) x → (b ≡ true) × In xs x
-when_some true xs x h = (refl, h)
-when_some false xs x h = absurd h
-
-some_when : {A : Type 0} (b : Bool) (xs : List A) (x : A) → b ≡ true → In xs x → In (if b then xs else []) x
-some_when true xs x e h = h
-some_when false xs x e h = absurd (false≢true e)
 
 -- ---- the keys of a principle
 
@@ -78,51 +66,52 @@ module _ (statements : List Statement) where
       nested (unknown defined) (λ one. values one.dims) (λ one. flat_map (unknown defined) (values one.dims)) (λ one. refl) uses (unknown_names (dim_names statements) (given_dims statements))
 
   all_unused : Lists (flat_map (unused used) uses) (IsUnusedDimension statements)
-  all_unused = record {
-    sound = λ f h. (let k = in_flat_map (unused used) uses f h in
-        let s = when_some (has_text used k.0.within.text) (flat_map (unknown used) (values k.0.dims)) f k.1.1 in
-        record {
+  all_unused =
+      lists_as
+      (lists_each (unused used) (λ one f. (has_text used one.within.text ≡ true) × IsUnknown causes.UnknownName (texts (used_names statements)) (values one.dims) f) uses
+      (λ one stands. lists_if (has_text used one.within.text) (unknown_names (used_names statements) (values one.dims))))
+      (λ f. (
+        λ k. record {
           one = k.0;
           stands = k.1.0;
-          used = has_among (texts (used_names statements)) k.0.within.text (sym (same_known (used_names statements) k.0.within.text) ∙ s.0);
-          unknown = (unknown_names (used_names statements) (values k.0.dims)).sound f s.1;
-        });
-    complete = λ f u. flat_map_in (unused used) uses u.one f u.stands
-        (some_when (has_text used u.one.within.text) (flat_map (unknown used) (values u.one.dims)) f
-        (same_known (used_names statements) u.one.within.text ∙ among_has (texts (used_names statements)) u.one.within.text u.used)
-        ((unknown_names (used_names statements) (values u.one.dims)).complete f u.unknown));
-  }
+          used = has_among (texts (used_names statements)) k.0.within.text (sym (same_known (used_names statements) k.0.within.text) ∙ k.1.1.0);
+          unknown = k.1.1.1;
+        },
+        λ u. (u.one, (u.stands, (same_known (used_names statements) u.one.within.text ∙ among_has (texts (used_names statements)) u.one.within.text u.used, u.unknown))),
+      ))
 
   -- where this is the principle that the use names
   abbrev by_name : Use → List Fault
   by_name one = principle_faults one (named one.name.text)
 
-  abbrev ByName : Fault → Type 0
-  ByName f = IsUnknownPrinciple statements f ⊎ (IsUnknownKey statements f ⊎ IsLeftOut statements f)
+  -- what is wrong with the keys of a use of that principle
+  abbrev OfKeys : Use → Principle → Fault → Type 0
+  OfKeys one principle f =
+      (IsUnknown causes.WrongParams (dim_keys (form_of principle)) (keys one.dims) f ⊎ IsUnknown causes.WrongParams (arg_keys (form_of principle)) (keys one.args) f)
+      ⊎ (IsMissing (dim_keys (form_of principle)) (keys one.dims) one.name.span.start f ⊎ IsMissing (required_keys (form_of principle)) (keys one.args) one.name.span.start f)
 
-  of_named : (one : Use) → In uses one → (found : Option Principle) → named one.name.text ≡ found → (f : Fault) → In (principle_faults one found) f → ByName f
-  of_named one stands None is f h = elim h [ inl e ↦ inl (record { one = one; stands = stands; missing = is; fault = sym e }) | inr k ↦ absurd k ]
-  of_named one stands (Some principle) is f h = elim (in_append (key_faults (form_of principle) one) (left_out (form_of principle) one) f h) [
-    | inl k ↦ inr (inl (record { one = one; stands = stands; principle = principle; known = is; unknown = (all_keys (form_of principle) one).sound f k }))
-    | inr l ↦ inr (inr (record { one = one; stands = stands; principle = principle; known = is; missing = (all_left_out (form_of principle) one).sound f l }))
-  ]
+  abbrev ByName : Use → Fault → Type 0
+  ByName one f = ((named one.name.text ≡ None) × (fault_at causes.UnknownPrinciple one.name.span.start ≡ f)) ⊎ ((principle : Principle) × ((named one.name.text ≡ Some principle) × OfKeys one principle f))
 
-  in_named : (one : Use) → In uses one → (found : Option Principle) → named one.name.text ≡ found → (f : Fault) → In (principle_faults one found) f → In (flat_map by_name uses) f
-  in_named one stands found is f h = flat_map_in by_name uses one f stands (subst (λ (o : Option Principle). In (principle_faults one o) f) (sym is) h)
-
-  all_by_name : Lists (flat_map by_name uses) ByName
-  all_by_name = record {
-    sound = λ f h. (let k = in_flat_map by_name uses f h in of_named k.0 k.1.0 (named k.0.name.text) refl f k.1.1);
-    complete = λ f h. elim h [
-      | inl u ↦ in_named u.one u.stands None u.missing f (inl (sym u.fault))
-      | inr h ↦ elim h [
-        | inl k ↦ in_named k.one k.stands (Some k.principle) k.known f
-            (in_left (key_faults (form_of k.principle) k.one) (left_out (form_of k.principle) k.one) f ((all_keys (form_of k.principle) k.one).complete f k.unknown))
-        | inr l ↦ in_named l.one l.stands (Some l.principle) l.known f
-            (in_right (key_faults (form_of l.principle) l.one) (left_out (form_of l.principle) l.one) f ((all_left_out (form_of l.principle) l.one).complete f l.missing))
-      ]
-    ];
-  }
+  all_by_name : Lists (flat_map by_name uses) (λ f. IsUnknownPrinciple statements f ⊎ (IsUnknownKey statements f ⊎ IsLeftOut statements f))
+  all_by_name =
+      lists_as
+      (lists_each by_name ByName uses (λ one stands. lists_option (principle_faults one) (λ f. fault_at causes.UnknownPrinciple one.name.span.start ≡ f) (OfKeys one) (lists_one (fault_at causes.UnknownPrinciple one.name.span.start))
+      (λ principle. lists_both (all_keys (form_of principle) one) (all_left_out (form_of principle) one)) (named one.name.text)))
+      (λ f. (
+        λ k. elim k.1.1 [
+          | inl n ↦ inl (record { one = k.0; stands = k.1.0; missing = n.0; fault = sym n.1 })
+          | inr p ↦ elim p.1.1 [
+            | inl u ↦ inr (inl (record { one = k.0; stands = k.1.0; principle = p.0; known = p.1.0; unknown = u }))
+            | inr l ↦ inr (inr (record { one = k.0; stands = k.1.0; principle = p.0; known = p.1.0; missing = l }))
+          ]
+        ],
+        λ h. elim h [
+          | inl n ↦ (n.one, (n.stands, inl (n.missing, sym n.fault)))
+          | inr (inl u) ↦ (u.one, (u.stands, inr (u.principle, (u.known, inl u.unknown))))
+          | inr (inr l) ↦ (l.one, (l.stands, inr (l.principle, (l.known, inr l.missing))))
+        ],
+      ))
 
   pub all_names : Lists (name_faults statements) (PrincipleNameOffends statements)
   all_names =

@@ -1,8 +1,8 @@
 -- What is built is what is meant, where nothing is wrong.
 use Rattle.xdg_facts.proofs.Options.{some_same, none_some}
-use Rattle.std.proofs.Common.{◌≡◌, inl, inr, ℕ, suc, true, List, [], ◌∷◌, map, Option, None, Some, refl, sym, ap, ◌∙◌, subst}
+use Rattle.std.proofs.Common.{◌≡◌, inl, inr, ℕ, true, false, List, [], ◌∷◌, map, Option, None, Some, refl, sym, ap, ◌∙◌, subst}
 use Rattle.std.specs.List.{flat_map}
-use Rattle.std.specs.Prelude.{option_map, if◌then◌else◌, bytes_eq, codes}
+use Rattle.std.specs.Prelude.{if◌then◌else◌, bytes_eq, codes}
 use Rattle.std.proofs.lemmas.Bool.{true≢false, cases_Bool}
 use Rattle.std.proofs.lemmas.Slice.Eq.{bytes_eq-Decides}
 use Rattle.xdg_base.specs.Faults.{fault_at}
@@ -13,6 +13,7 @@ use Rattle.xdg_ast.specs.declared.grammar.DimPartKind.TheVariants as v
 use Rattle.xdg_base.specs.declared.faults.Cause.TheVariants as causes
 use Rattle.xdg_base.specs.declared.faults.Fault.{Fault}
 use Rattle.xdg_names.specs.Texts.{place_of}
+use Rattle.xdg_names.proofs.Texts.{place_of-has_text, among_has}
 use Rattle.xdg_terms.specs.Forms.{Term, constant_of}
 use Rattle.xdg_terms.specs.Means.{truth_text}
 use Rattle.xdg_types.specs.Answers.{None_of}
@@ -50,39 +51,24 @@ use Rattle.xdg_terms.proofs.Right.{told}
 abbrev IsThere : Option ℕ → Type 0
 IsThere o = o ≡ Some (or_zero o)
 
-there_more : (o : Option ℕ) → IsThere o → IsThere (option_map suc o)
-there_more None h = cc
-there_more (Some n) h = refl
-
 place_there : (known : List (List ℕ)) (t : List ℕ) → In known t → IsThere (place_of known t)
-place_there [] t h = absurd h
-place_there (x ∷ known) t h = elim (cases_Bool (bytes_eq x t)) [
-  | inl e ↦ subst (λ b. IsThere (if b then Some 0 else option_map suc (place_of known t))) (sym e) refl
-  | inr e ↦ subst (λ b. IsThere (if b then Some 0 else option_map suc (place_of known t))) (sym e)
-      (there_more (place_of known t) (elim h [
-        | inl same ↦ absurd (true≢false (sym ((bytes_eq-Decides x t).1 same) ∙ e))
-        | inr k ↦ place_there known t k
-      ]))
-]
+place_there known t h = let k = place_of-has_text known t (among_has known t h) in k.1 ∙ sym (ap (λ o. Some (or_zero o)) k.1)
 
 -- ---- pairs
 
 none_under : {A : Type 0} (pairs : List (Pair A)) (key : List ℕ) → under pairs key ≡ None → In (texts (keys pairs)) key → ⊥
 none_under [] key e h = h
-none_under (pair ∷ pairs) key e h = elim (cases_Bool (bytes_eq pair.key.text key)) [
-  | inl q ↦ absurd (none_some pair.value (sym e ∙ ap (λ b. if b then Some pair.value else under pairs key) q))
-  | inr q ↦ elim h [
-    | inl same ↦ true≢false (sym ((bytes_eq-Decides pair.key.text key).1 same) ∙ q)
-    | inr k ↦ none_under pairs key (sym (ap (λ b. if b then Some pair.value else under pairs key) q) ∙ e) k
-  ]
-]
+none_under (pair ∷ pairs) key e h = elim (bytes_eq pair.key.text key) as (λ b. bytes_eq pair.key.text key ≡ b → (if b then Some pair.value else under pairs key) ≡ None → ⊥) [
+  | true ↦ λ q k. none_some pair.value (sym k)
+  | false ↦ λ q k. elim h [ inl same ↦ true≢false (sym ((bytes_eq-Decides pair.key.text key).1 same) ∙ q) | inr i ↦ none_under pairs key k i ]
+] refl e
 
 pub value_under : (pairs : List (Pair Name)) (key : List ℕ) (name : Name) → under pairs key ≡ Some name → In (values pairs) name
 value_under [] key name e = absurd cc
-value_under (pair ∷ pairs) key name e = elim (cases_Bool (bytes_eq pair.key.text key)) [
-  | inl q ↦ inl (some_same pair.value name (sym (ap (λ b. if b then Some pair.value else under pairs key) q) ∙ e))
-  | inr q ↦ inr (value_under pairs key name (sym (ap (λ b. if b then Some pair.value else under pairs key) q) ∙ e))
-]
+value_under (pair ∷ pairs) key name e = elim (bytes_eq pair.key.text key) as (λ b. (if b then Some pair.value else under pairs key) ≡ Some name → In (values (pair ∷ pairs)) name) [
+  | true ↦ λ k. inl (some_same pair.value name k)
+  | false ↦ λ k. inr (value_under pairs key name k)
+] e
 
 -- ---- where a use stands
 

@@ -232,8 +232,8 @@ fn label_numbers(alloc: Global, labels: &[Text], names: &[Name]) -> Result<List<
     Ok(made)
 }
 
-/// The number of a label, from 0.
-fn label_number(labels: &[Text], name: &Name) -> u8
+/// The number of a label: its place among the labels, from 0, or 0 where it is none of them. The time is linear in their number.
+pub fn label_number(labels: &[Text], name: &Name) -> u8
     requires { length labels.now ≤ 32 }
     ensures { result ≡ spec.label_number labels.now name.now }
 {

@@ -15,7 +15,7 @@ use Rattle.xdg_facts.proofs.In.{in_append}
 
 -- ---- the texts of names more
 
-with_has : (seen : List (List ℕ)) (x t : List ℕ) → has_text (with_text seen x) t ≡ (has_text seen t || bytes_eq x t)
+pub with_has : (seen : List (List ℕ)) (x t : List ℕ) → has_text (with_text seen x) t ≡ (has_text seen t || bytes_eq x t)
 with_has seen x t = elim (cases_Bool (has_text seen x)) [
   | inl stands ↦ ap (λ b. has_text (if b then seen else seen ++ x ∷ []) t) stands ∙ sym (by stands (bytes_eq x t) refl)
   | inr new ↦ ap (λ b. has_text (if b then seen else seen ++ x ∷ []) t) new ∙ has_text-append seen (x ∷ []) t ∙ ap (λ b. has_text seen t || b) (or_false (bytes_eq x t))

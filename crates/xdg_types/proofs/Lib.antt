@@ -6,7 +6,9 @@ pub mod Listings
 pub mod Made
 pub mod NamesAgain
 pub mod NamesKnown
-pub mod NameTurns
+pub mod FaultTurns
+pub mod Optional
+pub mod SeenTurns
 pub mod Treed
 pub mod InUse
 pub mod Places

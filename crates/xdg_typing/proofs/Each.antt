@@ -1,13 +1,10 @@
--- What the names and the types of the first item add to those of the others.
+-- What the names of the types that a statement defines add to those of the others.
 use Rattle.std.proofs.Common.{◌≡◌, List, ◌∷◌, ◌++◌, map, ap, ◌∙◌}
 use Rattle.std.specs.List.{flat_map}
 use Rattle.std.proofs.lemmas.List.{map-append}
 use Rattle.std.proofs.lemmas.Grind.{flat_map-append}
-use Rattle.xdg_types.specs.Parts.{DimPart, Statement, dimension, dimensions, definition, definitions_in, defined_names}
-use Rattle.xdg_typing.specs.Listed.{named_in, named_by, defined_name}
-
-pub each_part : (part : DimPart) (more : List DimPart) → named_by (part ∷ more) ≡ named_in part.kind ++ named_by more
-each_part part more = map-append (λ d. d.name) (definition part.kind) (definitions_in more)
+use Rattle.xdg_types.specs.Parts.{Statement, dimension, dimensions, definitions_in, defined_names}
+use Rattle.xdg_typing.specs.Listed.{defined_name}
 
 pub each_definition : (statement : Statement) (more : List Statement) → defined_names (statement ∷ more) ≡ defined_name statement.kind ++ defined_names more
 each_definition statement more =

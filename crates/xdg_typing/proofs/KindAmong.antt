@@ -1,48 +1,33 @@
 -- Which texts stand among others, and among those that a pass has seen.
-use Rattle.std.proofs.Common.{◌≡◌, ◌⊎◌, inl, inr, ℕ, Bool, true, false, List, [], ◌∷◌, ◌++◌, refl, sym, subst}
-use Rattle.std.specs.Prelude.{if◌then◌else◌}
+use Rattle.std.proofs.Common.{◌≡◌, ◌⊎◌, inl, inr, ℕ, true, ◌||◌, List, [], ◌∷◌, ◌++◌, refl, sym, ap, ◌∙◌, subst}
+use Rattle.std.specs.Str.{bytes_eq}
 use Rattle.std.proofs.lemmas.Bool.{or_cases, or_left, or_right, true≢false}
 use Rattle.xdg_names.specs.Texts.{has_text}
 use Rattle.xdg_names.proofs.Texts.{has_among, among_has}
 use Rattle.xdg_typing.specs.KindFaults.{add_texts, has_one}
 use Rattle.xdg_facts.specs.Membership.{In}
 use Rattle.xdg_types.specs.NameFaults.{with_text}
+use Rattle.xdg_types.proofs.Distinct.{with_has}
+use Rattle.xdg_facts.proofs.Truths.{or_false, or_assoc}
 use Rattle.xdg_facts.proofs.In.{in_append, in_left, in_right}
 
 abbrev Text : Type 0
 Text = List ℕ
 
-of_added : (seen : List Text) (x t : Text) (b : Bool) → In (if b then seen else seen ++ x ∷ []) t → In seen t ⊎ (x ≡ t)
-of_added seen x t true h = inl h
-of_added seen x t false h = elim (in_append seen (x ∷ []) t h) [ inl l ↦ inl l | inr r ↦ elim r [ inl e ↦ inr e | inr k ↦ absurd k ] ]
-
-still_added : (seen : List Text) (x t : Text) (b : Bool) → In seen t → In (if b then seen else seen ++ x ∷ []) t
-still_added seen x t true h = h
-still_added seen x t false h = in_left seen (x ∷ []) t h
-
-now_added : (seen : List Text) (x t : Text) (b : Bool) → has_text seen x ≡ b → x ≡ t → In (if b then seen else seen ++ x ∷ []) t
-now_added seen x t true h e = subst (In seen) e (has_among seen x h)
-now_added seen x t false h e = in_right seen (x ∷ []) t (inl e)
-
--- ---- texts more
+-- a text stands among these and those that are added
+added_has : (seen cs : List Text) (t : Text) → has_text (add_texts seen cs) t ≡ (has_text seen t || has_text cs t)
+added_has seen [] t = sym (or_false (has_text seen t))
+added_has seen (c ∷ cs) t =
+    added_has (with_text seen c) cs t ∙ ap (λ b. b || has_text cs t) (with_has seen c t) ∙ or_assoc (has_text seen t) (bytes_eq c t) (has_text cs t)
 
 of_more : (seen cs : List Text) (t : Text) → In (add_texts seen cs) t → In seen t ⊎ In cs t
-of_more seen [] t h = inl h
-of_more seen (c ∷ cs) t h = elim (of_more (with_text seen c) cs t h) [
-  | inl l ↦ elim (of_added seen c t (has_text seen c) l) [ inl k ↦ inl k | inr e ↦ inr (inl e) ]
-  | inr r ↦ inr (inr r)
-]
+of_more seen cs t h = elim (or_cases (has_text seen t) (has_text cs t) (sym (added_has seen cs t) ∙ among_has (add_texts seen cs) t h)) [ inl e ↦ inl (has_among seen t e) | inr e ↦ inr (has_among cs t e) ]
 
 still_more : (seen cs : List Text) (t : Text) → In seen t → In (add_texts seen cs) t
-still_more seen [] t h = h
-still_more seen (c ∷ cs) t h = still_more (with_text seen c) cs t (still_added seen c t (has_text seen c) h)
+still_more seen cs t h = has_among (add_texts seen cs) t (added_has seen cs t ∙ or_left (has_text seen t) (has_text cs t) (among_has seen t h))
 
 now_more : (seen cs : List Text) (t : Text) → In cs t → In (add_texts seen cs) t
-now_more seen [] t h = absurd h
-now_more seen (c ∷ cs) t h = elim h [
-  | inl e ↦ still_more (with_text seen c) cs t (now_added seen c t (has_text seen c) refl e)
-  | inr k ↦ now_more (with_text seen c) cs t k
-]
+now_more seen cs t h = has_among (add_texts seen cs) t (added_has seen cs t ∙ or_right (has_text seen t) (has_text cs t) (among_has cs t h))
 
 -- ---- what was seen, as a set
 

@@ -1,5 +1,5 @@
 -- The faults of one type are those of the rules.
-use Rattle.std.proofs.Common.{◌≡◌, ◌↔◌, ◌⊎◌, inl, inr, ℕ, ◌<◌, ◌-◌, ◌^◌, Bool, true, false, List, length, refl, sym, subst}
+use Rattle.std.proofs.Common.{◌≡◌, ◌↔◌, ◌⊎◌, inl, inr, ℕ, ◌<◌, ◌-◌, ◌^◌, Bool, true, false, List, ◌++◌, length, refl, sym, subst, append_assoc}
 use Rattle.std.specs.Prelude.{min, not, ◌&&◌}
 use Rattle.std.proofs.lemmas.Bool.{true≢false, false≢true}
 use Rattle.xdg_base.specs.Faults.{fault_at}
@@ -8,12 +8,12 @@ use Rattle.xdg_base.specs.declared.faults.Fault.{Fault}
 use Rattle.xdg_domain.specs.Shapes.{Shape, constants, sizes, product}
 use Rattle.xdg_types.specs.Written.{Tree, listed, tupled, Trees}
 use Rattle.xdg_types.specs.Meaning.{meaning, domains_meaning, as_domain}
-use Rattle.xdg_types.specs.Kinds.{Wanted, the_labels, Site, is_of_kind, has_no_field, reaching, IsWrongKind, IsTooBig, HasManyLabels, HasManyTuples, SiteOffends}
-use Rattle.xdg_typing.specs.KindFaults.{kind_faults, big_faults, label_faults, wide_faults, alone_faults, site_faults}
+use Rattle.xdg_types.specs.Kinds.{Wanted, the_labels, Site, is_of_kind, has_no_field, reaching, IsWrongKind, IsTooBig, HasManyLabels, HasManyTuples, SharesConstant, HasWrongAttributes, SiteOffends}
+use Rattle.xdg_typing.specs.KindFaults.{kind_faults, big_faults, label_faults, wide_faults, attributes_faults, shared_faults, site_faults}
 use Rattle.xdg_typing.proofs.RecordRows.{above_limit, attributes_exact, in_either}
 use Rattle.xdg_typing.proofs.SharedRows.{shares_sound, shares_complete}
 use Rattle.xdg_facts.specs.Membership.{In}
-use Rattle.xdg_facts.proofs.In.{in_unless, unless_in}
+use Rattle.xdg_facts.proofs.In.{in_append, in_left, in_right, in_unless, unless_in}
 
 not_both : (right fieldless : Bool) → (right && not fieldless) ≡ false → (right ≡ false) ⊎ (fieldless ≡ true)
 not_both false b h = inl refl
@@ -24,27 +24,6 @@ one_of : (right fieldless : Bool) → (right ≡ false) ⊎ (fieldless ≡ true)
 one_of false b h = refl
 one_of true true h = refl
 one_of true false h = elim h [ inl e ↦ absurd (true≢false e) | inr e ↦ absurd (false≢true e) ]
-
--- what is shared is looked for last, and told before what is wrong with attributes
-told_before : {A B C D E S : Type 0} → ((A ⊎ (B ⊎ (C ⊎ (D ⊎ E)))) ⊎ S) ↔ (A ⊎ (B ⊎ (C ⊎ (D ⊎ (S ⊎ E)))))
-told_before = (
-  λ h. elim h [
-    | inl (inl a) ↦ inl a
-    | inl (inr (inl b)) ↦ inr (inl b)
-    | inl (inr (inr (inl c))) ↦ inr (inr (inl c))
-    | inl (inr (inr (inr (inl d)))) ↦ inr (inr (inr (inl d)))
-    | inl (inr (inr (inr (inr e)))) ↦ inr (inr (inr (inr (inr e))))
-    | inr s ↦ inr (inr (inr (inr (inl s))))
-  ],
-  λ h. elim h [
-    | inl a ↦ inl (inl a)
-    | inr (inl b) ↦ inl (inr (inl b))
-    | inr (inr (inl c)) ↦ inl (inr (inr (inl c)))
-    | inr (inr (inr (inl d))) ↦ inl (inr (inr (inr (inl d))))
-    | inr (inr (inr (inr (inl s)))) ↦ inr s
-    | inr (inr (inr (inr (inr e)))) ↦ inl (inr (inr (inr (inr e))))
-  ],
-)
 
 module _ (names : List ℕ → Shape) (site : Site) (f : Fault) where
   abbrev count : ℕ
@@ -91,9 +70,16 @@ module _ (names : List ℕ → Shape) (site : Site) (f : Fault) where
 
   pub site_exact : In (site_faults names site) f ↔ SiteOffends names site f
   site_exact =
-      let wide = in_either (wide_faults names site.at site.written) _ f wide_exact (attributes_exact names site f) in
-      let labels = in_either (label_faults site.wanted site.at count) _ f labels_exact wide in
-      let big = in_either (big_faults site.at site.written) _ f big_exact labels in
-      let alone = in_either (kind_faults names site.wanted site.at site.written) _ f wrong_exact big in
-      let all = in_either (alone_faults names site.wanted site.at site.written) _ f alone (shares_sound names site site.written f refl, shares_complete names site f) in
-      (λ h. told_before.0 (all.0 h), λ h. all.1 (told_before.1 h))
+      let kind = kind_faults names site.wanted site.at site.written in
+      let big = big_faults site.at site.written in
+      let labels = label_faults site.wanted site.at count in
+      let wide = wide_faults names site.at site.written in
+      let attributes = attributes_faults names site.wanted site.at site.written in
+      let shared = shared_faults names site.written in
+      -- what is shared is looked for last, and told before what is wrong with attributes
+      let last : In (attributes ++ shared) f ↔ (SharesConstant names site f ⊎ HasWrongAttributes names site f) = (
+        λ h. elim (in_append attributes shared f h) [ inl l ↦ inr ((attributes_exact names site f).0 l) | inr r ↦ inl (shares_sound names site site.written f refl r) ],
+        λ h. elim h [ inl s ↦ in_right attributes shared f (shares_complete names site f s) | inr e ↦ in_left attributes shared f ((attributes_exact names site f).1 e) ],
+      ) in
+      let same : site_faults names site ≡ kind ++ (big ++ (labels ++ (wide ++ (attributes ++ shared)))) = simp append_assoc in
+      rw same (in_either kind _ f wrong_exact (in_either big _ f big_exact (in_either labels _ f labels_exact (in_either wide _ f wide_exact last))))

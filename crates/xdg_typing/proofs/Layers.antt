@@ -1,5 +1,5 @@
 -- The tree of a type, and what the form of a head tells, layer by layer.
-use Rattle.std.proofs.Common.{◌≡◌, ℕ, ◌<◌, ◌+◌, Bool, false, ◌||◌, List, [], ◌∷◌, length, drop, get_or, map, refl, sym, ap, ◌∙◌, subst, arith, ap₂}
+use Rattle.std.proofs.Common.{◌≡◌, ℕ, ◌<◌, ◌+◌, Bool, false, ◌||◌, List, ◌∷◌, length, drop, get_or, refl, sym, ap, ◌∙◌, subst, arith, ap₂}
 use Rattle.std.specs.Prelude.{not, ltb, ◌&&◌}
 use Rattle.std.proofs.lemmas.Bool.{lt-ltb}
 use Rattle.std.proofs.lemmas.List.{at_drop_more}
@@ -7,26 +7,19 @@ use Rattle.xdg_ast.specs.declared.names.Pair.{Pair}
 use Rattle.xdg_ast.specs.declared.types.TypeKind.{TypeKind, out-TypeKind, map-TypeKind, fold_out-TypeKind}
 use Rattle.xdg_ast.specs.declared.types.TypeKind.TheVariants as y
 use Rattle.xdg_ast.specs.declared.types.TypeKind.TheOpen.{TypeKind-F}
+use Rattle.xdg_ast.specs.declared.types.TypeKind.TheFolds.{fold-roll-TypeKind}
 use Rattle.xdg_domain.specs.Shapes.{Shape}
-use Rattle.xdg_types.specs.Written.{Tree, recorded, tupled, map_of, member_then, tree_then, trees_of, members_of, layer, tree}
+use Rattle.xdg_types.specs.Written.{Tree, recorded, tupled, map_of, layer, tree}
 use Rattle.xdg_types.specs.Parts.{TypeTerm}
 use Rattle.xdg_types.specs.Meaning.{meaning, domains_meaning, as_domain, IsHead}
+use Rattle.xdg_types.proofs.Treed as treed
 use Rattle.xdg_typing.specs.Heads.{IsHeadOf}
 use Rattle.xdg_types.specs.Kinds.{is_domain, is_small, is_empty_domain, are_domains, has_empty_domain, has_no_tuple, is_attribute, has_no_field}
-use Rattle.xdg_typing.specs.KindFaults.{trees_in, members_in, form_tree, domain_form, small_form, empty_form, fieldless_form}
-
-trees_are : (types : List TypeTerm) → trees_of (map (λ type. record { kind = tree type.kind; span = type.span }) types) ≡ trees_in types
-trees_are [] = refl
-trees_are (type ∷ types) = ap (tree_then type.span.start (tree type.kind)) (trees_are types)
-
-members_are : (fields : List (Pair TypeTerm))
-    → members_of (map (λ field. record { key = field.key; value = record { kind = tree field.value.kind; span = field.value.span } }) fields) ≡ members_in fields
-members_are [] = refl
-members_are (field ∷ more) = ap (member_then field.key field.value.span.start (tree field.value.kind)) (members_are more)
+use Rattle.xdg_typing.specs.KindFaults.{trees, members, form_tree, domain_form, small_form, empty_form, fieldless_form}
 
 form_layer : (l : TypeKind-F TypeKind) → layer (map-TypeKind TypeKind Tree tree l) ≡ form_tree l
-form_layer (TypeKind-F.Rec pairs) = ap recorded (members_are pairs)
-form_layer (TypeKind-F.Tuple types) = ap tupled (trees_are types)
+form_layer (TypeKind-F.Rec pairs) = sym (fold-roll-TypeKind Tree layer (TypeKind-F.Rec pairs)) ∙ ap tree (y.rolls-Rec pairs) ∙ treed.tree_rec pairs
+form_layer (TypeKind-F.Tuple types) = sym (fold-roll-TypeKind Tree layer (TypeKind-F.Tuple types)) ∙ ap tree (y.rolls-Tuple types) ∙ treed.tree_tuple types
 form_layer other = refl
 
 -- a type's tree, by its first layer
@@ -34,15 +27,15 @@ pub tree_form : (kind : TypeKind) → tree kind ≡ form_tree (out-TypeKind kind
 tree_form kind = fold_out-TypeKind Tree layer kind ∙ form_layer (out-TypeKind kind)
 
 -- the trees of the forms of types, where what stands in them was asked for
-pub tree_rec : (kind : TypeKind) (fields given : List (Pair TypeTerm)) → kind ≡ y.Rec fields → given ≡ fields → tree kind ≡ recorded (members_in given)
-tree_rec kind fields given is same = ap tree is ∙ tree_form (y.Rec fields) ∙ ap form_tree (y.outs-Rec _) ∙ ap (λ fs. recorded (members_in fs)) (sym same)
+pub tree_rec : (kind : TypeKind) (fields given : List (Pair TypeTerm)) → kind ≡ y.Rec fields → given ≡ fields → tree kind ≡ recorded (members given)
+tree_rec kind fields given is same = ap tree is ∙ treed.tree_rec fields ∙ ap (λ fs. recorded (members fs)) (sym same)
 
-pub tree_tuple : (kind : TypeKind) (types given : List TypeTerm) → kind ≡ y.Tuple types → given ≡ types → tree kind ≡ tupled (trees_in given)
-tree_tuple kind types given is same = ap tree is ∙ tree_form (y.Tuple types) ∙ ap form_tree (y.outs-Tuple _) ∙ ap (λ ts. tupled (trees_in ts)) (sym same)
+pub tree_tuple : (kind : TypeKind) (types given : List TypeTerm) → kind ≡ y.Tuple types → given ≡ types → tree kind ≡ tupled (trees given)
+tree_tuple kind types given is same = ap tree is ∙ treed.tree_tuple types ∙ ap (λ ts. tupled (trees ts)) (sym same)
 
 pub tree_map : (kind : TypeKind) (key value k v : TypeTerm) → kind ≡ y.Map key value → k ≡ key → v ≡ value → tree kind ≡ map_of k.span.start (tree k.kind) v.span.start (tree v.kind)
 tree_map kind key value k v is same_k same_v =
-    ap tree is ∙ tree_form (y.Map key value) ∙ ap form_tree (y.outs-Map _ _)
+    ap tree is ∙ treed.tree_map key value
     ∙ ap₂ (λ (a b : TypeTerm). map_of a.span.start (tree a.kind) b.span.start (tree b.kind)) (sym same_k) (sym same_v)
 
 -- a list with something in it
@@ -92,19 +85,19 @@ module _ (names : List ℕ → Shape) where
 
   -- a tuple type
   pub tuple_told : (head : TypeKind) (types given : List TypeTerm) (found : Bool) → head ≡ y.Tuple types → given ≡ types
-      → found ≡ has_no_tuple (domains_meaning names (trees_in given)) → not found ≡ is_attribute (as_domain (meaning names (tree head)))
+      → found ≡ has_no_tuple (domains_meaning names (trees given)) → not found ≡ is_attribute (as_domain (meaning names (tree head)))
   tuple_told head types given found is same has = ap not has ∙ ap (λ t. is_attribute (as_domain (meaning names t))) (sym (tree_tuple head types given is same))
 
   -- the next of some types is no domain without constants
   pub not_empty_here : (types : List TypeTerm) (i : ℕ) (type : TypeTerm) → i < length types → type ≡ get_or types i type → is_empty_domain (as_domain (meaning names (tree type.kind))) ≡ false
-      → has_empty_domain (domains_meaning names (trees_in (drop (i + 1) types))) ≡ has_empty_domain (domains_meaning names (trees_in (drop i types)))
+      → has_empty_domain (domains_meaning names (trees (drop (i + 1) types))) ≡ has_empty_domain (domains_meaning names (trees (drop i types)))
   not_empty_here types i type within is none =
-      let all = λ (ts : List TypeTerm). has_empty_domain (domains_meaning names (trees_in ts)) in
+      let all = λ (ts : List TypeTerm). has_empty_domain (domains_meaning names (trees ts)) in
       sym (at_drop_more all types i type within ∙ ap (λ t. all (t ∷ drop (i + 1) types)) (sym is) ∙ ap (λ b. b || all (drop (i + 1) types)) none)
 
   -- the next of some types is a domain, or it is none
   pub domain_here : (types : List TypeTerm) (i : ℕ) (type : TypeTerm) (b : Bool) → i < length types → type ≡ get_or types i type → is_domain (as_domain (meaning names (tree type.kind))) ≡ b
-      → b && are_domains (domains_meaning names (trees_in (drop (i + 1) types))) ≡ are_domains (domains_meaning names (trees_in (drop i types)))
+      → b && are_domains (domains_meaning names (trees (drop (i + 1) types))) ≡ are_domains (domains_meaning names (trees (drop i types)))
   domain_here types i type b within is one =
-      let all = λ (ts : List TypeTerm). are_domains (domains_meaning names (trees_in ts)) in
+      let all = λ (ts : List TypeTerm). are_domains (domains_meaning names (trees ts)) in
       sym (at_drop_more all types i type within ∙ ap (λ t. all (t ∷ drop (i + 1) types)) (sym is) ∙ ap (λ c. c && all (drop (i + 1) types)) one)

@@ -1,5 +1,5 @@
 -- Where the types have ranks and no name is defined twice, the names have one meaning.
-use Rattle.std.proofs.Common.{◌≡◌, ◌⊎◌, inl, inr, ℕ, zero, suc, ◌<◌, List, [], ◌∷◌, map, refl, sym, ap, ap₂, ◌∙◌, subst, arith, Bool, true, false, Option, None, Some}
+use Rattle.std.proofs.Common.{◌≡◌, inl, inr, ℕ, zero, suc, ◌<◌, List, [], ◌∷◌, map, refl, sym, ap, ap₂, ◌∙◌, subst, arith, true, false, Option, None, Some}
 use Rattle.std.specs.Prelude.{bytes_eq, if◌then◌else◌}
 use Rattle.std.proofs.lemmas.Bool.{true≢false}
 use Rattle.xdg_ast.specs.declared.names.Name.{Name}
@@ -8,9 +8,11 @@ use Rattle.xdg_types.specs.Written.{Tree, recorded, tupled, set_of, iset_of, val
 use Rattle.xdg_types.specs.Parts.{Statement, Definition, definitions}
 use Rattle.xdg_types.specs.Meaning.{meaning, domains_meaning, fields_meaning, as_domain, Resolves}
 use Rattle.xdg_typing.specs.Answers.{IsRanked}
+use Rattle.xdg_facts.proofs.Options.{none_some, some_same}
 use Rattle.xdg_facts.proofs.Texts.{same_text, is_same, other_test}
 use Rattle.xdg_facts.specs.Membership.{In, Differ}
-use Rattle.xdg_facts.proofs.In.{in_left, in_right}
+use Rattle.xdg_types.proofs.Elements.{in_texts}
+use Rattle.xdg_facts.proofs.In.{in_left, in_right, map_in}
 use Rattle.xdg_ast.specs.Texts.{texts}
 
 -- a type's meaning turns on the names that it uses alone
@@ -48,32 +50,28 @@ found [] name = None
 found (d ∷ ds) name = if bytes_eq d.name.text name then Some d else found ds name
 
 pub among_in : (ds : List Definition) (d : Definition) → In ds d → In (names_in ds) d.name.text
-among_in [] d h = absurd h
-among_in (x ∷ ds) d h = elim h [ inl e ↦ inl (ap (λ y. y.name.text) e) | inr k ↦ inr (among_in ds d k) ]
+among_in ds d h = in_texts (map (λ (x : Definition). x.name) ds) d.name (map_in (λ (x : Definition). x.name) ds d h)
 
 pub found_none : (ds : List Definition) (name : List ℕ) → (In (names_in ds) name → ⊥) → found ds name ≡ None
 unfolding found
 found_none [] name h = refl
 found_none (d ∷ ds) name h = rw (other_test d.name.text name (λ e. h (inl e))) (found_none ds name (λ k. h (inr k)))
 
-some_by : (d : Definition) (o : Option Definition) (b : Bool) → (b ≡ true) ⊎ (o ≡ None → ⊥) → (if b then Some d else o) ≡ None → ⊥
-some_by d o true h e = cc
-some_by d o false h e = elim h [ inl t ↦ true≢false (sym t) | inr k ↦ k e ]
-
 pub among_found : (ds : List Definition) (name : List ℕ) → In (names_in ds) name → found ds name ≡ None → ⊥
 unfolding found
 among_found [] name a h = a
-among_found (d ∷ ds) name a h = some_by d (found ds name) (bytes_eq d.name.text name) (elim a [ inl e ↦ inl (is_same d.name.text name e) | inr k ↦ inr (among_found ds name k) ]) h
-
-found_by : (d : Definition) (ds : List Definition) (name : List ℕ) (b : Bool) (e : Definition) → bytes_eq d.name.text name ≡ b → (found ds name ≡ Some e → In ds e × (e.name.text ≡ name))
-    → (if b then Some d else found ds name) ≡ Some e → In (d ∷ ds) e × (e.name.text ≡ name)
-found_by d ds name true e t rest h = let is : d ≡ e = cc in (inl is, ap (λ y. y.name.text) (sym is) ∙ same_text d.name.text name t)
-found_by d ds name false e t rest h = let k = rest h in (inr k.0, k.1)
+among_found (d ∷ ds) name a h = elim (bytes_eq d.name.text name) as (λ b. bytes_eq d.name.text name ≡ b → (if b then Some d else found ds name) ≡ None → ⊥) [
+  | true ↦ λ t e. none_some d (sym e)
+  | false ↦ λ t e. elim a [ inl same ↦ true≢false (sym (is_same d.name.text name same) ∙ t) | inr k ↦ among_found ds name k e ]
+] refl h
 
 pub found_in : (ds : List Definition) (name : List ℕ) (d : Definition) → found ds name ≡ Some d → In ds d × (d.name.text ≡ name)
 unfolding found
 found_in [] name d h = absurd (cc)
-found_in (x ∷ ds) name d h = found_by x ds name (bytes_eq x.name.text name) d refl (found_in ds name d) h
+found_in (x ∷ ds) name d h = elim (bytes_eq x.name.text name) as (λ b. bytes_eq x.name.text name ≡ b → (if b then Some x else found ds name) ≡ Some d → In (x ∷ ds) d × (d.name.text ≡ name)) [
+  | true ↦ λ t e. (let is = some_same x d e in (inl is, ap (λ y. y.name.text) (sym is) ∙ same_text x.name.text name t))
+  | false ↦ λ t e. (let k = found_in ds name d e in (inr k.0, k.1))
+] refl h
 
 pub found_is : (ds : List Definition) → Differ (names_in ds) → (d : Definition) → In ds d → found ds d.name.text ≡ Some d
 unfolding found

@@ -1,8 +1,8 @@
 -- A grammar has one table or one first fault.
-use Rattle.std.proofs.Common.{◌≡◌, inl, inr, ℕ, zero, suc, ◌<◌, List, [], ◌∷◌, length, get_or, Option, Some, Ok, Err, refl, sym, ap, ap₂, ◌∙◌, subst, arith}
+use Rattle.std.proofs.Common.{◌≡◌, inl, inr, ℕ, List, [], ◌∷◌, length, Option, Some, Ok, Err, refl, sym, ap, ap₂, ◌∙◌, subst, arith}
 use Rattle.std.proofs.Math.Path.{fun_ext}
 use Rattle.std.proofs.lemmas.List.{length-map}
-use Rattle.std.proofs.lemmas.Option.{get_or_from_slice_get, slice_get_within}
+use Rattle.std.proofs.lemmas.Option.{slice_get_within}
 use Rattle.std.specs.Prelude.{Result, slice_get}
 use Rattle.xdg_ast.specs.declared.names.Name.{Name}
 use Rattle.xdg_base.specs.declared.faults.Fault.{Fault}
@@ -24,6 +24,7 @@ use Rattle.xdg_base.specs.Told.{Gives}
 use Rattle.xdg_types.proofs.Made.{names_in}
 use Rattle.xdg_types.proofs.NamesAgain.{once_differ}
 use Rattle.xdg_typing.proofs.OneShape.{one_typed}
+use Rattle.xdg_typing.proofs.RightTable.{named_at}
 use Rattle.xdg_types.proofs.Elements.{all_differ}
 use Rattle.xdg_types.proofs.Made.{names_made}
 use Rattle.xdg_facts.specs.Membership.{Differ}
@@ -47,18 +48,12 @@ one_list names _ _ _ h k = absurd k
 
 -- ---- the places of the used ones
 
-name_at : (dims : List DimType) (k : ℕ) (dim : DimType) → k < length dims → get_or dims k dim ≡ dim → get_or (names_in dims) k [] ≡ dim.name
-name_at [] k dim within is = absurd (omega (arith, within))
-name_at (d ∷ dims) zero dim within is = ap (λ (x : DimType). x.name) is
-name_at (d ∷ dims) (suc k) dim within is = name_at dims k dim (omega (arith, within)) is
-
 -- the dimension of that name stands at this place alone
 placed : (dims : List DimType) → AllDiffer (names_in dims) → (text : List ℕ) (k : ℕ) (dim : DimType) → slice_get dims k ≡ Some dim → dim.name ≡ text → place_of (names_in dims) text ≡ Some k
 placed dims apart text k dim there named =
     let within = slice_get_within dims k dim there in
-    let is = get_or_from_slice_get dims k dim dim there in
     let len : length (names_in dims) ≡ length dims = length-map dims (λ d. d.name) in
-    ap (place_of (names_in dims)) (sym (name_at dims k dim within is ∙ named)) ∙ place_of-at (names_in dims) k apart (omega (arith, within, len))
+    ap (place_of (names_in dims)) (sym (named_at dims k dim there ∙ named)) ∙ place_of-at (names_in dims) k apart (omega (arith, within, len))
 
 one_place : (o : Option ℕ) (j k : ℕ) → o ≡ Some j → o ≡ Some k → j ≡ k
 one_place o j k e f = cc

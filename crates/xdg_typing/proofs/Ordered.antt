@@ -1,7 +1,8 @@
 -- The definitions of a grammar as a graph: in range, in order, and ranked where no type leads back to itself.
-use Rattle.std.proofs.Common.{◌≡◌, inl, ℕ, ◌<◌, List, [], ◌∷◌, length, map, get_or, slice_index_or, refl, sym, ap, ◌∙◌, subst, arith, Option, None, Some, true≢false}
+use Rattle.std.proofs.Common.{◌≡◌, inl, ℕ, ◌<◌, List, [], length, map, get_or, slice_index_or, refl, sym, ap, ◌∙◌, subst, arith, Option, None, Some, true≢false}
 use Rattle.std.proofs.lemmas.List.{get_or-map, length-map}
 use Rattle.xdg_base.specs.declared.faults.Fault.{Fault}
+use Rattle.xdg_ast.specs.declared.names.Name.{Name}
 use Rattle.xdg_names.specs.declared.graph.Use.{Use}
 use Rattle.xdg_names.specs.Leads.{uses_of, IsGraph, AreComponents, number}
 use Rattle.xdg_names.specs.Closing.{IsClosing}
@@ -19,22 +20,12 @@ use Rattle.xdg_typing.specs.Answers.{IsRanked}
 use Rattle.xdg_typing.specs.Weights.{Weighs, UsesFirst, WeighedBefore, looked, weight_of, leaf}
 use Rattle.xdg_types.proofs.Elements.{all_differ}
 use Rattle.xdg_facts.specs.Membership.{In, Differ}
+use Rattle.xdg_facts.proofs.Lists.{some_at, fused}
 use Rattle.xdg_facts.proofs.In.{in_get, in_index, in_flat_map, flat_map_in}
 use Rattle.xdg_ast.specs.Texts.{texts}
 use Rattle.xdg_types.proofs.InUse.{in_use}
 
 -- ---- the graph
-
-some_of : (xs : List Definition) (a : ℕ) → a < length xs → Definition
-some_of [] a less = absurd (omega (arith, less))
-some_of (x ∷ xs) a less = x
-
-abbrev name_text : Definition → List ℕ
-name_text d = d.name.text
-
-texts_are : (ds : List Definition) → texts (map (λ d. d.name) ds) ≡ map name_text ds
-texts_are [] = refl
-texts_are (d ∷ ds) = ap (λ xs. d.name.text ∷ xs) (texts_are ds)
 
 module _ (statements : List Statement) where
   abbrev ds : List Definition
@@ -46,11 +37,14 @@ module _ (statements : List Statement) where
   abbrev g : List (List Use)
   g = type_graph statements
 
+  known_are : known ≡ map (λ (d : Definition). d.name.text) ds
+  known_are = fused (λ (n : Name). n.text) (λ (d : Definition). d.name) ds
+
   known_len : length known ≡ length ds
-  known_len = ap length (texts_are ds) ∙ length-map ds name_text
+  known_len = ap length known_are ∙ length-map ds (λ (d : Definition). d.name.text)
 
   known_at : (a : ℕ) → a < length ds → (d : Definition) → get_or known a [] ≡ (get_or ds a d).name.text
-  known_at a h d = ap (λ xs. get_or xs a []) (texts_are ds) ∙ get_or-map name_text ds a d [] h
+  known_at a h d = ap (λ xs. get_or xs a []) known_are ∙ get_or-map (λ (x : Definition). x.name.text) ds a d [] h
 
   graph_len : length g ≡ length ds
   graph_len = length-map ds (λ d. uses_in known (tree d.body.kind))
@@ -62,7 +56,7 @@ module _ (statements : List Statement) where
   pub is_graph : IsGraph g
   is_graph a u h =
       let inside : a < length g = from_within g a u h in
-      let some = some_of ds a (omega (arith, inside, graph_len)) in
+      let some = (some_at ds a (omega (arith, inside, graph_len))).0 in
       let k = in_flat_map (use_of known) (uses (tree (get_or ds a some).body.kind)) u (subst (λ us. In us u) (uses_at a (omega (arith, inside, graph_len)) some) h) in
       let at = (place_of-Some known k.0.text u.to (in_use k.0 (place_of known k.0.text) u k.1.1)).0 in
       omega (arith, at, known_len, graph_len)
@@ -76,7 +70,7 @@ module _ (statements : List Statement) where
     uses_first i h t name k used place =
         let a = slice_index_or order i 0 in
         let inside : a < length ds = in_order i h in
-        let some = some_of ds a inside in
+        let some = (some_at ds a inside).0 in
         let stands : In (uses (tree (get_or ds a some).body.kind)) name = subst (λ (x : TypeTerm). In (uses (tree x.kind)) name) (get_or-map (λ d. d.body) ds a some t inside) used in
         let u : Use = record { to = k; at = name.span.start } in
         let here : In (use_of known name) u = subst (λ o. In (use_at name o) u) (sym place) (inl refl) in
@@ -146,7 +140,7 @@ module _ (statements : List Statement) where
   agrees names resolves = record {
     defined = λ a h t.
         let inside : a < length ds = omega (arith, h, length-map ds (λ d. d.body)) in
-        let some = some_of ds a inside in
+        let some = (some_at ds a inside).0 in
         ap names (known_at a inside some) ∙ resolves.defined (get_or ds a some) (in_get ds a some inside) ∙ ap (λ (x : TypeTerm). meaning names (tree x.kind)) (sym (get_or-map (λ d. d.body) ds a some t inside));
     undefined = λ name none. resolves.undefined name (λ a. true≢false (sym (among_has known name a) ∙ place_of-None known name none));
   }

@@ -9,7 +9,7 @@ use Rattle.xdg_domain.specs.Shapes.{Shape, constants, sizes, product}
 use Rattle.xdg_types.specs.Written.{tree}
 use Rattle.xdg_types.specs.Parts.{TypeTerm}
 use Rattle.xdg_types.specs.Meaning.{meaning, domains_meaning, as_domain}
-use Rattle.xdg_typing.specs.KindFaults.{trees_in}
+use Rattle.xdg_typing.specs.KindFaults.{trees}
 use Rattle.xdg_ast.specs.Texts.{texts}
 
 past : (m p top : ℕ) → top < m → min (top * p) top ≡ min (m * p) top
@@ -35,7 +35,7 @@ texts_length (name ∷ names) = ap suc (texts_length names)
 
 module _ (names : List ℕ → Shape) where
   abbrev tuples : List TypeTerm → ℕ
-  tuples types = product (sizes (domains_meaning names (trees_in types)))
+  tuples types = product (sizes (domains_meaning names (trees types)))
 
   -- a turn of the loop that multiplies
   pub multiplied : (types : List TypeTerm) (i : ℕ) (type : TypeTerm) (found : List Name) (before now top total : ℕ) → i < length types → type ≡ get_or types i type

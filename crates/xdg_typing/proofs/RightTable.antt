@@ -1,7 +1,7 @@
 -- The table of a grammar whose types are right.
-use Rattle.std.proofs.Common.{◌≡◌, ◌⊎◌, inl, inr, ℕ, zero, suc, ◌+◌, ◌<◌, ◌≤◌, true, List, [], ◌∷◌, ◌++◌, length, get_or, map, ap, ap₂, sym, ◌∙◌, refl, subst, arith}
+use Rattle.std.proofs.Common.{◌≡◌, ◌⊎◌, inl, inr, ℕ, ◌+◌, ◌<◌, ◌≤◌, true, List, [], ◌∷◌, ◌++◌, length, get_or, map, ap, ap₂, sym, ◌∙◌, refl, subst, arith}
 use Rattle.std.proofs.lemmas.Bool.{cases_Bool, false≢true}
-use Rattle.std.proofs.lemmas.List.{length-map, length-append}
+use Rattle.std.proofs.lemmas.List.{get_or-map, length-map, length-append}
 use Rattle.std.proofs.lemmas.Option.{get_or_from_slice_get, slice_get_within}
 use Rattle.std.specs.Prelude.{Some, slice_get}
 use Rattle.xdg_base.specs.Faults.{fault_at}
@@ -28,6 +28,7 @@ use Rattle.xdg_types.proofs.NamesKnown.{each_known}
 use Rattle.xdg_typing.proofs.RightTypes.{IsFine, AreFine, AllOnce, HaveTypes, as_type, domain_of, attribute_of, kind_of, right_type, right_attributes}
 use Rattle.xdg_typing.proofs.RightText.{Stands, type_stands, site_fine, differ_once, lists_once, uses_right}
 use Rattle.xdg_facts.specs.Membership.{In, Differ}
+use Rattle.xdg_facts.proofs.Lists.{some_at}
 use Rattle.xdg_facts.proofs.In.{in_left, in_right, in_flat_map}
 use Rattle.xdg_ast.specs.Texts.{texts}
 
@@ -277,15 +278,8 @@ places_count (s ∷ ss) =
 
 -- ---- the places that are found
 
-record DimAt (dims : List DimType) (k : ℕ) : Type 0 where
-  dim : DimType
-  at : slice_get dims k ≡ Some dim
-  named : get_or (names_in dims) k [] ≡ dim.name
-
-dim_at : (dims : List DimType) (k : ℕ) → k < length dims → DimAt dims k
-dim_at [] k h = absurd (omega arith)
-dim_at (d ∷ dims) zero h = record { dim = d; at = refl; named = refl }
-dim_at (d ∷ dims) (suc k) h = let w = dim_at dims k (omega arith) in record { dim = w.dim; at = w.at; named = w.named }
+pub named_at : (dims : List DimType) (k : ℕ) (dim : DimType) → slice_get dims k ≡ Some dim → get_or (names_in dims) k [] ≡ dim.name
+named_at dims k dim at = get_or-map (λ (d : DimType). d.name) dims k dim [] (slice_get_within dims k dim at) ∙ ap (λ (d : DimType). d.name) (get_or_from_slice_get dims k dim dim at)
 
 pub found_are_used : (dims : List DimType) (names : List Name) → ((name : Name) → In names name → In (names_in dims) name.text) → AreUsed dims names (places (names_in dims) names)
 found_are_used dims [] h = tt
@@ -294,8 +288,8 @@ found_are_used dims (name ∷ names) h =
     let s = place_of-Some (names_in dims) name.text f.0 f.1 in
     let len : length (names_in dims) ≡ length dims = length-map dims (λ d. d.name) in
     let less : f.0 < length dims = omega (arith, s.0, len) in
-    let w = dim_at dims f.0 less in
-    subst (λ o. AreUsed dims (name ∷ names) (found o ++ places (names_in dims) names)) (sym f.1) (((w.dim, (w.at, sym w.named ∙ s.1)), found_are_used dims names (λ n i. h n (inr i))))
+    let w = some_at dims f.0 less in
+    subst (λ o. AreUsed dims (name ∷ names) (found o ++ places (names_in dims) names)) (sym f.1) (((w.0, (w.1, sym (named_at dims f.0 w.0 w.1) ∙ s.1)), found_are_used dims names (λ n i. h n (inr i))))
 
 -- ---- the table
 

@@ -1,5 +1,5 @@
 -- What a text whose types are right tells of each type in it.
-use Rattle.std.proofs.Common.{◌≡◌, inl, inr, ℕ, zero, suc, ◌<◌, List, [], ◌∷◌, map, ap, sym, refl, subst, arith}
+use Rattle.std.proofs.Common.{◌≡◌, inl, inr, ℕ, zero, suc, ◌<◌, List, map, ap, sym, ◌∙◌, refl, subst, arith}
 use Rattle.std.specs.List.{flat_map}
 use Rattle.xdg_ast.specs.declared.names.Name.{Name}
 use Rattle.xdg_ast.specs.declared.grammar.DimPartKind.{DimPartKind}
@@ -15,7 +15,7 @@ use Rattle.xdg_types.proofs.NamesAgain.{once_differ}
 use Rattle.xdg_types.proofs.NamesKnown.{each_known}
 use Rattle.xdg_typing.proofs.RightTypes.{AreFine, HaveTypes, AllOnce, right_type}
 use Rattle.xdg_facts.specs.Membership.{In, Differ}
-use Rattle.xdg_facts.proofs.In.{in_flat_map, flat_map_in}
+use Rattle.xdg_facts.proofs.In.{in_flat_map, flat_map_in, in_map}
 use Rattle.xdg_ast.specs.Texts.{texts}
 
 -- a definition's part
@@ -25,11 +25,10 @@ definition_in other d h = absurd h
 
 -- the definition of a name
 defined_by : (ds : List Definition) (t : List ℕ) → In (texts (map (λ d. d.name) ds)) t → (d : Definition) × (In ds d × (d.name.text ≡ t))
-defined_by [] t h = absurd h
-defined_by (d ∷ ds) t h = elim h [
-  | inl e ↦ (d, (inl refl, e))
-  | inr k ↦ (let r = defined_by ds t k in (r.0, (inr r.1.0, r.1.1)))
-]
+defined_by ds t h =
+    let n = in_map (λ (x : Name). x.text) (map (λ (d : Definition). d.name) ds) t h in
+    let d = in_map (λ (d : Definition). d.name) ds n.0 n.1.0 in
+    (d.0, (d.1.0, ap (λ (x : Name). x.text) d.1.1 ∙ n.1.1))
 
 module _ (statements : List Statement) (names : Naming) (right : AreRight statements names) where
   -- a part of a dimension that stands in the text

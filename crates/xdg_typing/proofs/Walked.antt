@@ -1,10 +1,10 @@
 -- What the walk over a type finds.
-use Rattle.std.proofs.Common.{◌≡◌, ℕ, Bool, List, ◌++◌, length, Option, sym, ap, ap₂, subst, ◌∙◌, flat_map, ◌∷◌}
+use Rattle.std.proofs.Common.{◌≡◌, ℕ, ◌<◌, ◌+◌, Bool, List, ◌++◌, length, drop, get_or, Option, sym, ap, ap₂, subst, ◌∙◌, flat_map, ◌∷◌}
 use Rattle.std.specs.Prelude.{IfOk, Result}
 use Rattle.std.proofs.lemmas.Grind.{flat_map-append}
 use Rattle.xdg_base.specs.declared.faults.Fault.{Fault}
 use Rattle.xdg_names.specs.First.{first, earlier}
-use Rattle.xdg_names.proofs.First.{first_append}
+use Rattle.xdg_names.proofs.First.{first_append, first_turn}
 use Rattle.xdg_ast.specs.declared.names.Name.{Name}
 use Rattle.xdg_ast.specs.declared.types.TypeKind.{TypeKind, out-TypeKind}
 use Rattle.xdg_domain.specs.Shapes.{Shape, constants}
@@ -24,6 +24,11 @@ joined xs ys a b both is_a is_b sum = sum ∙ ap₂ earlier is_a is_b ∙ sym (f
 pub both_found : {A : Type 0} (g : A → List Fault) (xs ys : List A) (a b both : Option Fault) → a ≡ first (flat_map g xs) → b ≡ first (flat_map g ys)
     → both ≡ earlier a b → both ≡ first (flat_map g (xs ++ ys))
 both_found g xs ys a b both is_a is_b sum = joined (flat_map g xs) (flat_map g ys) a b both is_a is_b sum ∙ ap first (sym (flat_map-append g xs ys))
+
+-- and in the items of a list, one after the other
+pub walk_turn : {A B : Type 0} (xs : List A) (i : ℕ) (x : A) (found next now total : Option Fault) (g : B → List Fault) (all : List A → List B) (here : List B) → ((ys : List A) → all (x ∷ ys) ≡ here ++ all ys)
+    → i < length xs → x ≡ get_or xs i x → next ≡ first (flat_map g here) → now ≡ earlier found next → earlier found (first (flat_map g (all (drop i xs)))) ≡ total → earlier now (first (flat_map g (all (drop (i + 1) xs)))) ≡ total
+walk_turn xs i x found next now total g all here each = first_turn (λ ys. flat_map g (all ys)) (flat_map g here) x (λ ys. ap (flat_map g) (each ys) ∙ flat_map-append g here (all ys)) xs i found next now total
 
 -- what is found in a form of a type is found in the type
 pub of_form : (of : Tree → List Fault) (kind : TypeKind) (form : Tree) (found : Option Fault) → tree kind ≡ form → found ≡ first (of form) → found ≡ first (of (tree kind))

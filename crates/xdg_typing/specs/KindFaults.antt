@@ -5,7 +5,6 @@ use Rattle.xdg_base.specs.Faults.{fault_at}
 use Rattle.xdg_base.specs.declared.faults.Cause.TheVariants as causes
 use Rattle.xdg_base.specs.declared.faults.Fault.{Fault}
 use Rattle.xdg_ast.specs.declared.names.Name.{Name}
-use Rattle.xdg_ast.specs.declared.names.Pair.{Pair}
 use Rattle.xdg_ast.specs.declared.types.TypeKind.{TypeKind}
 use Rattle.xdg_ast.specs.declared.types.TypeKind.TheOpen.{TypeKind-F}
 use Rattle.xdg_domain.specs.Shapes.{Shape, fields, Fields, no_field, field_then, constants, sizes, product}
@@ -13,12 +12,13 @@ use Rattle.xdg_names.specs.Texts.{has_text}
 use Rattle.xdg_typing.specs.declared.wanted.Wanted.{Wanted as Asked}
 use Rattle.xdg_typing.specs.declared.wanted.Wanted.TheVariants as w
 use Rattle.xdg_types.specs.Written.{Tree, nothing, listed, recorded, tupled, set_of, iset_of, valency_of, map_of, a_card, a_bool, an_int, a_string, named}
-use Rattle.xdg_types.specs.Written.{Trees, no_tree, tree_then, Members, no_member, member_then, member_names, tree}
-use Rattle.xdg_types.specs.Parts.{TypeTerm, Statement, used_places}
+use Rattle.xdg_types.specs.Written.{Trees, no_tree, tree_then, member_names, tree}
+use Rattle.xdg_types.specs.Parts.{Statement, used_places}
 use Rattle.xdg_types.specs.Meaning.{meaning, domains_meaning, as_domain}
 use Rattle.xdg_types.specs.Kinds.{Wanted, anything, a_domain, a_small, a_mapped, an_attribute, the_labels, the_attributes, the_features, Site, sites}
 use Rattle.xdg_types.specs.Kinds.{is_of_kind, is_attribute, has_no_field, reaching, field_count}
 use Rattle.xdg_types.specs.NameFaults.{repeated, with_text}
+pub use Rattle.xdg_types.proofs.Treed.{trees, members}
 
 -- what is wanted
 abbrev pub asked : Asked → Wanted
@@ -33,19 +33,11 @@ asked w.Features = the_features
 
 -- ---- types, layer by layer
 
-abbrev pub trees_in : List TypeTerm → Trees
-trees_in [] = no_tree
-trees_in (type ∷ types) = tree_then type.span.start (tree type.kind) (trees_in types)
-
-abbrev pub members_in : List (Pair TypeTerm) → Members
-members_in [] = no_member
-members_in (field ∷ more) = member_then field.key field.value.span.start (tree field.value.kind) (members_in more)
-
 abbrev pub form_tree : TypeKind-F TypeKind → Tree
 form_tree TypeKind-F.Empty = nothing
 form_tree (TypeKind-F.Domain names) = listed names
-form_tree (TypeKind-F.Rec pairs) = recorded (members_in pairs)
-form_tree (TypeKind-F.Tuple types) = tupled (trees_in types)
+form_tree (TypeKind-F.Rec pairs) = recorded (members pairs)
+form_tree (TypeKind-F.Tuple types) = tupled (trees types)
 form_tree (TypeKind-F.Set type) = set_of type.span.start (tree type.kind)
 form_tree (TypeKind-F.ISet type) = iset_of type.span.start (tree type.kind)
 form_tree (TypeKind-F.Valency type) = valency_of type.span.start (tree type.kind)

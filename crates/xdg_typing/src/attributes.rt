@@ -7,7 +7,7 @@ ghost use Rattle.xdg_names.specs.First.{first};
 ghost use Rattle.xdg_types.specs.Written.{tree, member_names};
 ghost use Rattle.xdg_types.specs.Meaning.{meaning, fields_meaning, IsHead};
 ghost use Rattle.xdg_typing.specs.Heads.{Knows};
-ghost use Rattle.xdg_typing.specs.KindFaults.{asked, members_in, form_tree, ninth_name_faults, has_other, wide_record_faults, other_faults, named_faults};
+ghost use Rattle.xdg_typing.specs.KindFaults.{asked, members, form_tree, ninth_name_faults, has_other, wide_record_faults, other_faults, named_faults};
 ghost use Rattle.xdg_typing.specs.KindFaults.{record_faults, attributes_faults};
 
 use crate::definitions::Definitions;
@@ -17,7 +17,7 @@ use xdg_base::{Cause, Fault};
 use xdg_names::earlier;
 
 fn check_ninth(fields: &[Pair<TypeTerm>]) -> Option<Fault>
-    ensures { result ≡ first (ninth_name_faults (slice_get (member_names (members_in fields.now)) 8)) }
+    ensures { result ≡ first (ninth_name_faults (slice_get (member_names (members fields.now)) 8)) }
 {
     match fields.get(8) {
         Some(field) => Some(Fault {
@@ -31,7 +31,7 @@ fn check_ninth(fields: &[Pair<TypeTerm>]) -> Option<Fault>
 
 fn has_other<'a>(definitions: &Definitions<'a>, fields: &'a [Pair<TypeTerm>]) -> bool
     ensures { (names : List ℕ → Shape) → Knows names definitions.now.names (map (λ head. head.now) definitions.now.heads.items)
-        → result ≡ has_other (fields_meaning names (members_in fields.now)) }
+        → result ≡ has_other (fields_meaning names (members fields.now)) }
 {
     for field in fields {
         if !is_attribute(definitions, &field.value) {

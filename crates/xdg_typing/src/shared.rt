@@ -6,7 +6,7 @@ ghost use Rattle.xdg_names.specs.First.{first};
 ghost use Rattle.xdg_types.specs.Written.{tree};
 ghost use Rattle.xdg_ast.specs.Texts.{texts};
 ghost use Rattle.xdg_typing.specs.Heads.{Knows};
-ghost use Rattle.xdg_typing.specs.KindFaults.{add_texts, has_one, trees_in, field_faults, shared_in, shared_faults, one_fault};
+ghost use Rattle.xdg_typing.specs.KindFaults.{add_texts, has_one, trees, field_faults, shared_in, shared_faults, one_fault};
 ghost use Rattle.xdg_types.specs.NameFaults.{repeated};
 
 use crate::definitions::Definitions;
@@ -86,7 +86,7 @@ fn check_fields<'a>(
     types: &'a [TypeTerm],
 ) -> Result<Option<Fault>, OutOfMemory>
     ensures { (names : List ℕ → Shape) → Knows names definitions.now.names (map (λ head. head.now) definitions.now.heads.items)
-        → IfOk result (λ found. found ≡ first (shared_in names [] (trees_in types.now))) }
+        → IfOk result (λ found. found ≡ first (shared_in names [] (trees types.now))) }
 {
     let mut seen = Index::new(alloc);
     let mut found = None;

@@ -8,7 +8,7 @@ ghost use Rattle.xdg_types.specs.Written.{tree};
 ghost use Rattle.xdg_ast.specs.Texts.{texts};
 ghost use Rattle.xdg_types.specs.Meaning.{meaning, domains_meaning, as_domain};
 ghost use Rattle.xdg_typing.specs.Heads.{Knows};
-ghost use Rattle.xdg_typing.specs.KindFaults.{asked, trees_in, form_tree, form_constants, big_faults, label_faults, tuple_faults, wide_faults};
+ghost use Rattle.xdg_typing.specs.KindFaults.{asked, trees, form_tree, form_constants, big_faults, label_faults, tuple_faults, wide_faults};
 
 use crate::definitions::Definitions;
 use crate::wanted::Wanted;
@@ -80,7 +80,7 @@ fn times(a: u64, b: u64) -> u64
 
 fn tuples<'a>(definitions: &Definitions<'a>, types: &'a [TypeTerm]) -> u64
     ensures { (names : List ℕ → Shape) → Knows names definitions.now.names (map (λ head. head.now) definitions.now.heads.items)
-        → result ≡ min (product (sizes (domains_meaning names (trees_in types.now)))) (2 ^ 64 - 1) }
+        → result ≡ min (product (sizes (domains_meaning names (trees types.now)))) (2 ^ 64 - 1) }
 {
     let mut product = 1;
     for ty in types {

@@ -8,7 +8,7 @@ ghost use Rattle.xdg_types.specs.Written.{tree};
 ghost use Rattle.xdg_base.specs.declared.faults.Cause.TheVariants as causes;
 ghost use Rattle.xdg_typing.specs.Heads.{Knows};
 ghost use Rattle.xdg_types.specs.Kinds.{inside, inside_trees, inside_members};
-ghost use Rattle.xdg_typing.specs.KindFaults.{asked, trees_in, members_in, wrong_faults, kind_faults, alone_faults, site_faults, faults_in};
+ghost use Rattle.xdg_typing.specs.KindFaults.{asked, trees, members, wrong_faults, kind_faults, alone_faults, site_faults, faults_in};
 
 use crate::attributes::check_attributes;
 use crate::definitions::Definitions;
@@ -133,7 +133,7 @@ fn check_types<'a>(
     types: &'a [TypeTerm],
 ) -> Result<Option<Fault>, OutOfMemory>
     ensures { (names : List ℕ → Shape) → Knows names definitions.now.names (map (λ head. head.now) definitions.now.heads.items)
-        → IfOk result (λ found. found ≡ first (faults_in names (inside_trees (trees_in types.now)))) }
+        → IfOk result (λ found. found ≡ first (faults_in names (inside_trees (trees types.now)))) }
 {
     let mut found = None;
     for ty in types {
@@ -153,7 +153,7 @@ pub(crate) fn check_members<'a>(
     fields: &'a [Pair<TypeTerm>],
 ) -> Result<Option<Fault>, OutOfMemory>
     ensures { (names : List ℕ → Shape) → Knows names definitions.now.names (map (λ head. head.now) definitions.now.heads.items)
-        → IfOk result (λ found. found ≡ first (faults_in names (inside_members (asked wanted) (members_in fields.now)))) }
+        → IfOk result (λ found. found ≡ first (faults_in names (inside_members (asked wanted) (members fields.now)))) }
 {
     let mut found = None;
     for field in fields {

@@ -7,7 +7,7 @@ ghost use Rattle.xdg_types.specs.Written.{tree};
 ghost use Rattle.xdg_types.specs.Meaning.{meaning, domains_meaning, as_domain, IsHead};
 ghost use Rattle.xdg_typing.specs.Heads.{Knows};
 ghost use Rattle.xdg_types.specs.Kinds.{are_domains, has_empty_domain, has_no_tuple, is_attribute, is_of_kind};
-ghost use Rattle.xdg_typing.specs.KindFaults.{asked, trees_in, domain_form, small_form, mapped_form, record_form, empty_form, fieldless_form};
+ghost use Rattle.xdg_typing.specs.KindFaults.{asked, trees, domain_form, small_form, mapped_form, record_form, empty_form, fieldless_form};
 
 use crate::definitions::Definitions;
 use xdg_ast::{TypeKind, TypeTerm};
@@ -98,7 +98,7 @@ pub(crate) fn has_no_field(kind: &TypeKind) -> bool
 
 fn are_domains<'a>(definitions: &Definitions<'a>, types: &'a [TypeTerm]) -> bool
     ensures { (names : List ℕ → Shape) → Knows names definitions.now.names (map (λ head. head.now) definitions.now.heads.items)
-        → result ≡ are_domains (domains_meaning names (trees_in types.now)) }
+        → result ≡ are_domains (domains_meaning names (trees types.now)) }
 {
     for ty in types {
         if !is_domain(&definitions.head(ty).kind) {
@@ -110,7 +110,7 @@ fn are_domains<'a>(definitions: &Definitions<'a>, types: &'a [TypeTerm]) -> bool
 
 fn has_empty_domain<'a>(definitions: &Definitions<'a>, types: &'a [TypeTerm]) -> bool
     ensures { (names : List ℕ → Shape) → Knows names definitions.now.names (map (λ head. head.now) definitions.now.heads.items)
-        → result ≡ has_empty_domain (domains_meaning names (trees_in types.now)) }
+        → result ≡ has_empty_domain (domains_meaning names (trees types.now)) }
 {
     for ty in types {
         if is_empty_domain(&definitions.head(ty).kind) {
@@ -123,7 +123,7 @@ fn has_empty_domain<'a>(definitions: &Definitions<'a>, types: &'a [TypeTerm]) ->
 /// Whether all fields of a tuple type are domains, and one is without constants.
 fn has_no_tuple<'a>(definitions: &Definitions<'a>, types: &'a [TypeTerm]) -> bool
     ensures { (names : List ℕ → Shape) → Knows names definitions.now.names (map (λ head. head.now) definitions.now.heads.items)
-        → result ≡ has_no_tuple (domains_meaning names (trees_in types.now)) }
+        → result ≡ has_no_tuple (domains_meaning names (trees types.now)) }
 {
     if are_domains(definitions, types) {
         has_empty_domain(definitions, types)

@@ -6,7 +6,8 @@ use Rattle.xdg_ast.specs.Grammar.{params_of}
 use Rattle.xdg_classes.specs.Given.{told}
 use Rattle.xdg_classes.specs.Collected.{feature_of}
 use Rattle.xdg_classes.specs.Wrong as wrong
-use Rattle.xdg_classes.proofs.Telling.{if_ok, tells_sum}
+use Rattle.xdg_facts.proofs.Options.{if_ok}
+use Rattle.xdg_classes.proofs.Telling.{tells_sum}
 use Rattle.xdg_classes.proofs.Growing.{names_of_params}
 use Rattle.xdg_classes.proofs.ValueLaw.{class_wrong, entry_wrong}
 use Rattle.xdg_classes.proofs.checking.check_statement.Goals as goal
@@ -31,6 +32,6 @@ returns-in-DefEntry c =
     let look = feature_of c.args.features.now in
     let tell = told c.args.classes.now.names c.args.known.now in
     let b = body c.in-DefEntry.body.kind in
-    if_ok (Tells (wrong.BodyWrong look tell c.none-nothing.result b)) (Tells (wrong.StatementWrong look tell c.args.statement.now))
+    if_ok (Tells (wrong.BodyWrong look tell c.none-nothing.result b)) (Tells (wrong.StatementWrong look tell c.args.statement.now)) c.check_body-in-DefEntry.result
     (λ found h. entry_wrong look tell c.args.statement.now c.in-DefEntry.body found c.in-DefEntry.is (subst (λ ps. Tells (wrong.BodyWrong look tell ps b) found) c.none-nothing.ensures h))
-    c.check_body-in-DefEntry.result c.check_body-in-DefEntry.ensures
+    c.check_body-in-DefEntry.ensures

@@ -1,10 +1,8 @@
-use Rattle.std.proofs.Common.{◌≡◌, drop}
-use Rattle.std.specs.List.{flat_map}
-use Rattle.xdg_names.specs.First.{first, earlier}
+use Rattle.std.proofs.Common.{drop}
+use Rattle.xdg_types.proofs.FaultTurns.{FoundSoFar}
 use Rattle.xdg_types.specs.NameFaults.{foreign}
 use Rattle.xdg_types.specs.Parts.{keys}
 use Rattle.xdg_classes.proofs.uses.unknown_params.Given as goal
 
 abbrev pub invariant-loop-pair : goal.invariant-loop-pair
-invariant-loop-pair l =
-    earlier l.found (first (flat_map (foreign l.known) (keys (drop l.pair-index l.pairs)))) ≡ first (flat_map (foreign l.known) (keys l.pairs))
+invariant-loop-pair l = FoundSoFar l.found (foreign l.known) (keys (drop l.pair-index l.pairs)) (keys l.pairs)

@@ -1,12 +1,10 @@
-use Rattle.std.proofs.Common.{List, ◌∷◌}
-use Rattle.std.proofs.lemmas.Grind.{flat_map-append}
-use Rattle.xdg_names.proofs.First.{first_turn}
+use Rattle.std.proofs.Common.{List, ◌∷◌, refl}
 use Rattle.xdg_types.specs.Written.{tree}
 use Rattle.xdg_types.specs.Parts.{TypeTerm}
 use Rattle.xdg_types.specs.Kinds.{Wanted, Site, a_domain, a_mapped, inside, inside_trees, inside_members}
-use Rattle.xdg_typing.specs.KindFaults.{asked, trees_in, members_in, site_faults, faults_in}
+use Rattle.xdg_typing.specs.KindFaults.{asked, trees, members, site_faults, faults_in}
 use Rattle.xdg_typing.proofs.Layers.{tree_rec, tree_tuple, tree_map}
-use Rattle.xdg_typing.proofs.Walked.{with_found, both_found, of_form, ok_of_form}
+use Rattle.xdg_typing.proofs.Walked.{with_found, both_found, of_form, ok_of_form, walk_turn}
 use Rattle.xdg_typing.proofs.walk.+walk.Goals as goal
 
 abbrev site : Wanted → TypeTerm → Site
@@ -33,8 +31,7 @@ check_type-returns t c = λ names known. with_found names (site (asked c.args.wa
 pub check_types-loop-ty-preserved : goal.check_types-loop-ty-preserved
 check_types-loop-ty-preserved t c = λ names known.
     let type = c.ty-item.result in
-    let sites = with_inside a_domain type in
-    first_turn (λ ts. faults_in names (inside_trees (trees_in ts))) (faults_in names sites) type (λ xs. flat_map-append (site_faults names) sites (inside_trees (trees_in xs))) _ _ _ _ _ _
+    walk_turn _ _ _ _ _ _ _ (site_faults names) (λ ts. inside_trees (trees ts)) (with_inside a_domain type) (λ xs. refl)
     c.loop-ty-test.true c.ty-item.is (with_found names (site a_domain type) (inside (tree type.kind)) _ _ _ (c.in_ok-here.ensures names known) (c.in_ok-inside.ensures names known) c.earlier.ensures)
     c.earlier-found.ensures (c.loop-ty.invariant names known)
 
@@ -42,7 +39,6 @@ pub check_members-loop-field-preserved : goal.check_members-loop-field-preserved
 check_members-loop-field-preserved t c = λ names known.
     let type = c.field-item.result.value in
     let wanted = asked c.args.wanted in
-    let sites = with_inside wanted type in
-    first_turn (λ fs. faults_in names (inside_members wanted (members_in fs))) (faults_in names sites) c.field-item.result (λ xs. flat_map-append (site_faults names) sites (inside_members wanted (members_in xs))) _ _ _ _ _ _
+    walk_turn _ _ _ _ _ _ _ (site_faults names) (λ fs. inside_members wanted (members fs)) (with_inside wanted type) (λ xs. refl)
     c.loop-field-test.true c.field-item.is (with_found names (site wanted type) (inside (tree type.kind)) _ _ _ (c.in_ok-here.ensures names known) (c.in_ok-inside.ensures names known) c.earlier.ensures)
     c.earlier-found.ensures (c.loop-field.invariant names known)

@@ -3,10 +3,10 @@ use Rattle.xdg_domain.specs.Shapes.{Shape}
 use Rattle.xdg_typing.specs.Heads.{Knows}
 use Rattle.xdg_types.specs.Kinds.{has_empty_domain}
 use Rattle.xdg_types.specs.Meaning.{domains_meaning}
-use Rattle.xdg_typing.specs.KindFaults.{trees_in}
+use Rattle.xdg_typing.specs.KindFaults.{trees}
 use Rattle.xdg_typing.proofs.wanted.has_empty_domain.Given as goal
 
 abbrev pub invariant-loop-ty : goal.invariant-loop-ty
 invariant-loop-ty l =
     (names : List ℕ → Shape) → Knows names l.definitions.names (map (λ head. head.now) l.definitions.heads.items)
-    → has_empty_domain (domains_meaning names (trees_in (drop l.ty-index l.types))) ≡ has_empty_domain (domains_meaning names (trees_in l.types))
+    → has_empty_domain (domains_meaning names (trees (drop l.ty-index l.types))) ≡ has_empty_domain (domains_meaning names (trees l.types))

@@ -12,4 +12,5 @@ returns-then-has_type c even =
 
 pub returns : goal.returns
 returns c even =
-    pushed_grown c.args.self.now.params c.add.new.self c.args.self.now.types.items c.args.param.now c.args.ty c.in-Some.at c.in-Some-get_mut.types.now c.push-2.new.self even (search rules) (search rules) (search rules) (search rules) (search rules)
+    pushed_grown c.args.self.now.params c.add.new.self c.args.self.now.types.items c.args.param.now c.args.ty c.in-Some.at c.in-Some-get_mut.types.now
+    even (search rules) (search rules) (search rules) (search rules) c.push-2.new.self (search rules)
