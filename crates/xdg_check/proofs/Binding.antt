@@ -12,7 +12,7 @@ use Rattle.xdg_names.specs.Texts.{has_text}
 use Rattle.xdg_types.specs.Answers.{None_of}
 use Rattle.xdg_types.specs.Parts.{Statement, keys}
 use Rattle.xdg_types.specs.Table.{Table}
-use Rattle.xdg_types.proofs.Elements.{among_or_not, among_name, differ_append}
+use Rattle.xdg_types.proofs.Elements.{among_or_not, among_name, differ_append, in_texts}
 use Rattle.xdg_classes.specs.Bodies.{Term, Called}
 use Rattle.xdg_classes.specs.Definitions.{ClassDef, classes, class_names, class_named, param_names}
 use Rattle.xdg_classes.specs.Names.{NameOffends, all_calls, used_classes, once}
@@ -23,74 +23,11 @@ use Rattle.xdg_check.specs.declared.checked.Class.{Class}
 use Rattle.xdg_check.specs.Completed.{left_out, preset_pair, bound_by}
 use Rattle.xdg_check.specs.Answers.{AreClassesOf}
 use Rattle.xdg_check.specs.Checked.{IsBound}
-use Rattle.xdg_check.proofs.Sources.{named_in, named_some, made_of, completed_call}
+use Rattle.xdg_classes.proofs.Known.{named_in, named_some}
+use Rattle.xdg_check.proofs.Sources.{made_of, completed_call}
 use Rattle.xdg_facts.specs.Membership.{In, Differ}
-use Rattle.xdg_facts.proofs.In.{in_append, in_left, in_right, map_in}
+use Rattle.xdg_facts.proofs.In.{in_append, in_left, in_right, in_map, map_in}
 use Rattle.xdg_ast.specs.Texts.{texts}
-
--- ---- the parameters that are left out
-
-abbrev left_texts : List (List ℕ) → List ClassParam → List (List ℕ)
-left_texts known params = texts (keys (left_out known params))
-
-left_next : (known : List (List ℕ)) (p : ClassParam) (params : List ClassParam)
-    → left_texts known (p ∷ params) ≡ texts (keys (if has_text known p.name.text then [] else preset_pair p.name p.preset)) ++ left_texts known params
-left_next known p params =
-    let one = (if has_text known p.name.text then [] else preset_pair p.name p.preset) in
-    ap texts (map-append (λ (x : Pair Term). x.key) one (left_out known params)) ∙ map-append (λ (n : Name). n.text) (keys one) (keys (left_out known params))
-
-preset_text : (name : Name) (o : Option Term) (t : List ℕ) → In (texts (keys (preset_pair name o))) t → name.text ≡ t
-preset_text name None t h = absurd h
-preset_text name (Some x) t h = elim h [ inl e ↦ e | inr k ↦ absurd k ]
-
-one_text : (known : List (List ℕ)) (p : ClassParam) (t : List ℕ) → In (texts (keys (if has_text known p.name.text then [] else preset_pair p.name p.preset))) t → (has_text known p.name.text ≡ false) × (p.name.text ≡ t)
-one_text known p t = by (has_text known p.name.text) refl
-  where
-    by : (b : Bool) → has_text known p.name.text ≡ b → In (texts (keys (if b then [] else preset_pair p.name p.preset))) t → (has_text known p.name.text ≡ false) × (p.name.text ≡ t)
-    by true e h = absurd h
-    by false e h = (e, preset_text p.name p.preset t h)
-
--- what is left out is a parameter that isn't given
-left_stands : (known : List (List ℕ)) (params : List ClassParam) (t : List ℕ) → In (left_texts known params) t → In (texts (param_names params)) t × (has_text known t ≡ false)
-left_stands known [] t h = absurd h
-left_stands known (p ∷ params) t h =
-    elim (in_append (texts (keys (if has_text known p.name.text then [] else preset_pair p.name p.preset))) (left_texts known params) t (subst (λ ts. In ts t) (left_next known p params) h)) [
-      | inl a ↦ (let o = one_text known p t a in (inl o.1, subst (λ x. has_text known x ≡ false) o.1 o.0))
-      | inr b ↦ (let r = left_stands known params t b in (inr r.0, r.1))
-    ]
-
-preset_differs : (name : Name) (o : Option Term) → Differ (texts (keys (preset_pair name o)))
-preset_differs name None = tt
-preset_differs name (Some x) = ((λ h. h), tt)
-
-one_differs : (known : List (List ℕ)) (p : ClassParam) → Differ (texts (keys (if has_text known p.name.text then [] else preset_pair p.name p.preset)))
-one_differs known p = by (has_text known p.name.text)
-  where
-    by : (b : Bool) → Differ (texts (keys (if b then [] else preset_pair p.name p.preset)))
-    by true = tt
-    by false = preset_differs p.name p.preset
-
-left_differ : (known : List (List ℕ)) (params : List ClassParam) → Differ (texts (param_names params)) → Differ (left_texts known params)
-left_differ known [] apart = tt
-left_differ known (p ∷ params) apart =
-    subst Differ (sym (left_next known p params))
-    (differ_append (texts (keys (if has_text known p.name.text then [] else preset_pair p.name p.preset))) (left_texts known params) (one_differs known p) (left_differ known params apart.1)
-    (λ t a b. apart.0 (subst (In (texts (param_names params))) (sym (one_text known p t a).1) (left_stands known params t b).0)))
-
--- a parameter that isn't given, and has a default, is left out
-left_has : (known : List (List ℕ)) (params : List ClassParam) (p : ClassParam) → In params p → has_text known p.name.text ≡ false → (p.preset ≡ None → ⊥) → In (left_texts known params) p.name.text
-left_has known [] p h absent some = absurd h
-left_has known (x ∷ params) p h absent some =
-    subst (λ ts. In ts p.name.text) (sym (left_next known x params)) (elim h [
-      | inl e ↦ in_left (texts (keys (if has_text known x.name.text then [] else preset_pair x.name x.preset))) (left_texts known params) p.name.text
-          (subst (λ (y : ClassParam). In (texts (keys (if has_text known y.name.text then [] else preset_pair y.name y.preset))) p.name.text) (sym e) (by (has_text known p.name.text) absent p.preset some))
-      | inr k ↦ in_right (texts (keys (if has_text known x.name.text then [] else preset_pair x.name x.preset))) (left_texts known params) p.name.text (left_has known params p k absent some)
-    ])
-  where
-    by : (b : Bool) → b ≡ false → (o : Option Term) → (o ≡ None → ⊥) → In (texts (keys (if b then [] else preset_pair p.name o))) p.name.text
-    by true e o some = absurd (true≢false e)
-    by false e None some = absurd (some refl)
-    by false e (Some t) some = inl refl
 
 -- ---- pairs that are left out
 
@@ -98,18 +35,62 @@ pair_of_preset : (name : Name) (o : Option Term) (pair : Pair Term) → In (pres
 pair_of_preset name None pair h = absurd h
 pair_of_preset name (Some t) pair h = elim h [ inl e ↦ (ap (λ (p : Pair Term). Some p.value) e, ap (λ (p : Pair Term). p.key) e) | inr k ↦ absurd k ]
 
--- what stands there is a default of a parameter
-pub left_pair : (known : List (List ℕ)) (params : List ClassParam) (pair : Pair Term) → In (left_out known params) pair → (p : ClassParam) × (In params p × ((p.preset ≡ Some pair.value) × (p.name ≡ pair.key)))
-left_pair known [] pair h = absurd h
-left_pair known (p ∷ params) pair h =
-    elim (in_append (if has_text known p.name.text then [] else preset_pair p.name p.preset) (left_out known params) pair h) [
-      | inl a ↦ (p, (inl refl, by (has_text known p.name.text) a))
-      | inr b ↦ (let r = left_pair known params pair b in (r.0, (inr r.1.0, r.1.1)))
-    ]
+-- what stands there is a default of a parameter, which isn't given
+left_from : (known : List (List ℕ)) (params : List ClassParam) (pair : Pair Term) → In (left_out known params) pair
+    → (p : ClassParam) × (In params p × ((has_text known p.name.text ≡ false) × ((p.preset ≡ Some pair.value) × (p.name ≡ pair.key))))
+left_from known [] pair h = absurd h
+left_from known (p ∷ params) pair h = elim (in_append (if has_text known p.name.text then [] else preset_pair p.name p.preset) (left_out known params) pair h) [
+  | inl a ↦ (p, (inl refl, by (has_text known p.name.text) refl a))
+  | inr b ↦ (let r = left_from known params pair b in (r.0, (inr r.1.0, r.1.1)))
+]
   where
-    by : (b : Bool) → In (if b then [] else preset_pair p.name p.preset) pair → (p.preset ≡ Some pair.value) × (p.name ≡ pair.key)
-    by true h = absurd h
-    by false h = pair_of_preset p.name p.preset pair h
+    by : (b : Bool) → has_text known p.name.text ≡ b → In (if b then [] else preset_pair p.name p.preset) pair → (has_text known p.name.text ≡ false) × ((p.preset ≡ Some pair.value) × (p.name ≡ pair.key))
+    by true e a = absurd a
+    by false e a = (e, pair_of_preset p.name p.preset pair a)
+
+pub left_pair : (known : List (List ℕ)) (params : List ClassParam) (pair : Pair Term) → In (left_out known params) pair → (p : ClassParam) × (In params p × ((p.preset ≡ Some pair.value) × (p.name ≡ pair.key)))
+left_pair known params pair h = let r = left_from known params pair h in (r.0, (r.1.0, r.1.1.1))
+
+-- ---- the parameters that are left out
+
+abbrev left_texts : List (List ℕ) → List ClassParam → List (List ℕ)
+left_texts known params = texts (keys (left_out known params))
+
+-- what is left out is a parameter that isn't given
+left_stands : (known : List (List ℕ)) (params : List ClassParam) (t : List ℕ) → In (left_texts known params) t → In (texts (param_names params)) t × (has_text known t ≡ false)
+left_stands known params t h =
+    let n = in_map (λ (m : Name). m.text) (keys (left_out known params)) t h in
+    let q = in_map (λ (x : Pair Term). x.key) (left_out known params) n.0 n.1.0 in
+    let p = left_from known params q.0 q.1.0 in
+    let same : p.0.name.text ≡ t = ap (λ (m : Name). m.text) (p.1.1.1.1 ∙ q.1.1) ∙ n.1.1 in
+    (subst (In (texts (param_names params))) same (in_texts (param_names params) p.0.name (map_in (λ (x : ClassParam). x.name) params p.0 p.1.0)), subst (λ x. has_text known x ≡ false) same p.1.1.0)
+
+left_differ : (known : List (List ℕ)) (params : List ClassParam) → Differ (texts (param_names params)) → Differ (left_texts known params)
+left_differ known [] apart = tt
+left_differ known (p ∷ params) apart = by (has_text known p.name.text) p.preset (left_differ known params apart.1)
+  where
+    by : (b : Bool) (o : Option Term) → Differ (left_texts known params) → Differ (texts (keys ((if b then [] else preset_pair p.name o) ++ left_out known params)))
+    by true o rest = rest
+    by false None rest = rest
+    by false (Some x) rest = (λ a. apart.0 (left_stands known params p.name.text a).0, rest)
+
+-- a parameter that isn't given, and has a default, is left out
+left_has : (known : List (List ℕ)) (params : List ClassParam) (p : ClassParam) → In params p → has_text known p.name.text ≡ false → (p.preset ≡ None → ⊥) → In (left_texts known params) p.name.text
+left_has known [] p h absent some = absurd h
+left_has known (x ∷ params) p h absent some = elim h [
+  | inl e ↦ subst (λ (y : ClassParam). In (texts (keys ((if has_text known y.name.text then [] else preset_pair y.name y.preset) ++ left_out known params))) p.name.text) (sym e) (here (has_text known p.name.text) absent p.preset some)
+  | inr k ↦ later (has_text known x.name.text) x.preset (left_has known params p k absent some)
+]
+  where
+    here : (b : Bool) → b ≡ false → (o : Option Term) → (o ≡ None → ⊥) → In (texts (keys ((if b then [] else preset_pair p.name o) ++ left_out known params))) p.name.text
+    here true e o some = absurd (true≢false e)
+    here false e None some = absurd (some refl)
+    here false e (Some t) some = inl refl
+
+    later : (b : Bool) (o : Option Term) → In (left_texts known params) p.name.text → In (texts (keys ((if b then [] else preset_pair x.name o) ++ left_out known params))) p.name.text
+    later true o i = i
+    later false None i = i
+    later false (Some t) i = inr i
 
 -- ---- uses
 

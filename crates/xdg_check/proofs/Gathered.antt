@@ -1,12 +1,8 @@
 -- Classes and entries that are made one after the other.
-use Rattle.std.proofs.Common.{◌≡◌, inl, inr, ℕ, zero, suc, ◌<◌, ◌+◌, Bool, false, List, [], ◌∷◌, ◌++◌, length, get_or, take, map, refl, sym, ap, ap₂, ◌∙◌, subst, arith}
-use Rattle.std.specs.Prelude.{if◌then◌else◌, not}
-use Rattle.std.proofs.lemmas.Bool.{false_from_ne_true, true≢false}
+use Rattle.std.proofs.Common.{◌≡◌, ℕ, ◌<◌, ◌+◌, List, [], ◌∷◌, ◌++◌, length, get_or, take, map, sym, ap, ◌∙◌, subst}
 use Rattle.std.proofs.lemmas.List.{take_more, map-append}
 use Rattle.xdg_ast.specs.declared.grammar.StatementKind.TheVariants as k
-use Rattle.xdg_names.specs.Texts.{has_text}
 use Rattle.xdg_types.specs.Parts.{Statement}
-use Rattle.xdg_names.proofs.Texts.{has_among, among_has}
 use Rattle.xdg_classes.specs.Bodies.{Expr, body}
 use Rattle.xdg_classes.specs.Definitions as d
 use Rattle.xdg_classes.specs.Definitions.{ClassDef, entry, entry_at}
@@ -16,9 +12,7 @@ use Rattle.xdg_check.specs.declared.checked.Class.{Class}
 use Rattle.xdg_check.specs.declared.checked.EntryDef.{EntryDef}
 use Rattle.xdg_check.specs.Answers.{IsClassOf, AreClassesOf, IsEntryOf, AreEntriesOf}
 use Rattle.xdg_check.specs.Completed.{completed}
-use Rattle.xdg_check.specs.Counts.{class_texts}
 use Rattle.xdg_check.specs.Made.{AddsEntries}
-use Rattle.xdg_facts.specs.Membership.{In, Differ}
 
 -- ---- classes
 
@@ -33,30 +27,6 @@ class_turn cs ds i x old new m within is so_far one grown =
     let front : take (i + 1) ds ≡ take i ds ++ x ∷ [] = take_more ds i x within ∙ ap (λ y. take i ds ++ y ∷ []) (sym is) in
     subst (AreClassesOf cs (map class_def (take (i + 1) ds))) (sym grown)
     (subst (λ xs. AreClassesOf cs xs (old ++ m ∷ [])) (sym (ap (map class_def) front ∙ map-append class_def (take i ds) (x ∷ []))) (classes_grow cs (map class_def (take i ds)) old (class_def x) m so_far one))
-
--- ---- names
-
-stands : (cs : List Class) (i : ℕ) (c : Class) → i < length cs → c ≡ get_or cs i c → In (class_texts cs) c.name
-stands [] i c within is = absurd (omega (arith, within))
-stands (x ∷ cs) zero c within is = inl (ap (λ (y : Class). y.name) (sym is))
-stands (x ∷ cs) (suc i) c within is = inr (stands cs i c (omega (arith, within)) is)
-
-new_name : (cs : List Class) (i : ℕ) (c : Class) → i < length cs → c ≡ get_or cs i c → Differ (class_texts cs) → has_text (class_texts (take i cs)) c.name ≡ false
-new_name [] i c within is apart = absurd (omega (arith, within))
-new_name (x ∷ cs) zero c within is apart = refl
-new_name (x ∷ cs) (suc i) c within is apart =
-    false_from_ne_true (has_text (class_texts (take (suc i) (x ∷ cs))) c.name) (λ h. elim (has_among (class_texts (take (suc i) (x ∷ cs))) c.name h) [
-      | inl e ↦ apart.0 (subst (In (class_texts cs)) (sym e) (stands cs i c (omega (arith, within)) is))
-      | inr k ↦ true≢false (sym (among_has (class_texts (take i cs)) c.name k) ∙ new_name cs i c (omega (arith, within)) is apart.1)
-    ])
-
-pub name_turn : (cs : List Class) (i : ℕ) (c : Class) (text : List ℕ) (added : Bool) (old new : List (List ℕ)) → i < length cs → c ≡ get_or cs i c → text ≡ c.name → added ≡ not (has_text old text) → new ≡ (if added then old ++ text ∷ [] else old)
-    → (Differ (class_texts cs) → old ≡ class_texts (take i cs)) → Differ (class_texts cs) → new ≡ class_texts (take (i + 1) cs)
-name_turn cs i c text added old new within is name told grown so_far apart =
-    let absent : has_text old text ≡ false = ap₂ has_text (so_far apart) name ∙ new_name cs i c within is apart in
-    let front : take (i + 1) cs ≡ take i cs ++ c ∷ [] = take_more cs i c within ∙ ap (λ y. take i cs ++ y ∷ []) (sym is) in
-    grown ∙ ap (λ b. if b then old ++ text ∷ [] else old) (told ∙ ap not absent) ∙ ap₂ (λ ts t. ts ++ t ∷ []) (so_far apart) name
-    ∙ sym (ap class_texts front ∙ map-append (λ (x : Class). x.name) (take i cs) (c ∷ []))
 
 -- ---- entries
 

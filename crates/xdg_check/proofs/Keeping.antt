@@ -1,7 +1,7 @@
 -- Nothing is wrong in completed bodies where nothing is wrong in those of the text.
-use Rattle.std.proofs.Common.{◌≡◌, ◌⊎◌, inl, inr, ℕ, Bool, true, false, List, [], ◌∷◌, map, Some, refl, sym, ap, ◌∙◌, subst}
+use Rattle.std.proofs.Common.{◌≡◌, ◌⊎◌, inl, inr, ℕ, true, false, List, [], ◌∷◌, map, Some, refl, sym, ap, ap₂, ◌∙◌, subst}
 use Rattle.std.specs.Prelude.{if◌then◌else◌, bytes_eq}
-use Rattle.std.proofs.lemmas.Slice.Eq.{bytes_eq-Decides}
+use Rattle.std.proofs.lemmas.Bool.{true≢false}
 use Rattle.xdg_ast.specs.declared.names.Name.{Name}
 use Rattle.xdg_ast.specs.declared.names.Pair.{Pair}
 use Rattle.xdg_ast.specs.declared.grammar.ClassParam.{ClassParam}
@@ -24,8 +24,10 @@ use Rattle.xdg_check.specs.Answers.{AreClassesOf}
 use Rattle.xdg_check.specs.Checked.{named_body, named_bodies, IsRight, IsScoped, IsRightRecord, IsRightCall, IsRightBody}
 use Rattle.xdg_check.proofs.Binding.{class_of, is_bound, left_pair}
 use Rattle.xdg_check.proofs.Opened.{less_open, wants_stand}
-use Rattle.xdg_check.proofs.Sources.{same_records, completed_calls, completed_call, named_in, source_of, class_scoped, class_body}
-use Rattle.xdg_facts.proofs.Texts.{same_text}
+use Rattle.xdg_classes.proofs.Known.{named_in}
+use Rattle.xdg_check.proofs.Sources.{same_records, completed_calls, completed_call, source_of, class_scoped, class_body}
+use Rattle.xdg_facts.proofs.Options.{some_same}
+use Rattle.xdg_facts.proofs.Texts.{same_text, is_same}
 use Rattle.xdg_facts.specs.Membership.{In, Differ}
 use Rattle.xdg_facts.proofs.In.{in_append, flat_map_in, in_map as map_in, map_in as in_map}
 use Rattle.xdg_ast.specs.Texts.{texts}
@@ -51,27 +53,24 @@ pub record RightBodies (statements : List Statement) (table : Table) : Type 0 wh
 
 dim_in : (dims : List DimType) (name : List ℕ) (d : DimType) → dim_named dims name ≡ Some d → In dims d × (d.name ≡ name)
 dim_in [] name d h = absurd (cc)
-dim_in (x ∷ dims) name d h = by (bytes_eq x.name name) refl (dim_in dims name d) h
-  where
-    by : (b : Bool) → bytes_eq x.name name ≡ b → (dim_named dims name ≡ Some d → In dims d × (d.name ≡ name)) → (if b then Some x else dim_named dims name) ≡ Some d → In (x ∷ dims) d × (d.name ≡ name)
-    by true e more h = let is : x ≡ d = cc in (inl is, ap (λ (y : DimType). y.name) (sym is) ∙ same_text x.name name e)
-    by false e more h = let r = more h in (inr r.0, r.1)
+dim_in (x ∷ dims) name d h = elim (bytes_eq x.name name) as (λ b. bytes_eq x.name name ≡ b → (if b then Some x else dim_named dims name) ≡ Some d → In (x ∷ dims) d × (d.name ≡ name)) [
+  | true ↦ λ e k. (let is = some_same x d k in (inl is, ap (λ (y : DimType). y.name) (sym is) ∙ same_text x.name name e))
+  | false ↦ λ e k. (let r = dim_in dims name d k in (inr r.0, r.1))
+] refl h
 
 dim_found : (dims : List DimType) (name : List ℕ) → In (map (λ dim. dim.name) dims) name → (d : DimType) × (dim_named dims name ≡ Some d)
 dim_found [] name h = absurd h
-dim_found (x ∷ dims) name h = by (bytes_eq x.name name) refl (dim_found dims name)
-  where
-    by : (b : Bool) → bytes_eq x.name name ≡ b → (In (map (λ dim. dim.name) dims) name → (d : DimType) × (dim_named dims name ≡ Some d)) → (d : DimType) × ((if b then Some x else dim_named dims name) ≡ Some d)
-    by true e more = (x, refl)
-    by false e more = elim h [ inl same ↦ (let clash : false ≡ true = sym e ∙ (bytes_eq-Decides x.name name).1 same in absurd (cc)) | inr k ↦ more k ]
+dim_found (x ∷ dims) name h = elim (bytes_eq x.name name) as (λ b. bytes_eq x.name name ≡ b → (d : DimType) × ((if b then Some x else dim_named dims name) ≡ Some d)) [
+  | true ↦ λ e. (x, refl)
+  | false ↦ λ e. elim h [ inl same ↦ absurd (true≢false (sym (is_same x.name name same) ∙ e)) | inr k ↦ dim_found dims name k ]
+] refl
 
 type_in : (fields : List (List ℕ × Ty)) (name : List ℕ) (s : Shape) → type_named fields name ≡ Some s → In (typed fields) (name, s)
 type_in [] name s h = absurd (cc)
-type_in (x ∷ fields) name s h = by (bytes_eq x.0 name) refl (type_in fields name s) h
-  where
-    by : (b : Bool) → bytes_eq x.0 name ≡ b → (type_named fields name ≡ Some s → In (typed fields) (name, s)) → (if b then Some (shape x.1) else type_named fields name) ≡ Some s → In (typed (x ∷ fields)) (name, s)
-    by true e more h = let is : shape x.1 ≡ s = cc in inl (let n = same_text x.0 name e in cc)
-    by false e more h = inr (more h)
+type_in (x ∷ fields) name s h = elim (bytes_eq x.0 name) as (λ b. bytes_eq x.0 name ≡ b → (if b then Some (shape x.1) else type_named fields name) ≡ Some s → In (typed (x ∷ fields)) (name, s)) [
+  | true ↦ λ e k. inl (ap₂ (λ (n : List ℕ) (u : Shape). (n, u)) (same_text x.0 name e) (some_same (shape x.1) s k))
+  | false ↦ λ e. (λ k. inr (type_in fields name s k))
+] refl h
 
 -- ---- completed bodies
 

@@ -1,16 +1,13 @@
 -- Counts over the members of an expression, one after the other.
-use Rattle.std.proofs.Common.{◌≡◌, ℕ, ◌<◌, ◌≤◌, ◌+◌, ◌*◌, ◌-◌, ◌^◌, List, ◌∷◌, length, get_or, drop, min, ap, sym, ◌∙◌, arith}
-use Rattle.std.proofs.lemmas.List.{drop_more, drop_all}
+use Rattle.std.proofs.Common.{◌≡◌, ℕ, ◌<◌, ◌≤◌, ◌+◌, ◌*◌, ◌-◌, ◌^◌, List, length, get_or, drop, min, ap, sym, ◌∙◌, arith}
+use Rattle.std.proofs.lemmas.List.{drop_all}
 use Rattle.xdg_ast.specs.declared.expressions.ExprKind.{ExprKind}
 use Rattle.xdg_classes.specs.Bodies.{Expr, Body, Bodies, no_body, body}
 use Rattle.xdg_classes.proofs.Bodied.{trees}
 use Rattle.xdg_check.specs.Counts.{Counting, combos, product_of_combos, capped}
 use Rattle.xdg_check.proofs.Capped.{factor_more}
+use Rattle.xdg_facts.proofs.Lists.{from_place}
 use Rattle.xdg_facts.proofs.Numbers.{alone as alone_too}
-
--- what is left at a member, and behind it
-cut : (items : List Expr) (k : ℕ) (e : Expr) → k < length items → e ≡ get_or items k e → drop k items ≡ e ∷ drop (k + 1) items
-cut items k e within is = drop_more items k e within ∙ ap (λ x. x ∷ drop (k + 1) items) (sym is)
 
 alone : (so_far most : ℕ) → so_far ≤ most → so_far ≡ min (so_far + 0) most
 alone so_far most within = omega (arith, within)
@@ -21,7 +18,7 @@ module _ (names : Counting) (items : List Expr) (k : ℕ) (so_far whole : ℕ) w
         → capped (next * product_of_combos names (trees (drop (k + 1) items))) ≡ whole
     pairs_more g n before =
         factor_more so_far (combos names (body e.kind)) grown next (product_of_combos names (trees (drop (k + 1) items))) (2 ^ 64 - 1) whole g n
-        (ap (λ (es : List Expr). capped (so_far * product_of_combos names (trees es))) (sym (cut items k e within is)) ∙ before)
+        (ap (λ (es : List Expr). capped (so_far * product_of_combos names (trees es))) (sym (from_place items k e within is)) ∙ before)
 
   module _ (past : length items ≤ k) (small : so_far ≤ 2 ^ 64 - 1) where
     pub sums_all : (sum : Bodies → ℕ) → sum no_body ≡ 0 → capped (so_far + sum (trees (drop k items))) ≡ whole → so_far ≡ whole

@@ -10,7 +10,7 @@ use Rattle.xdg_ast.specs.declared.names.Spanned.{Spanned}
 use Rattle.xdg_ast.specs.declared.terms.TermKind.{TermKind, out-TermKind, fold_out-TermKind, map-TermKind}
 use Rattle.xdg_ast.specs.declared.terms.ElemKind.{ElemKind, out-ElemKind, fold_out-ElemKind, map-ElemKind}
 use Rattle.xdg_ast.specs.declared.terms.ElemKind.TheOpen.{TermKind-F, ElemKind-F}
-use Rattle.xdg_domain.specs.Shapes.{Shape, domain, tuple, truth, integer, text, set, iset, card, valency, mapping, fields, Fields, no_field, field_then}
+use Rattle.xdg_domain.specs.Shapes.{Shape, mapping, fields, Fields, no_field, field_then}
 use Rattle.xdg_terms.specs.Forms.{Term, with_open, unless_open, pairs_of, braces_in, all_of, keyed_elem, keyed_in, then_also}
 use Rattle.xdg_terms.specs.Offences.{OffendsIn, OffendsUnder, OpenOffends, OfSeen, all_told}
 use Rattle.xdg_terms.specs.Stray.{tokens, elem_tokens, term_step, elem_step}
@@ -144,15 +144,7 @@ module _ (free : List (List ℕ)) where
       | inr b ↦ (let p = in_flat_map (λ (pair : Name × Term). params_under free fs pair) (all_told (pairs_of t)) want b in
           let r = wants_under fs p.0 want p.1.1 in (r.0, (pair_token t p.0 r.0 p.1.0 r.1.0, r.1.1)))
     ]
-    wants_stand (domain cs) t want h = alone t want (or_token t (domain cs) [] want h)
-    wants_stand (tuple ss) t want h = alone t want (or_token t (tuple ss) [] want h)
-    wants_stand truth t want h = alone t want (or_token t truth [] want h)
-    wants_stand integer t want h = alone t want (or_token t integer [] want h)
-    wants_stand text t want h = alone t want (or_token t text [] want h)
-    wants_stand (set s) t want h = alone t want (or_token t (set s) [] want h)
-    wants_stand (iset s) t want h = alone t want (or_token t (iset s) [] want h)
-    wants_stand card t want h = alone t want (or_token t card [] want h)
-    wants_stand (valency k) t want h = alone t want (or_token t (valency k) [] want h)
+    wants_stand other t want h = alone t want (or_token t other [] want h)
 
     wants_under : (fs : Fields) (pair : Name × Term) (want : Want) → In (params_under free fs pair) want → Stands pair.1 want
     wants_under no_field pair want h = absurd h

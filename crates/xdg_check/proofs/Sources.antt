@@ -1,8 +1,6 @@
 -- Classes and entries with completed bindings, beside those of the text.
-use Rattle.std.proofs.Common.{◌≡◌, inl, inr, ℕ, Bool, true, false, List, [], ◌∷◌, ◌++◌, map, Some, refl, sym, ap, ap₂, ◌∙◌, subst}
-use Rattle.std.specs.Prelude.{if◌then◌else◌, bytes_eq}
+use Rattle.std.proofs.Common.{◌≡◌, inl, inr, ℕ, List, [], ◌∷◌, ◌++◌, map, refl, sym, ap₂, ◌∙◌, subst}
 use Rattle.std.proofs.lemmas.List.{map-append}
-use Rattle.std.proofs.lemmas.Slice.Eq.{bytes_eq-Decides}
 use Rattle.xdg_types.specs.Parts.{Statement}
 use Rattle.xdg_classes.specs.Bodies.{Body, either, both, saying, calling, Bodies, no_body, body_then, body, Called, records, records_in, calls, calls_in}
 use Rattle.xdg_classes.specs.Definitions as d
@@ -12,7 +10,6 @@ use Rattle.xdg_check.specs.declared.checked.EntryDef.{EntryDef}
 use Rattle.xdg_check.specs.Completed.{completed, all_completed, bound_by}
 use Rattle.xdg_check.specs.Answers.{IsClassOf, AreClassesOf, IsEntryOf, AreEntriesOf}
 use Rattle.xdg_check.specs.Counts.{class_texts}
-use Rattle.xdg_facts.proofs.Texts.{same_text}
 use Rattle.xdg_facts.specs.Membership.{In}
 use Rattle.xdg_facts.proofs.In.{in_left, in_right, in_flat_map, flat_map_in, map_in}
 use Rattle.xdg_ast.specs.Texts.{texts}
@@ -44,28 +41,6 @@ module _ (cs : List ClassDef) where
     completed_calls_in : (bs : Bodies) → calls_in (all_completed cs bs) ≡ map (completed_call cs) (calls_in bs)
     completed_calls_in no_body = refl
     completed_calls_in (body_then b bs) = ap₂ (λ x y. x ++ y) (completed_calls b) (completed_calls_in bs) ∙ sym (map-append (completed_call cs) (calls b) (calls_in bs))
-
-named_by : (x : ClassDef) (cs : List ClassDef) (name : List ℕ) (b : Bool) (c : ClassDef) → bytes_eq x.name.text name ≡ b → (class_named cs name ≡ Some c → In cs c × (c.name.text ≡ name))
-    → (if b then Some x else class_named cs name) ≡ Some c → In (x ∷ cs) c × (c.name.text ≡ name)
-named_by x cs name true c t rest h = let is : x ≡ c = cc in (inl is, ap (λ (y : ClassDef). y.name.text) (sym is) ∙ same_text x.name.text name t)
-named_by x cs name false c t rest h = let k = rest h in (inr k.0, k.1)
-
--- the class that is found stands there, and has the name
-pub named_in : (cs : List ClassDef) (name : List ℕ) (c : ClassDef) → class_named cs name ≡ Some c → In cs c × (c.name.text ≡ name)
-named_in [] name c h = absurd (cc)
-named_in (x ∷ cs) name c h = named_by x cs name (bytes_eq x.name.text name) c refl (named_in cs name c) h
-
--- a name that some class has is found
-pub named_some : (cs : List ClassDef) (name : List ℕ) → In (texts (class_names cs)) name → (c : ClassDef) × (class_named cs name ≡ Some c)
-named_some [] name h = absurd h
-named_some (x ∷ cs) name h = by (bytes_eq x.name.text name) refl (named_some cs name)
-  where
-    by : (b : Bool) → bytes_eq x.name.text name ≡ b → (In (texts (class_names cs)) name → (c : ClassDef) × (class_named cs name ≡ Some c)) → (c : ClassDef) × ((if b then Some x else class_named cs name) ≡ Some c)
-    by true e more = (x, refl)
-    by false e more = elim h [
-      | inl same ↦ (let clash : false ≡ true = sym e ∙ (bytes_eq-Decides x.name.text name).1 same in absurd (cc))
-      | inr k ↦ more k
-    ]
 
 -- ---- made from the text
 

@@ -1,29 +1,23 @@
 -- The dimension of words, and where entries say theirs.
-use Rattle.std.proofs.Common.{◌≡◌, ℕ, zero, suc, List, [], ◌∷◌, slice_get, Some, inl, inr, refl, sym, ap, subst, codes}
+use Rattle.std.proofs.Common.{ℕ, Some, refl, sym, subst, codes}
 use Rattle.xdg_base.specs.Faults.{fault_at}
 use Rattle.xdg_base.specs.declared.faults.Cause.TheVariants as causes
-use Rattle.xdg_domain.specs.Shapes.{Shape, text}
+use Rattle.xdg_domain.specs.Shapes.{text}
 use Rattle.xdg_names.specs.First.{IsFirstOf, Tells}
-use Rattle.xdg_types.specs.Table.{Table, Typed, typed}
+use Rattle.xdg_types.specs.Table.{Table, typed}
 use Rattle.xdg_packed.specs.Entries.{IsWordPlace}
 use Rattle.xdg_check.specs.Lex.{HasLex, LexOffends}
-use Rattle.xdg_facts.specs.Membership.{In}
-use Rattle.xdg_facts.proofs.In.{in_got as has_got}
+use Rattle.xdg_facts.proofs.In.{in_got}
 use Rattle.xdg_names.proofs.First.{itself}
 use Rattle.xdg_check.proofs.Filled.{at_once}
 
 -- ---- from places to what stands there
 
-in_got : (fs : Typed) (i : ℕ) (f : List ℕ × Shape) → slice_get fs i ≡ Some f → In fs f
-in_got [] i f is = absurd cc
-in_got (x ∷ fs) zero f is = inl cc
-in_got (x ∷ fs) (suc i) f is = inr (in_got fs i f is)
-
 -- where words are said, there is the dimension of words
 pub word_lex : (table : Table) (dim field : ℕ) → IsWordPlace table dim field → HasLex table
 word_lex table dim field place = record {
   place = place.used.0;
-  used = has_got table.used dim place.used.0 place.used.1.0;
+  used = in_got table.used dim place.used.0 place.used.1.0;
   dim = place.lex;
   stands = place.used.1.1;
   lex = record { name = place.name; word = in_got (typed place.lex.fields) field (codes "word", text) place.word };
@@ -31,15 +25,10 @@ word_lex table dim field place = record {
 
 -- ---- and back
 
-field_at : (fs : Typed) (f : List ℕ × Shape) → In fs f → (i : ℕ) × (slice_get fs i ≡ Some f)
-field_at [] f stands = absurd stands
-field_at (x ∷ fs) f (inl is) = (0, ap Some is)
-field_at (x ∷ fs) f (inr later) = (let r = field_at fs f later in (suc r.0, r.1))
-
 no_words : (table : Table) → ((dim field : ℕ) → IsWordPlace table dim field → ⊥) → HasLex table → ⊥
 no_words table none lex =
     let used = at_once table.used lex.place lex.used in
-    let field = field_at (typed lex.dim.fields) (codes "word", text) lex.lex.word in
+    let field = at_once (typed lex.dim.fields) (codes "word", text) lex.lex.word in
     none used.0 field.0 (record { lex = lex.dim; used = (lex.place, (used.1, lex.stands)); name = lex.lex.name; word = field.1 })
 
 -- where no words are said, that is the one fault
