@@ -70,9 +70,6 @@ principle_at : (dims : List (Pair Name)) (args : Option (List (Pair Term))) → 
 principle_at dims None = sym (append-nil (mark k.Dims ∷ between_braces (pairs_of_names dims)))
 principle_at dims (Some args) = refl
 
-principle_are : (said : Said) → principle_words said.0 said.1 ≡ said_words [] said
-principle_are said = principle_at said.0 said.1
-
 abbrev pub PartSaid : Type 0
 PartSaid = DimPartKind × List Word
 
@@ -98,7 +95,7 @@ module _ (m n : ℕ) (le : m ≤ n) where
       (either_keeps (made_keeps d.EntryType (behind_keeps k.DefEntryType (refl, refl) refl type_part) (λ _. refl) (λ _. refl))
       (either_keeps (made_keeps (λ (said : Name × Said). d.UsePrinciple said.0 said.1.0 said.1.1)
       (behind_keeps k.UsePrinciple (refl, refl) refl (pair_keeps name_keeps (braces_keep (λ j. j.principle) depth (λ m' n' l levels. levels.principle_is n' l))))
-      (λ _. refl) (λ said. ap (λ ws. mark k.UsePrinciple ∷ (name_words said.0 ++ between_braces ws)) (principle_are said.1)))
+      (λ _. refl) (λ said. ap (λ ws. mark k.UsePrinciple ∷ (name_words said.0 ++ between_braces ws)) (principle_at said.1.0 said.1.1)))
       (either_keeps (made_keeps d.Output (behind_keeps k.Output (refl, refl) refl name_keeps) (λ _. refl) (λ _. refl))
       (made_keeps d.UseOutput (behind_keeps k.UseOutput (refl, refl) refl name_keeps) (λ _. refl) (λ _. refl)))))))
 

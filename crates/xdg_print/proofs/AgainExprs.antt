@@ -4,13 +4,13 @@ use Rattle.xdg_ast.specs.declared.token.Kind.TheVariants as k
 use Rattle.xdg_ast.specs.declared.names.Name.{Name}
 use Rattle.xdg_ast.specs.declared.names.Pair.{Pair}
 use Rattle.xdg_ast.specs.declared.expressions.ExprKind.TheVariants as x
-use Rattle.xdg_ast.specs.Language.{is, token, nothing, optional}
+use Rattle.xdg_ast.specs.Language.{is, token, optional}
 use Rattle.xdg_ast.specs.Grammar.{Params, Term, Expr, in_parentheses, inside, under, braced_terms, dim, use_of_class, prim, next_prim, prims, conj, next_conj, conjs, expr, at_span}
 use Rattle.xdg_ast.specs.Words.{Word, mark}
 use Rattle.xdg_ast.specs.Trees.{name_word, terms_words, args_words, expr_phrase, plainly}
 use Rattle.xdg_ast.specs.Same.{nowhere, bare_part, bare_name, bare_option, bare_terms, bare_expr}
 use Rattle.xdg_print.proofs.AgainTrees.{expr_phrase-Dim, expr_phrase-Use, bare_expr_of}
-use Rattle.xdg_print.proofs.AgainWritten.{Written, written_in, token_written, left_written, made_written, both_written, Gives, stronger, both_given, behind_gives, either_gives}
+use Rattle.xdg_print.proofs.AgainWritten.{Written, written_in, token_written, made_written, both_written, Gives, stronger, both_given, behind_gives, either_gives}
 use Rattle.xdg_print.proofs.AgainNames.{Keeps, name_words, name_keeps}
 use Rattle.xdg_print.proofs.AgainKept.{behind_keeps, pair_keeps, option_words, optional_keeps}
 use Rattle.xdg_print.proofs.AgainPhrases.{Natural, GoodPrim, as_disj, disj_keeps, in_brackets, plain_gives, disj_gives}
@@ -20,15 +20,11 @@ use Rattle.xdg_print.proofs.AgainLevels.{exprs, Depth, nested_gives, nested_writ
 next_written : (params : Params) (n : ℕ) (ws : List Word) (P : Expr → Type 0) → Written (prim (under params n)) ws P → Written (next_prim (under params n)) (mark k.Ampersand ∷ ws) P
 unfolding next_prim
 next_written params n ws P a =
-    both_written (left_written (nothing None) (made_written {Q = λ _. Unit {0}} (token_written (is k.Ampersand) (mark k.Ampersand) (refl, refl) refl) (λ _ _. tt))) a (λ _ _ _ p. p)
+    both_written {l = optional (token (is k.Ampersand))} (written_in (made_written {Q = λ _. Unit {0}} (token_written (is k.Ampersand) (mark k.Ampersand) (refl, refl) refl) (λ _ _. tt)) (λ _ _ i. inl i)) a (λ _ _ _ p. p)
 
 args_are : (params : Params) (args : Option (List (Pair Term))) → args_words params args ≡ option_words (terms_words params) args
 args_are params None = refl
 args_are params (Some pairs) = refl
-
--- the words of an expression that stands alone
-abbrev pub expr_words : Params → Expr → List Word
-expr_words params expr = (expr_phrase params expr.kind).words
 
 abbrev Uses : Type 0
 Uses = Name × Option (List (Pair Term))
@@ -79,6 +75,6 @@ module _ {params : Params} {m n : ℕ} (depth : Depth params m n) where
   unfolding expr conjs conj prims next_conj
   expr_gives = disj_gives (exprs params) (prim (under params n)) (next_prim (under params n)) (next_written params n) (prim (under params m)) (next_prim (under params m)) prim_gives next_gives
 
-  pub expr_keeps : Keeps (expr (under params m)) (expr (under params n)) (bare_part bare_expr) (expr_words params)
+  pub expr_keeps : Keeps (expr (under params m)) (expr (under params n)) (bare_part bare_expr) (λ x. (expr_phrase params x.kind).words)
   unfolding expr conjs conj prims next_conj
   expr_keeps = disj_keeps (exprs params) (prim (under params n)) (next_prim (under params n)) (next_written params n) expr_gives

@@ -13,7 +13,7 @@ use Rattle.xdg_ast.specs.Words.{Word, mark, IsSpellable}
 use Rattle.xdg_ast.specs.Trees.{in_braces as between_braces, in_parentheses as parenthesized, in_square_brackets as bracketed_words, gen_phrase, elem_words, term_words, terms_words, pair_words, expr_phrase, type_words}
 use Rattle.xdg_ast.specs.Same.{nowhere, bare_part, bare_name, bare_pair, bare_option, bare_gen, bare_elem, bare_terms, bare_expr, bare_type}
 use Rattle.xdg_print.proofs.AgainTrees.{gen_phrase-And, gen_phrase-Or, expr_phrase-And, expr_phrase-Or}
-use Rattle.xdg_print.proofs.AgainWritten.{Written, weaker, room_written, Gives, stronger, full_gives, room_gives}
+use Rattle.xdg_print.proofs.AgainWritten.{Written, weaker, room_written, Gives, stronger, room_gives}
 use Rattle.xdg_print.proofs.AgainNames.{Like, Keeps, name_words}
 use Rattle.xdg_print.proofs.AgainKept.{option_words}
 use Rattle.xdg_print.proofs.AgainPhrases.{Joining, Natural}
@@ -116,7 +116,7 @@ pub record Depth (params : Params) (m n : ℕ) : Type 0 where
 nested_at : {A : Type 0} (op cl : Kinds) (body : Inside → Language A) (params : Params) (m n : ℕ) → m ≤ n → Below params m → {K : A → Type 0}
     → ((m' n' : ℕ) → n ≡ suc n' → m' ≤ n' → Levels params m' → Gives (body (inside params (under params m'))) K) → Gives (nested op cl (under params m) body) K
 unfolding under
-nested_at op cl body params zero n le below pick = full_gives op cl body _
+nested_at op cl body params zero n le below pick = record { by = λ ts x h s. absurd h }
 nested_at op cl body params (suc m) zero le below pick = absurd (omega arith)
 nested_at op cl body params (suc m) (suc n) le below pick = room_gives op cl (inside params (under params m)) body _ (pick m n refl (omega arith) below)
 

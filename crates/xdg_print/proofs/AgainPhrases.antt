@@ -91,9 +91,6 @@ module _ {A B : Type 0} (j : Joining A B) (p np : Language A) (next : (ws : List
   conj_as_disj : {ws : List Word} {P : A → Type 0} → Written (conj_of j p np) ws P → Written (disj_of j p np) ws P
   conj_as_disj a = one_written (next_of j p np) j.any j.by_any.one a
 
-  bar : (ws : List Word) (P : A → Type 0) → Written (conj_of j p np) ws P → Written (next_of j p np) (mark k.Bar ∷ ws) P
-  bar ws P a = behind_written k.Bar (refl, refl) refl a
-
   -- the words of any phrase are read as a disjunction
   as_disj_at : (form : Form) (ws : List Word) (P : A → Type 0) → natural p (conj_of j p np) (disj_of j p np) form ws P → Written (disj_of j p np) ws P
   as_disj_at single ws P a = conj_as_disj (prim_as_conj a)
@@ -112,12 +109,12 @@ module _ {A B : Type 0} (j : Joining A B) (p np : Language A) (next : (ws : List
   pub in_brackets : (x : A) → Natural j p np x → Written p (in_parentheses (j.phrase x).words) (λ y. Alike j y x) → GoodPrim j p np x
   in_brackets x a b = record { bare_words = a; as_member = in_brackets_at (j.phrase x).form (j.phrase x).words (λ y. Alike j y x) a b }
 
-  plain_at : (ph : Phrase) (P : A → Type 0) (ws : List Word) → ph ≡ plainly ws → Written p ws P → natural p (conj_of j p np) (disj_of j p np) ph.form ph.words P × Written p (in_conjunction ph) P
-  plain_at ph P ws e a = subst (λ (q : Phrase). natural p (conj_of j p np) (disj_of j p np) q.form q.words P × Written p (in_conjunction q) P) (sym e) (a, a)
-
   -- a phrase of one part
   pub plain_good : (x : A) (ws : List Word) → j.phrase x ≡ plainly ws → Written p ws (λ y. Alike j y x) → GoodPrim j p np x
-  plain_good x ws e a = let h = plain_at (j.phrase x) (λ y. Alike j y x) ws e a in record { bare_words = h.0; as_member = h.1 }
+  plain_good x ws e a =
+      let read : Phrase → Type 0 = λ ph. natural p (conj_of j p np) (disj_of j p np) ph.form ph.words (λ y. Alike j y x) × Written p (in_conjunction ph) (λ y. Alike j y x) in
+      let h = subst read (sym e) (a, a) in
+      record { bare_words = h.0; as_member = h.1 }
 
   one_conj_at : (form : Form) (ws : List Word) (P : A → Type 0) → natural p (conj_of j p np) (disj_of j p np) form ws P → Written p (in_conjunction (record { form = form; words = ws })) P
       → Written (conj_of j p np) (in_disjunction (record { form = form; words = ws })) P
@@ -163,7 +160,7 @@ module _ {A B : Type 0} (j : Joining A B) (p np : Language A) (next : (ws : List
   any_good s (x ∷ []) e = subst (Natural j p np) (sym (j.by_any.one s x)) e.0.bare_words
   any_good s (x ∷ (y ∷ xs)) e =
       subst (λ (q : Phrase). natural p (conj_of j p np) (disj_of j p np) q.form q.words (λ z. Alike j z (j.any s (x ∷ (y ∷ xs))))) (sym (j.by_any.phrase_is s x y xs))
-      (several k.Bar in_disjunction j.any disjoined j.by_any (λ _. refl) bar s x y xs (each_so (GoodConj j p np) (λ x. Written (conj_of j p np) (in_disjunction (j.phrase x)) (λ y. Alike j y x)) (λ _ g. g.as_member) (x ∷ (y ∷ xs)) e))
+      (several k.Bar in_disjunction j.any disjoined j.by_any (λ _. refl) (λ ws P a. behind_written k.Bar (refl, refl) refl a) s x y xs (each_so (GoodConj j p np) (λ x. Written (conj_of j p np) (in_disjunction (j.phrase x)) (λ y. Alike j y x)) (λ _ g. g.as_member) (x ∷ (y ∷ xs)) e))
 
   -- what the rules read, where a member was read
   conj_gives : (q nq : Language A) → Gives q (GoodPrim j p np) → Gives nq (GoodPrim j p np) → Gives (conj_of j q nq) (GoodConj j p np)

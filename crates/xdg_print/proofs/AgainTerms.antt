@@ -16,19 +16,9 @@ use Rattle.xdg_print.proofs.AgainKept.{sign_keeps, signed_keeps, unsigned_keeps,
 use Rattle.xdg_print.proofs.AgainPhrases.{Natural, GoodPrim, as_disj, disj_keeps, in_brackets, plain_gives, disj_gives}
 use Rattle.xdg_print.proofs.AgainLevels.{gens, Depth, nested_gives, nested_written, braces_keep, square_brackets_keep}
 
-abbrev num_pair : Num × Num → Num × Num
-num_pair i = (bare_num i.0, bare_num i.1)
-
-abbrev num_pair_words : Num × Num → List Word
-num_pair_words i = number i.0.value ∷ number i.1.value ∷ []
-
-interval_keeps : Keeps interval interval num_pair num_pair_words
+interval_keeps : Keeps {B = Num × Num} interval interval (λ (i : Num × Num). (bare_num i.0, bare_num i.1)) (λ i. number i.0.value ∷ number i.1.value ∷ [])
 unfolding interval
 interval_keeps = pair_keeps num_keeps num_keeps
-
--- the words of a generator that stands alone
-abbrev gen_words : Gen → List Word
-gen_words gen = (gen_phrase gen.kind).words
 
 -- a member behind a sign
 next_written : (params : Params) (n : ℕ) (ws : List Word) (P : Gen → Type 0) → Written (gprim (under params n)) ws P → Written (next_gprim (under params n)) (mark k.Ampersand ∷ ws) P
@@ -84,6 +74,6 @@ module _ {params : Params} {m n : ℕ} (depth : Depth params m n) where
   unfolding gen gconjs gconj gprims next_gconj
   gen_gives = disj_gives gens (gprim (under params n)) (next_gprim (under params n)) (next_written params n) (gprim (under params m)) (next_gprim (under params m)) prim_gives next_gives
 
-  pub gen_keeps : Keeps (gen (under params m)) (gen (under params n)) (bare_part bare_gen) gen_words
+  pub gen_keeps : Keeps (gen (under params m)) (gen (under params n)) (bare_part bare_gen) (λ x. (gen_phrase x.kind).words)
   unfolding gen gconjs gconj gprims next_gconj
   gen_keeps = disj_keeps gens (gprim (under params n)) (next_gprim (under params n)) (next_written params n) gen_gives

@@ -13,7 +13,7 @@ use Rattle.xdg_ast.specs.declared.grammar.StatementKind.{StatementKind}
 use Rattle.xdg_ast.specs.declared.grammar.StatementKind.TheVariants as s
 use Rattle.xdg_ast.specs.declared.grammar.Grammar.{Grammar}
 use Rattle.xdg_ast.specs.Language.{Language, span_of, is, token, made}
-use Rattle.xdg_ast.specs.Grammar.{Params, Term, Expr, DimPart, is_constant, name_of, inside, name, term, expr, preset, class_param, class_params, params_of, body, class_tail, parts, statement_kind, statement, statements}
+use Rattle.xdg_ast.specs.Grammar.{Params, Term, Expr, DimPart, name_of, inside, name, term, expr, preset, class_param, class_params, params_of, body, class_tail, parts, statement_kind, statement, statements}
 use Rattle.xdg_ast.specs.Derives.{DerivesWithin}
 use Rattle.xdg_ast.specs.Words.{Word, word_of, mark, constant, IsSpellable, AreSpellable}
 use Rattle.xdg_ast.specs.Trees.{name_word, term_words}
@@ -30,9 +30,6 @@ use Rattle.xdg_facts.proofs.Lists.{fused}
 
 -- ---- parameters of classes
 
-is_a_constant : (t : Lexeme) → is k.Name t.kind ≡ true → is_constant t.kind ≡ true
-is_a_constant t h = rw h refl
-
 abbrev param_name : Language Name
 param_name = made name_of (token (is k.Name))
 
@@ -40,7 +37,7 @@ param_name_keeps : Keeps param_name param_name bare_name name_words
 param_name_keeps = record {
   all = made_gives {G = λ t. (is k.Name t.kind ≡ true) × IsSpellable (word_of t)} (token_gives (λ t h s. (h, s))) (λ t g. weaker
       (made_written {Q = λ m. m.text ≡ content_of t.kind t.text}
-      (token_written (is k.Name) (constant (content_of t.kind t.text)) (constant_spellable (content_of t.kind t.text) (short_text t (is_a_constant t g.0) g.1)) (ap (λ b. is k.Name (if b then k.Name else k.Quoted)) (name_text t g.0 g.1)))
+      (token_written (is k.Name) (constant (content_of t.kind t.text)) (constant_spellable (content_of t.kind t.text) (short_text t (rw g.0 refl) g.1)) (ap (λ b. is k.Name (if b then k.Name else k.Quoted)) (name_text t g.0 g.1)))
       (λ u h. (constant_says (content_of t.kind t.text) u h).1)) (λ m h. same_text m (name_of t) h));
 }
 
@@ -54,15 +51,6 @@ same_params ps qs h = sym (names_of ps) ∙ (ap (map (λ (p : ClassParam). p.nam
   names_of : (ps : List ClassParam) → map (λ (p : ClassParam). p.name.text) (map bare_class_param ps) ≡ params_of ps
   names_of [] = refl
   names_of (p ∷ ps) = ap (λ names. p.name.text ∷ names) (names_of ps)
-
-abbrev Tail : Type 0
-Tail = List ClassParam × Expr
-
-abbrev bare_tail : Tail → Tail
-bare_tail tail = (map bare_class_param tail.0, bare_part bare_expr tail.1)
-
-abbrev tail_words : Tail → List Word
-tail_words tail = flat_map class_param_words tail.0 ++ body_words (params_of tail.0) tail.1
 
 module _ (n : ℕ) where
   preset_keeps : Keeps (preset n) (preset n) (bare_option (bare_part bare_term)) (option_words (λ term. mark k.Colon ∷ term_words [] term.kind))
@@ -81,7 +69,7 @@ module _ (n : ℕ) where
   unfolding body inside
   body_keeps params = braces_keep (λ j. j.expr) (depth_of params n n (omega arith)) (λ m' n' l levels. expr_keeps (depth_of params m' n' l))
 
-  tail_keeps : Keeps (class_tail n) (class_tail n) bare_tail tail_words
+  tail_keeps : Keeps {B = List ClassParam × Expr} (class_tail n) (class_tail n) (λ tail. (map bare_class_param tail.0, bare_part bare_expr tail.1)) (λ tail. flat_map class_param_words tail.0 ++ body_words (params_of tail.0) tail.1)
   unfolding class_tail
   tail_keeps = record {
     all = bind_gives {m = λ params. body (params_of params) n} (body [] n) class_params_keep.all (λ params. (body_keeps (params_of params)).all)
@@ -129,24 +117,15 @@ dim_is dim =
     ap (λ parts. (s.DefDim (bare_name dim.0) parts, line (mark k.DefDim ∷ name_word dim.0 ∷ mark k.LeftBrace ∷ []) ∷ (map (λ (part : DimPart). indented (part_words part.kind)) dim.1 ++ line (mark k.RightBrace ∷ []) ∷ []))) (sym a)
     ∙ ap (λ lines. (s.DefDim (bare_name dim.0) (map (λ (p : PartSaid). record { kind = p.0; span = nowhere }) (map (λ (part : DimPart). part_said part.kind) dim.1)), line (mark k.DefDim ∷ name_word dim.0 ∷ mark k.LeftBrace ∷ []) ∷ (lines ++ line (mark k.RightBrace ∷ []) ∷ []))) (sym b)
 
-abbrev Class : Type 0
-Class = Name × Tail
-
-abbrev BareClass : Type 0
-BareClass = (Name × Tail) × List Word
-
-abbrev BareBody : Type 0
-BareBody = Expr × List Word
-
 module _ (n : ℕ) where
   statement_kind_keeps : Keeps (statement_kind n) (statement_kind n) stated statement_words
   unfolding statement_kind statement_words statement_lines bare_statement inside
   statement_kind_keeps = either_keeps (made_keeps (λ z. one_line (s.UseDim z) (mark k.UseDim ∷ name_words z)) (behind_keeps k.UseDim (refl, refl) refl name_keeps) (λ _. refl) (λ _. refl))
       (either_keeps (made_keeps stated_dim (behind_keeps k.DefDim (refl, refl) refl (pair_keeps name_keeps (braces_keep (λ j. j.parts) (depth_of [] n n (omega arith)) (λ m' n' l levels. parts_keep m' n' l))))
       dim_is (λ _. refl))
-      (either_keeps (made_keeps (λ (z : BareClass). one_line (s.DefClass z.0.0 z.0.1.0 z.0.1.1) z.1) (with_words (behind_keeps k.DefClass (refl, refl) refl (pair_keeps name_keeps (tail_keeps n))))
+      (either_keeps (made_keeps (λ (z : (Name × (List ClassParam × Expr)) × List Word). one_line (s.DefClass z.0.0 z.0.1.0 z.0.1.1) z.1) (with_words (behind_keeps k.DefClass (refl, refl) refl (pair_keeps name_keeps (tail_keeps n))))
       (λ _. refl) (λ _. refl))
-      (made_keeps (λ (z : BareBody). one_line (s.DefEntry z.0) z.1) (with_words (behind_keeps k.DefEntry (refl, refl) refl (body_keeps n []))) (λ _. refl) (λ _. refl))))
+      (made_keeps (λ (z : Expr × List Word). one_line (s.DefEntry z.0) z.1) (with_words (behind_keeps k.DefEntry (refl, refl) refl (body_keeps n []))) (λ _. refl) (λ _. refl))))
 
   statements_keep : Keeps (statements n) (statements n) (map (λ x. stated x.kind)) (flat_map (λ x. statement_words x.kind))
   unfolding statements statement

@@ -4,7 +4,7 @@ use Rattle.std.proofs.lemmas.List.{append-nil, map-append}
 use Rattle.xdg_base.specs.declared.places.Span.{Span}
 use Rattle.xdg_ast.specs.declared.token.Kind.{Kind}
 use Rattle.xdg_ast.specs.Lexemes.{Lexeme}
-use Rattle.xdg_ast.specs.Language.{Language, Kinds, is, span_of, full, room, token, nothing, bind, both, either, each, many, nested, spanned, made, behind}
+use Rattle.xdg_ast.specs.Language.{Language, Kinds, is, span_of, room, token, nothing, bind, both, either, each, many, nested, spanned, made, behind}
 use Rattle.xdg_ast.specs.Words.{Word, word_of, mark, IsSpellable, AreSpellable}
 
 -- ---- lists of words
@@ -91,9 +91,6 @@ made_written {A} {B} {f} a q = record {
 -- a token that is not kept, and then the other
 pub behind_written : {A : Type 0} {l : Language A} {ws : List Word} {P : A → Type 0} (kind : Kind) → IsSpellable (mark kind) → is kind kind ≡ true → Written l ws P → Written (behind (token (is kind)) l) (mark kind ∷ ws) P
 behind_written kind s h a = both_written (token_written (is kind) (mark kind) s h) a (λ _ _ _ p. p)
-
-pub left_written : {A : Type 0} {l : Language A} (m : Language A) {ws : List Word} {P : A → Type 0} → Written l ws P → Written (either l m) ws P
-left_written m a = record { spellable = a.spellable; again = λ us i. let x = a.again us i in (x.0, inl x.1, x.2) }
 
 pub spanned_written : {A B : Type 0} {f : Span → A → B} {l : Language A} {ws : List Word} {P : A → Type 0} {Q : B → Type 0} → Written l ws P → ((s : Span) (a : A) → P a → Q (f s a)) → Written (spanned f l) ws Q
 spanned_written {A} {B} {f} a q = record {
@@ -182,9 +179,6 @@ many_gives a = record { by = λ ts xs h s. each_gives a xs ts h s }
 
 pub spanned_gives : {A B : Type 0} {f : Span → A → B} {l : Language A} {G : A → Type 0} {K : B → Type 0} → Gives l G → ((s : Span) (a : A) → G a → K (f s a)) → Gives (spanned f l) K
 spanned_gives {A} {B} {f} {l} {G} {K} a k = record { by = λ ts x h s. subst K (sym h.4) (k h.0 h.1 (a.by ts h.1 h.3 s)) }
-
-pub full_gives : {A : Type 0} {L : Type 1} (op cl : Kinds) (body : L → Language A) (G : A → Type 0) → Gives (nested op cl full body) G
-full_gives op cl body G = record { by = λ ts x h s. absurd h }
 
 pub room_gives : {A : Type 0} {L : Type 1} (op cl : Kinds) (j : L) (body : L → Language A) (G : A → Type 0) → Gives (body j) G → Gives (nested op cl (room j) body) G
 room_gives op cl j body G a = record {

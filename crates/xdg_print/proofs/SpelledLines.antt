@@ -2,7 +2,9 @@
 use Rattle.std.proofs.Common.{◌≡◌, ℕ, ◌+◌, ◌==◌, Bool, true, false, Option, Some, None, List, [], ◌∷◌, ◌++◌, map, refl, sym, ◌∙◌, ap, subst, append_assoc}
 use Rattle.std.specs.Prelude.{flat_map}
 use Rattle.std.specs.Char.{is_ascii, is_whitespace}
+use Rattle.std.specs.Str.{chars}
 use Rattle.std.proofs.lemmas.Bool.{cond_both, eqb-true}
+use Rattle.std.proofs.lemmas.Str.{chars-encodes}
 use Rattle.xdg_ast.specs.declared.token.Kind.{Kind}
 use Rattle.xdg_base.specs.Spelling.{continues_name}
 use Rattle.xdg_ast.specs.Lexemes.{Lexeme}
@@ -16,9 +18,9 @@ use Rattle.xdg_ast.specs.declared.grammar.Grammar.{Grammar}
 use Rattle.xdg_ast.specs.Words.{Word, word_of, AreSpellable}
 use Rattle.xdg_ast.specs.Canon.{Line, indented, part_words, statement_lines, spelling, is_tight_behind, is_tight, gap, joined, line_text, lines_of, canon}
 use Rattle.xdg_print.proofs.AgainWritten.{spellable-split}
-use Rattle.xdg_print.proofs.SpelledTexts.{AreBytesOf, no_bytes, bytes_append, bytes_utf8, bytes_chars, ascii_bytes, all_pass, weaker_test}
+use Rattle.xdg_print.proofs.SpelledTexts.{AreBytesOf, no_bytes, bytes_append, bytes_utf8, ascii_bytes, all_pass, weaker_test}
 use Rattle.xdg_print.proofs.SpelledNames.{Says}
-use Rattle.xdg_print.proofs.SpelledWords.{characters, word_bytes, word_says, tight_stops}
+use Rattle.xdg_print.proofs.SpelledWords.{characters, word_bytes, word_says, tight_closing, closing_stops}
 
 -- ---- white space
 
@@ -34,11 +36,8 @@ spaces_say : (spaces behind : List ℕ) (words : List Word) → EachPasses is_sp
 spaces_say [] behind words each more = more
 spaces_say (c ∷ cs) behind words each more = white_says c (cs ++ behind) words (ap is_whitespace (eqb-true c 32 each.0)) (spaces_say cs behind words each.1 more)
 
-space_ascii : (c : ℕ) → is_space c ≡ true → is_ascii c ≡ true
-space_ascii c s = ap is_ascii (eqb-true c 32 s)
-
 spaces_bytes : (spaces : List ℕ) → EachPasses is_space spaces → AreBytesOf spaces spaces
-spaces_bytes spaces each = ascii_bytes spaces (weaker_test is_space is_ascii space_ascii spaces (all_pass is_space spaces each))
+spaces_bytes spaces each = ascii_bytes spaces (weaker_test is_space is_ascii (λ c s. ap is_ascii (eqb-true c 32 s)) spaces (all_pass is_space spaces each))
 
 -- ---- words in a line
 
@@ -68,7 +67,7 @@ unfolding gap joined_characters
 joined_stops one [] behind no_tight = refl
 joined_stops one (word ∷ words) behind no_tight =
     cond_both (is_tight one word.kind) [] (32 ∷ []) (λ g. StopsBefore continues_name (g ++ (characters word.kind word.content word.value ++ joined_characters (Some word.kind) words (10 ∷ behind))))
-    (λ tight. tight_stops one word.kind word.content word.value (joined_characters (Some word.kind) words (10 ∷ behind)) no_tight tight) (λ _. refl)
+    (λ tight. closing_stops word.kind word.content word.value (joined_characters (Some word.kind) words (10 ∷ behind)) (tight_closing one word.kind no_tight tight)) (λ _. refl)
 
 joined_says : (previous : Option Kind) (words : List Word) (behind : List ℕ) (later : List Word) → AreSpellable words → Says behind later → Says (joined_characters previous words (10 ∷ behind)) (words ++ later)
 unfolding joined_characters
@@ -103,12 +102,9 @@ lines_bytes (line ∷ lines) spaces good =
     (joined_bytes None line.words (10 ∷ lines_characters lines) (10 ∷ more) (spellable-split line.words (words_in lines) good).0
     (bytes_append (10 ∷ []) (10 ∷ []) (lines_characters lines) more (ascii_bytes (10 ∷ []) refl) (lines_bytes lines spaces.1 (spellable-split line.words (words_in lines) good).1))))
 
-nothing_says : Says [] []
-nothing_says at = ([], finished at, refl)
-
 lines_say : (lines : List Line) → AreIndented lines → AreSpellable (words_in lines) → Says (lines_characters lines) (words_in lines)
 unfolding lines_characters
-lines_say [] spaces good = nothing_says
+lines_say [] spaces good = λ at. ([], finished at, refl)
 lines_say (line ∷ lines) spaces good =
     spaces_say line.indent _ (words_in (line ∷ lines)) spaces.0
     (joined_says None line.words (lines_characters lines) (words_in lines) (spellable-split line.words (words_in lines) good).0 (lines_say lines spaces.1 (spellable-split line.words (words_in lines) good).1))
@@ -119,7 +115,7 @@ pub spells_again : (lines : List Line) → AreIndented lines → AreSpellable (f
 spells_again lines spaces good =
     let bytes = lines_bytes lines spaces good in
     let said = lines_say lines spaces good 0 in
-    (said.0, (bytes_utf8 _ _ bytes, subst (λ cs. Tokenizes 127 0 cs said.0) (sym (bytes_chars _ _ bytes)) said.1), said.2)
+    (said.0, (bytes_utf8 _ _ bytes, subst (λ cs. Tokenizes 127 0 cs said.0) (sym (ap chars (sym bytes.encoded) ∙ chars-encodes (lines_characters lines) bytes.scalars)) said.1), said.2)
 
 -- ---- the lines of a grammar
 
@@ -142,12 +138,8 @@ statements_indented : (statements : List (Spanned StatementKind)) → AreIndente
 statements_indented [] = tt
 statements_indented (statement ∷ statements) = indented_append (statement_lines statement.kind) _ (statement_indented statement.kind) (statements_indented statements)
 
--- the lines of a grammar are indented by spaces
-pub grammar_indented : (grammar : Grammar) → AreIndented (lines_of grammar)
-grammar_indented grammar = statements_indented grammar.statements
-
 -- the canonical text of a grammar whose words can be spelled is the text of tokens that say these words
 pub canon_spells : (grammar : Grammar) → AreSpellable (flat_map (λ line. line.words) (lines_of grammar))
     → (us : List Lexeme) × Spells (canon grammar) us × (map word_of us ≡ flat_map (λ line. line.words) (lines_of grammar))
 unfolding canon
-canon_spells grammar good = spells_again (lines_of grammar) (grammar_indented grammar) good
+canon_spells grammar good = spells_again (lines_of grammar) (statements_indented grammar.statements) good

@@ -12,7 +12,7 @@ use Rattle.xdg_ast.specs.Lexemes.{lexeme}
 use Rattle.xdg_ast.specs.Tokenizes.{StopsBefore, IsToken, number, value_after, greatest_number}
 use Rattle.xdg_ast.specs.Words.{Word, word_of, IsSpellable}
 use Rattle.xdg_print.proofs.SpelledTexts.{AreBytesOf, ascii_bytes, each_passes, weaker_test}
-use Rattle.xdg_print.proofs.SpelledNames.{Says, says_more}
+use Rattle.xdg_print.proofs.SpelledNames.{Says, says_more, continue_ascii, digit_continues}
 use Rattle.xdg_lex.proofs.Pending.{value_more}
 
 from_append : (value : ℕ) (cs : List ℕ) (c : ℕ) → value_from value (cs ++ c ∷ []) ≡ with_digit (value_from value cs) c
@@ -25,9 +25,6 @@ record AreDigitsOf (n : ℕ) (digits : List ℕ) : Type 0 where
   some_digits : 0 < length digits
   after : value_after 0 digits ≡ n
   from : n ≤ greatest_number → value_from 0 digits ≡ n
-
-digit_ascii : (c : ℕ) → is_ascii_digit c ≡ true → is_ascii c ≡ true
-digit_ascii c b = grind (arith, b)
 
 is_digit : (n : ℕ) → n < 10 → is_ascii_digit (48 + n) ≡ true
 is_digit n small = grind (arith, small)
@@ -54,7 +51,7 @@ decimal_digits : (n : ℕ) → n ≤ greatest_number → AreDigitsOf n (decimal 
 decimal_digits n fits = decimal_by_steps AreDigitsOf one_digit more_digits n (omega (arith, fits))
 
 pub decimal_bytes : (n : ℕ) → n ≤ greatest_number → AreBytesOf (decimal n) (decimal n)
-decimal_bytes n fits = ascii_bytes (decimal n) (weaker_test is_ascii_digit is_ascii digit_ascii (decimal n) (decimal_digits n fits).digits_only)
+decimal_bytes n fits = ascii_bytes (decimal n) (weaker_test is_ascii_digit is_ascii (λ c b. continue_ascii c (digit_continues c b)) (decimal n) (decimal_digits n fits).digits_only)
 
 digits_token : (cs behind : List ℕ) (n : ℕ) → AreDigitsOf n cs → n ≤ greatest_number → StopsBefore is_ascii_digit behind → (at : ℕ) → IsToken at k.Number cs 0 behind
 digits_token [] behind n are fits stops at = absurd (omega (arith, are.some_digits))

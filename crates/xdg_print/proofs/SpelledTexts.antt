@@ -1,10 +1,10 @@
 -- Characters and their bytes.
-use Rattle.std.proofs.Common.{◌≡◌, ℕ, ◌<◌, Bool, true, List, [], ◌∷◌, ◌++◌, refl, sym, ◌∙◌, ap, arith}
+use Rattle.std.proofs.Common.{◌≡◌, ℕ, ◌<◌, Bool, true, List, [], ◌∷◌, ◌++◌, refl, ◌∙◌, ap, arith}
 use Rattle.std.specs.Char.{IsScalar, is_ascii}
 use Rattle.std.specs.List.{list_all}
 use Rattle.std.specs.Str.{chars, all_scalars, IsUtf8, encode_utf8_all}
 use Rattle.std.proofs.lemmas.Bool.{and_parts, and_from}
-use Rattle.std.proofs.lemmas.Str.{chars-encodes, encodes-append, encodes-chars, scalars-chars, encode_ascii}
+use Rattle.std.proofs.lemmas.Str.{encodes-append, encodes-chars, scalars-chars, encode_ascii}
 use Rattle.xdg_ast.specs.Tokenizes.{EachPasses}
 
 -- the bytes are those of the characters
@@ -39,12 +39,9 @@ no_bytes = record { scalars = refl; encoded = refl }
 
 -- ---- texts
 
--- the bytes of characters are UTF-8, and the characters are those of the bytes
+-- the bytes of characters are UTF-8
 pub bytes_utf8 : (cs bytes : List ℕ) → AreBytesOf cs bytes → IsUtf8 bytes
 bytes_utf8 cs bytes a = (cs, (a.scalars, a.encoded))
-
-pub bytes_chars : (cs bytes : List ℕ) → AreBytesOf cs bytes → chars bytes ≡ cs
-bytes_chars cs bytes a = ap chars (sym a.encoded) ∙ chars-encodes cs a.scalars
 
 pub utf8_bytes : (bytes : List ℕ) → IsUtf8 bytes → AreBytesOf (chars bytes) bytes
 utf8_bytes bytes u = record { scalars = scalars-chars bytes u; encoded = encodes-chars bytes u }

@@ -88,10 +88,10 @@ word_says kind content value behind words s stops more = keyword_says kind (text
 -- ---- what stands behind a word
 
 -- the signs that stand behind other words with no space
-abbrev is_closing : Kind → Bool
+abbrev pub is_closing : Kind → Bool
 is_closing other = is_tight_before other || is k.LeftParenthesis other
 
-tight_closing : (one other : Kind) → is_tight_behind one ≡ false → is_tight one other ≡ true → is_closing other ≡ true
+pub tight_closing : (one other : Kind) → is_tight_behind one ≡ false → is_tight one other ≡ true → is_closing other ≡ true
 tight_closing one other no_tight tight = elim (or_cases (is_tight_behind one || is_tight_before other) (takes_types one && is k.LeftParenthesis other) tight) as (λ _. is_closing other ≡ true) [
   | inl a ↦ elim (or_cases (is_tight_behind one) (is_tight_before other) a) as (λ _. is_closing other ≡ true) [
     | inl b ↦ absurd (true≢false (sym b ∙ no_tight))
@@ -100,10 +100,7 @@ tight_closing one other no_tight tight = elim (or_cases (is_tight_behind one || 
   | inr a ↦ or_right (is_tight_before other) (is k.LeftParenthesis other) (and_parts (takes_types one) (is k.LeftParenthesis other) a).1
 ]
 
-closing_stops : (kind : Kind) (content : List ℕ) (value : ℕ) (behind : List ℕ) → is_closing kind ≡ true → StopsBefore continues_name (characters kind content value ++ behind)
+-- no name goes on behind a word, where such a sign stands
+pub closing_stops : (kind : Kind) (content : List ℕ) (value : ℕ) (behind : List ℕ) → is_closing kind ≡ true → StopsBefore continues_name (characters kind content value ++ behind)
 closing_stops k.RightBrace content value behind e = refl
 closing_stops _ content value behind e = cc
-
--- no name goes on behind a word, where no space stands
-pub tight_stops : (one other : Kind) (content : List ℕ) (value : ℕ) (behind : List ℕ) → is_tight_behind one ≡ false → is_tight one other ≡ true → StopsBefore continues_name (characters other content value ++ behind)
-tight_stops one other content value behind no_tight tight = closing_stops other content value behind (tight_closing one other no_tight tight)

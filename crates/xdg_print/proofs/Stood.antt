@@ -11,8 +11,8 @@ use Rattle.xdg_domain.specs.Sized.{sizes_of}
 use Rattle.xdg_domain.specs.declared.types.Ty.{Ty}
 use Rattle.xdg_print.specs.declared.printer.Printer.{Printer}
 use Rattle.xdg_print.specs.Printed.{put}
-use Rattle.xdg_print.proofs.Put.{all_of}
-use Rattle.xdg_print.proofs.Written.{put_mark, put_braces, put_square_brackets}
+use Rattle.xdg_print.proofs.Put.{put_append, all_of}
+use Rattle.xdg_print.proofs.Written.{put_mark, put_braces}
 use Rattle.xdg_print.specs.ValueWords.{constants_at, member_words}
 use Rattle.xdg_print.proofs.Layered.{names_of, field_within}
 
@@ -52,7 +52,7 @@ pub tuple_done : (s : Shape) (types given : List Ty) (ns : List ℕ) (number : �
     → opened ≡ put_mark k.LeftBracket p → listed ≡ put (constants_at (names_of given) ns) opened → put_mark k.RightBracket listed ≡ put (member_words s number) p
 tuple_done s types given ns number p opened listed is same at one two =
     ap (put_mark k.RightBracket) (two ∙ ap₂ (λ ts ms. put (constants_at (names_of ts) ms) opened) same at ∙ ap (put (constants_at (names_of types) (places (sizes_of types) number))) one)
-    ∙ sym (ap (λ r. put (member_words r number) p) is ∙ put_square_brackets (constants_at (names_of types) (places (sizes_of types) number)) p)
+    ∙ sym (ap (λ r. put (member_words r number) p) is ∙ put_append (constants_at (names_of types) (places (sizes_of types) number)) (mark k.RightBracket ∷ []) (put_mark k.LeftBracket p))
 
 -- ---- lists in braces
 

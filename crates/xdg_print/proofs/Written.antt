@@ -8,20 +8,17 @@ use Rattle.xdg_ast.specs.declared.names.Spanned.{Spanned}
 use Rattle.xdg_ast.specs.declared.types.TypeKind.{TypeKind}
 use Rattle.xdg_ast.specs.declared.types.TypeKind.TheVariants as y
 use Rattle.xdg_ast.specs.Words.{Word, mark}
-use Rattle.xdg_ast.specs.Trees.{name_word, in_braces, in_parentheses, in_square_brackets, pair_words, type_words}
+use Rattle.xdg_ast.specs.Trees.{name_word, in_braces, in_parentheses, pair_words, type_words}
 use Rattle.xdg_print.specs.declared.printer.Printer.{Printer}
 use Rattle.xdg_print.specs.Printed.{put}
 use Rattle.xdg_print.proofs.Put.{put_append}
-use Rattle.xdg_print.proofs.AgainTrees.{type_words-Bool, type_words-Card, type_words-Domain, type_words-Empty, type_words-ISet, type_words-Int, type_words-Map, type_words-Named, type_words-Rec, type_words-Set, type_words-Str, type_words-Tuple, type_words-Valency}
+use Rattle.xdg_print.proofs.AgainTrees.{type_words-Bool, type_words-Card, type_words-Domain, type_words-Empty, type_words-ISet, type_words-Int, type_words-Map, type_words-Named, type_words-Set, type_words-Str, type_words-Tuple, type_words-Valency}
 
 abbrev pub put_mark : Kind → Printer → Printer
 put_mark kind p = put (mark kind ∷ []) p
 
 pub put_braces : (words : List Word) (p : Printer) → put (in_braces words) p ≡ put_mark k.RightBrace (put words (put_mark k.LeftBrace p))
 put_braces words p = put_append words (mark k.RightBrace ∷ []) (put_mark k.LeftBrace p)
-
-pub put_square_brackets : (words : List Word) (p : Printer) → put (in_square_brackets words) p ≡ put_mark k.RightBracket (put words (put_mark k.LeftBracket p))
-put_square_brackets words p = put_append words (mark k.RightBracket ∷ []) (put_mark k.LeftBracket p)
 
 -- a name, a colon and words were added
 pub keyed : (key : Name) (words : List Word) (p named coloned q : Printer) → named ≡ put (name_word key ∷ []) p → coloned ≡ put_mark k.Colon named → q ≡ put words coloned → q ≡ put (name_word key ∷ mark k.Colon ∷ words) p
