@@ -1,5 +1,5 @@
 -- Runs of edges that are absent: places that follow one another in a row in which no edge may be.
-use Rattle.std.proofs.Common.{◌≡◌, ℕ, zero, suc, ◌<◌, ◌≤◌, ◌+◌, ◌-◌, inl, inr, Bool, List, [], ◌∷◌, ◌++◌, AllPairs, length, map, get_or, replicate, refl, ap, sym, ◌∙◌, arith, subst, length-append}
+use Rattle.std.proofs.Common.{◌≡◌, ℕ, zero, suc, ◌<◌, ◌≤◌, ◌+◌, ◌-◌, ◌⊎◌, inl, inr, Bool, List, [], ◌∷◌, ◌++◌, AllPairs, length, map, get_or, replicate, refl, ap, sym, ◌∙◌, arith, subst, length-append}
 use Rattle.std.specs.Prelude.{IsTrue}
 use Rattle.std.proofs.lemmas.Bool.{cases_eq, false≢true}
 use Rattle.std.proofs.lemmas.List.{length-replicate}
@@ -19,36 +19,19 @@ use Rattle.xdg_facts.specs.Rises.{has}
 
 -- ---- what stands between two edges of a row is in it
 
-dims_rise : (a b : Edge) → Before a b → a.dim.0 ≤ b.dim.0
-dims_rise a b (inl l) = omega (arith, l)
-dims_rise a b (inr r) = let e = r.0 in omega (arith, e)
-
-mothers_rise : (a b : Edge) → a.dim.0 ≡ b.dim.0 → Before a b → a.mother.0 ≤ b.mother.0
-mothers_rise a b same (inl l) = absurd (omega (arith, l, same))
-mothers_rise a b same (inr r) = elim r.1 [
-  | inl l ↦ omega (arith, l)
-  | inr more ↦ (let e = more.0 in omega (arith, e))
-]
-
-labels_rise : (a b : Edge) → a.dim.0 ≡ b.dim.0 → a.mother.0 ≡ b.mother.0 → Before a b → a.label.0 ≤ b.label.0
-labels_rise a b same mothers (inl l) = absurd (omega (arith, l, same))
-labels_rise a b same mothers (inr r) = elim r.1 [
-  | inl l ↦ absurd (omega (arith, l, mothers))
-  | inr more ↦ elim more.1 [
-    | inl l ↦ omega (arith, l)
-    | inr last ↦ (let e = last.0 in omega (arith, e))
-  ]
-]
+-- of what is ordered by a number first, what stands between two with one number has that number, and stands between them by the rest
+between_first : {P Q : Type 0} (a x b : ℕ) → a ≡ b → (a < x) ⊎ ((a ≡ x) × P) → (x < b) ⊎ ((x ≡ b) × Q) → (a ≡ x) × P × Q
+between_first a x b same (inr (e, p)) (inr (f, q)) = (e, p, q)
+between_first a x b same (inr (e, p)) (inl more) = absurd (omega (arith, same, e, more))
+between_first a x b same (inl less) (inr (f, q)) = absurd (omega (arith, same, less, f))
+between_first a x b same (inl less) (inl more) = absurd (omega (arith, same, less, more))
 
 between : (row : Row) (a x b : Edge) → IsOf row a → IsOf row b → Before a x → Before x b → IsOf row x
 between row a x b from to low high =
-    let dims : a.dim.0 ≡ b.dim.0 = sym from.dim ∙ to.dim in
-    let mothers : a.mother.0 ≡ b.mother.0 = sym from.mother ∙ to.mother in
-    let labels : a.label.0 ≡ b.label.0 = sym from.label ∙ to.label in
-    let dim : a.dim.0 ≡ x.dim.0 = (let p = dims_rise a x low in let q = dims_rise x b high in omega (arith, p, q, dims)) in
-    let mother : a.mother.0 ≡ x.mother.0 = (let p = mothers_rise a x dim low in let q = mothers_rise x b (sym dim ∙ dims) high in omega (arith, p, q, mothers)) in
-    let label : a.label.0 ≡ x.label.0 = (let p = labels_rise a x dim mother low in let q = labels_rise x b (sym dim ∙ dims) (sym mother ∙ mothers) high in omega (arith, p, q, labels)) in
-    record { dim = from.dim ∙ dim; mother = from.mother ∙ mother; label = from.label ∙ label }
+    let dim = between_first a.dim.0 x.dim.0 b.dim.0 (sym from.dim ∙ to.dim) low high in
+    let mother = between_first a.mother.0 x.mother.0 b.mother.0 (sym from.mother ∙ to.mother) dim.1 dim.2 in
+    let label = between_first a.label.0 x.label.0 b.label.0 (sym from.label ∙ to.label) mother.1 mother.2 in
+    record { dim = from.dim ∙ dim.0; mother = from.mother ∙ mother.0; label = from.label ∙ label.0 }
 
 -- places from one of a row to another of it are in the row
 pub run_of : (row : Row) (edges : List Edge) (place last : ℕ) (d : Edge) → AllPairs Before edges → last < length edges → IsOf row (get_or edges place d) → IsOf row (get_or edges last d) → (k : ℕ) → place ≤ k → k ≤ last → IsOf row (get_or edges k d)

@@ -1,13 +1,13 @@
 -- What holds of the box of each front, as fronts come and go.
-use Rattle.std.proofs.Common.{◌≡◌, ℕ, ◌<◌, ◌≤◌, ◌+◌, ◌-◌, inl, inr, Bool, List, [], ◌∷◌, ◌++◌, length, map, take, ap, sym, ◌∙◌, arith, subst, length-append}
+use Rattle.std.proofs.Common.{◌≡◌, ℕ, ◌<◌, ◌≤◌, ◌+◌, Bool, List, [], ◌∷◌, ◌++◌, length, map, take, ap, sym, ◌∙◌, arith, subst}
 use Rattle.std.specs.Prelude.{slice_index, slice_index_or}
-use Rattle.std.proofs.lemmas.Bool.{cases_lt}
-use Rattle.std.proofs.lemmas.List.{get_or_append_left, get_or-append-add, get_or-map, get_or-take, length-map, length-take, length-take-le}
+use Rattle.std.proofs.lemmas.List.{append-nil, append_assoc, get_or_append_left, get_or-take, length-take-le}
 use Rattle.xdg_problem.specs.declared.analysis.Edge.{Edge}
 use Rattle.xdg_problem.specs.declared.parts.Parts.{Parts}
 use Rattle.xdg_propcore.specs.Steps.{Extends}
 use Rattle.xdg_store.specs.States.{State}
 use Rattle.xdg_stream.specs.Levels.{AreAll}
+use Rattle.xdg_stream.proofs.Marked.{marks_cut, marks_with}
 use Rattle.xdg_stream.proofs.Pushing.{Top, has_levels, mark_in}
 
 module _ (Calm : Parts → List (List Bool) → Type 0) where
@@ -15,18 +15,12 @@ module _ (Calm : Parts → List (List Bool) → Type 0) where
 
   -- further fronts with one box
   pub calm_more : (parts : Parts) (history : List (List (List Bool))) (marks marks' added : List ℕ) (mark : ℕ) → AreAll Calm parts history marks → Calm parts (slice_index_or history mark []) → marks' ≡ marks ++ map (λ _. mark) added → AreAll Calm parts history marks'
-  calm_more parts history marks marks' added mark all here is = subst (AreAll Calm parts history) (sym is) each
+  calm_more parts history marks marks' added mark all here is = subst (AreAll Calm parts history) (sym is) (runs marks added all)
     where
-      each : AreAll Calm parts history (marks ++ map (λ _. mark) added)
-      each k l = elim (cases_lt k (length marks)) [
-        | inl b ↦ subst (λ i. Calm parts (slice_index_or history i [])) (sym (get_or_append_left marks (map (λ _. mark) added) 0 k b)) (all k b)
-        | inr p ↦
-            let n = length-append marks (map (λ _. mark) added) in
-            let m = length-map added (λ _. mark) in
-            let at : k ≡ length marks + (k - length marks) = omega (arith, p) in
-            let same : slice_index (marks ++ map (λ _. mark) added) k ≡ mark = ap (slice_index (marks ++ map (λ _. mark) added)) at ∙ get_or-append-add marks (map (λ _. mark) added) (k - length marks) 0 ∙ get_or-map (λ _. mark) added (k - length marks) 0 0 (omega (arith, l, n, m, p)) in
-            subst (λ i. Calm parts (slice_index_or history i [])) (sym same) here
-      ]
+      runs : (marks added : List ℕ) → AreAll Calm parts history marks → AreAll Calm parts history (marks ++ map (λ _. mark) added)
+      runs marks [] all = subst (AreAll Calm parts history) (sym (append-nil marks)) all
+      runs marks (x ∷ added) all = subst (AreAll Calm parts history) (append_assoc marks (mark ∷ []) (map (λ _. mark) added))
+          (runs (marks ++ mark ∷ []) added (marks_with (λ k m. Calm parts (slice_index_or history m [])) marks all mark here))
 
   -- one more
   pub calm_with : (parts : Parts) (history : List (List (List Bool))) (marks marks' : List ℕ) (mark : ℕ) → AreAll Calm parts history marks → Calm parts (slice_index_or history mark []) → marks' ≡ marks ++ mark ∷ [] → AreAll Calm parts history marks'
@@ -34,11 +28,7 @@ module _ (Calm : Parts → List (List Bool) → Type 0) where
 
   -- the first ones, so many
   pub calm_cut : (parts : Parts) (history : List (List (List Bool))) (marks marks' : List ℕ) (n : ℕ) → AreAll Calm parts history marks → marks' ≡ take n marks → AreAll Calm parts history marks'
-  calm_cut parts history marks marks' n all is k l =
-      let e = ap length is in
-      let m = length-take n marks in
-      let same : slice_index marks' k ≡ slice_index marks k = ap (λ z. slice_index z k) is ∙ get_or-take n marks k 0 (omega (arith, l, e, m)) in
-      subst (λ i. Calm parts (slice_index_or history i [])) (sym same) (all k (omega (arith, l, e, m)))
+  calm_cut parts history marks marks' n all is = subst (AreAll Calm parts history) (sym is) (marks_cut (λ k m. Calm parts (slice_index_or history m [])) marks all n)
 
   -- there is none
   pub calm_none : (parts : Parts) (history : List (List (List Bool))) (marks : List ℕ) → marks ≡ [] → AreAll Calm parts history marks

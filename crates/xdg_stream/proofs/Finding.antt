@@ -1,5 +1,5 @@
 -- The steps by which a run of forced numbers is found, and its end.
-use Rattle.std.proofs.Common.{◌≡◌, ◌≢◌, ℕ, ◌<◌, ◌+◌, ◌-◌, ◌↔◌, inl, inr, Bool, false, not, List, [], ◌∷◌, ◌++◌, Option, Some, None, length, map, ap, sym, ◌∙◌, arith, subst, suc, length-append}
+use Rattle.std.proofs.Common.{◌≡◌, ◌≢◌, ℕ, ◌<◌, ◌+◌, ◌-◌, ◌↔◌, inl, inr, Bool, false, not, List, [], ◌∷◌, ◌++◌, Option, Some, None, length, map, refl, ap, sym, ◌∙◌, arith, subst, suc, length-append}
 use Rattle.std.specs.Prelude.{IsTrue, slice_index_or}
 use Rattle.std.proofs.lemmas.Bool.{cases_Bool, false≢true, not-true}
 use Rattle.std.proofs.lemmas.List.{append_assoc, length-map, map-append}
@@ -30,28 +30,6 @@ FoundBelow box d i (Some v) = Has box d v × ((x : ℕ) → x < i → Has box d 
 
 -- ---- the numbers that are added
 
-alone_push : (box : List (List Bool)) (d v : ℕ) (t : List ℕ) → AreAlone box d t → IsAlone box (d + length t) v → AreAlone box d (t ++ v ∷ [])
-alone_push box d v [] all one = (let e : d + 0 ≡ d = omega arith in subst (λ k. IsAlone box k v) e one, tt)
-alone_push box d v (x ∷ t) all one = (let e : d + suc (length t) ≡ (d + 1) + length t = omega arith in (all.0, alone_push box (d + 1) v t all.1 (subst (λ k. IsAlone box k v) e one)))
-
-pub adds_one : (box : List (List Bool)) (mark : ℕ) (marks numbers marks' numbers' marks'' numbers'' : List ℕ) (most n at v : ℕ) → Adds box mark marks numbers marks' numbers' most n → n ≢ most → at ≡ length numbers' → IsAlone box at v → marks'' ≡ marks' ++ mark ∷ [] → numbers'' ≡ numbers' ++ v ∷ [] → Adds box mark marks numbers marks'' numbers'' most (n + 1)
-adds_one box mark marks numbers marks' numbers' marks'' numbers'' most n at v adds more here one marks_are numbers_are = record {
-  added = adds.added ++ v ∷ [];
-  numbers_are = numbers_are ∙ ap (λ z. z ++ v ∷ []) adds.numbers_are ∙ append_assoc numbers adds.added (v ∷ []);
-  marks_are = marks_are ∙ ap (λ z. z ++ mark ∷ []) adds.marks_are ∙ append_assoc marks (map (λ _. mark) adds.added) (mark ∷ []) ∙ ap (λ z. marks ++ z) (sym (map-append (λ _. mark) adds.added (v ∷ [])));
-  count = (let e = length-append adds.added (v ∷ []) in let c = adds.count in omega (arith, e, c));
-  within = (let w = adds.within in omega (arith, w, more));
-  alone = alone_push box (length numbers) v adds.added adds.alone (
-      let e = ap length adds.numbers_are in
-      let f = length-append numbers adds.added in
-      let place : at ≡ length numbers + length adds.added = omega (arith, here, e, f) in
-      subst (λ k. IsAlone box k v) place one
-      );
-}
-
-pub one_longer : (numbers more : List ℕ) (v at : ℕ) → at ≡ length numbers → more ≡ numbers ++ v ∷ [] → at + 1 ≡ length more
-one_longer numbers more v at is more_is = (let e = ap length more_is in let f = length-append numbers (v ∷ []) in omega (arith, e, f, is))
-
 -- what is added behind what was added is added too
 alone_both : (box : List (List Bool)) (d : ℕ) (xs ys : List ℕ) → AreAlone box d xs → AreAlone box (d + length xs) ys → AreAlone box d (xs ++ ys)
 alone_both box d [] ys all more = (let e : d + 0 ≡ d = omega arith in subst (λ k. AreAlone box k ys) e more)
@@ -71,6 +49,20 @@ adds_both box mark marks numbers marks' numbers' marks'' numbers'' most m n a b 
       subst (λ k. AreAlone box k b.added) place b.alone
       );
 }
+
+-- one more
+pub adds_one : (box : List (List Bool)) (mark : ℕ) (marks numbers marks' numbers' marks'' numbers'' : List ℕ) (most n at v : ℕ) → Adds box mark marks numbers marks' numbers' most n → n ≢ most → at ≡ length numbers' → IsAlone box at v → marks'' ≡ marks' ++ mark ∷ [] → numbers'' ≡ numbers' ++ v ∷ [] → Adds box mark marks numbers marks'' numbers'' most (n + 1)
+adds_one box mark marks numbers marks' numbers' marks'' numbers'' most n at v adds more here one marks_are numbers_are = adds_both box mark marks numbers marks' numbers' marks'' numbers'' most n 1 adds (record {
+  added = v ∷ [];
+  numbers_are = numbers_are;
+  marks_are = marks_are;
+  count = refl;
+  within = (let w = adds.within in omega (arith, w, more));
+  alone = (subst (λ k. IsAlone box k v) here one, tt);
+})
+
+pub one_longer : (numbers more : List ℕ) (v at : ℕ) → at ≡ length numbers → more ≡ numbers ++ v ∷ [] → at + 1 ≡ length more
+one_longer numbers more v at is more_is = (let e = ap length more_is in let f = length-append numbers (v ∷ []) in omega (arith, e, f, is))
 
 -- how many marks and numbers there are
 pub adds_lengths : (box : List (List Bool)) (mark : ℕ) (marks numbers marks' numbers' : List ℕ) (most n : ℕ) → Adds box mark marks numbers marks' numbers' most n → (length marks' ≡ length marks + n) × (length numbers' ≡ length numbers + n)

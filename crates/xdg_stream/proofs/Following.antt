@@ -46,45 +46,39 @@ passes_up shape P from p (suc u) v n kept now closed h l r =
     let e : u + 1 ≡ suc u = omega arith in
     subst (λ i. Passes shape P from (p ++ i ∷ []) n kept now) e (passes_refused shape P from p u n kept now closed denied (passes_up shape P from p u v n kept now closed h (omega arith) r))
 
--- one forced number, behind which something is left to decide
-passes_forced : (shape : List ℕ) (P : List ℕ → Type 0) (from p : List ℕ) (v n : ℕ) (kept now : List ℕ) → Closed P → IsForced shape P p v → length (p ++ v ∷ []) ≢ length shape → Passes shape P from (place p 0) n kept now → Passes shape P from (place (p ++ v ∷ []) 0) (n + 1) kept (p ++ v ∷ [])
-passes_forced shape P from p v n kept now closed h short r = passes_taken shape P from (p ++ v ∷ []) n kept now h.fits h.counts short (passes_up shape P from p v v n kept now closed h (omega arith) r)
+-- something is left to decide before the last of them
+more_left : (shape p t : List ℕ) (v : ℕ) → Fits shape (p ++ v ∷ t) → length p ≢ length shape
+more_left shape p t v f e = (let most = fits_length shape (p ++ v ∷ t) f in let long = length-append p (v ∷ t) in omega (arith, most, long, e))
 
-shorter : (shape p t : List ℕ) (v : ℕ) → Fits shape (p ++ v ∷ t) → length (p ++ v ∷ t) ≢ length shape → length (p ++ v ∷ []) ≢ length shape
-shorter shape p t v f s e =
-    let k = fits_length shape (p ++ v ∷ t) f in
-    let a = length-append p (v ∷ []) in
-    let b = length-append p (v ∷ t) in
-    s (omega (arith, k, a, b, e))
+module _ (shape : List ℕ) (P : List ℕ → Type 0) (from : List ℕ) (kept : List ℕ) (closed : Closed P) where
+  -- a counted prefix is charged, and the forced number behind it is next
+  next_forced : (grown t : List ℕ) (v n : ℕ) (now : List ℕ) → Fits shape grown → P grown → AreForced shape P grown (v ∷ t) → Passes shape P from grown n kept now → Passes shape P from (grown ++ v ∷ []) (n + 1) kept grown
+  next_forced grown t v n now f c h r =
+      passes_up shape P from grown v v (n + 1) kept grown closed h.0 (omega arith) (passes_taken shape P from grown n kept now f c (more_left shape grown t v (forced_fits shape P grown (v ∷ t) f h)) r)
 
--- forced numbers, behind which something is left to decide
-pub passes_follow : (shape : List ℕ) (P : List ℕ → Type 0) (from p t : List ℕ) (n : ℕ) (kept : List ℕ) → Closed P → Fits shape p → AreForced shape P p t → length (p ++ t) ≢ length shape → Passes shape P from (place p 0) n kept p → Passes shape P from (place (p ++ t) 0) (n + length t) kept (p ++ t)
-passes_follow shape P from p [] n kept closed f h short r =
-    let e : n ≡ n + 0 = omega arith in
-    subst (λ i. Passes shape P from (place (p ++ []) 0) i kept (p ++ [])) e (subst (λ z. Passes shape P from (place z 0) n kept z) (sym (append-nil p)) r)
-passes_follow shape P from p (v ∷ t) n kept closed f h short r =
-    let whole = forced_fits shape P p (v ∷ t) f h in
-    let one = passes_forced shape P from p v n kept p closed h.0 (shorter shape p t v whole short) r in
-    let rest = passes_follow shape P from (p ++ v ∷ []) t (n + 1) kept closed h.0.fits h.1 (λ e. short (ap length (sym (joined p t v)) ∙ e)) one in
-    let e : (n + 1) + length t ≡ n + length (v ∷ t) = omega arith in
-    subst (λ i. Passes shape P from (place (p ++ v ∷ t) 0) i kept (p ++ v ∷ t)) e (subst (λ z. Passes shape P from (place z 0) ((n + 1) + length t) kept z) (joined p t v) rest)
+  -- forced numbers, behind which something is left to decide
+  pub passes_follow : (grown t : List ℕ) (n : ℕ) (now : List ℕ) → Fits shape grown → P grown → AreForced shape P grown t → length (grown ++ t) ≢ length shape → Passes shape P from grown n kept now
+      → Passes shape P from (place (grown ++ t) 0) ((n + 1) + length t) kept (grown ++ t)
+  passes_follow grown [] n now f c h short r =
+      let e : n + 1 ≡ (n + 1) + 0 = omega arith in
+      subst (λ z. Passes shape P from (place z 0) ((n + 1) + 0) kept z) (sym (append-nil grown))
+      (subst (λ i. Passes shape P from (place grown 0) i kept grown) e (passes_taken shape P from grown n kept now f c (λ w. short (ap length (append-nil grown) ∙ w)) r))
+  passes_follow grown (v ∷ t) n now f c h short r =
+      let rest = passes_follow (grown ++ v ∷ []) t (n + 1) grown h.0.fits h.0.counts h.1 (λ w. short (ap length (sym (joined grown t v)) ∙ w)) (next_forced grown t v n now f c h r) in
+      let e : ((n + 1) + 1) + length t ≡ (n + 1) + length (v ∷ t) = omega arith in
+      subst (λ z. Passes shape P from (place z 0) ((n + 1) + length (v ∷ t)) kept z) (joined grown t v) (subst (λ i. Passes shape P from (place ((grown ++ v ∷ []) ++ t) 0) i kept ((grown ++ v ∷ []) ++ t)) e rest)
 
-not_yet : (shape p t : List ℕ) (v w : ℕ) → length (p ++ v ∷ w ∷ t) ≡ length shape → length (p ++ v ∷ []) ≢ length shape
-not_yet shape p t v w e d =
-    let a = length-append p (v ∷ []) in
-    let b = length-append p (v ∷ w ∷ t) in
-    omega (arith, a, b, e, d)
-
--- forced numbers up to a whole vector
-pub finds_follow : (shape : List ℕ) (P : List ℕ → Type 0) (from p t : List ℕ) (v n : ℕ) (kept now : List ℕ) → Closed P → AreForced shape P p (v ∷ t) → length (p ++ v ∷ t) ≡ length shape → Passes shape P from (place p 0) n kept now → Less from (p ++ v ∷ t) × Finds shape P from (p ++ v ∷ t) (n + length (v ∷ t))
-finds_follow shape P from p [] v n kept now closed h whole r =
-    let up = passes_up shape P from p v v n kept now closed h.0 (omega arith) r in
-    (up.above, finds_taken shape P from (p ++ v ∷ []) n kept now h.0.fits h.0.counts whole up)
-finds_follow shape P from p (w ∷ t) v n kept now closed h whole r =
-    let one = passes_forced shape P from p v n kept now closed h.0 (not_yet shape p t v w whole) r in
-    let rest = finds_follow shape P from (p ++ v ∷ []) t w (n + 1) kept (p ++ v ∷ []) closed h.1 (ap length (joined p (w ∷ t) v) ∙ whole) one in
-    let e : (n + 1) + length (w ∷ t) ≡ n + length (v ∷ w ∷ t) = omega arith in
-    subst (λ i. Less from (p ++ v ∷ w ∷ t) × Finds shape P from (p ++ v ∷ w ∷ t) i) e (subst (λ z. Less from z × Finds shape P from z ((n + 1) + length (w ∷ t))) (joined p (w ∷ t) v) rest)
+  -- forced numbers up to a whole vector
+  pub finds_follow : (grown t : List ℕ) (n : ℕ) (now : List ℕ) → Fits shape grown → P grown → AreForced shape P grown t → length (grown ++ t) ≡ length shape → Passes shape P from grown n kept now
+      → Less from (grown ++ t) × Finds shape P from (grown ++ t) ((n + 1) + length t)
+  finds_follow grown [] n now f c h whole r =
+      let e : n + 1 ≡ (n + 1) + 0 = omega arith in
+      subst (λ z. Less from z × Finds shape P from z ((n + 1) + 0)) (sym (append-nil grown))
+      (r.above, subst (Finds shape P from grown) e (finds_taken shape P from grown n kept now f c (ap length (sym (append-nil grown)) ∙ whole) r))
+  finds_follow grown (v ∷ t) n now f c h whole r =
+      let rest = finds_follow (grown ++ v ∷ []) t (n + 1) grown h.0.fits h.0.counts h.1 (ap length (joined grown t v) ∙ whole) (next_forced grown t v n now f c h r) in
+      let e : ((n + 1) + 1) + length t ≡ (n + 1) + length (v ∷ t) = omega arith in
+      subst (λ z. Less from z × Finds shape P from z ((n + 1) + length (v ∷ t))) (joined grown t v) (rest.0, subst (Finds shape P from ((grown ++ v ∷ []) ++ t)) e rest.1)
 
 -- and each of them leaves fewer steps
 pub ahead_follow : (shape : List ℕ) (P : List ℕ → Type 0) (p t : List ℕ) → AreForced shape P p t → ahead shape (place (p ++ t) 0) ≤ ahead shape (place p 0)

@@ -13,6 +13,7 @@ pub mod OtherValues
 pub mod Restricting
 pub mod Longer
 pub mod Sized
+mod Marked
 pub mod Fronts
 pub mod Forcing
 pub mod Finding

@@ -1,5 +1,5 @@
 -- Decisions by their numbers.
-use Rattle.std.proofs.Common.{◌≡◌, ℕ, ◌<◌, ◌≤◌, ◌+◌, ◌-◌, ◌*◌, zero, suc, List, [], ◌∷◌, length, get_or, take, refl, ap, ap₂, sym, ◌∙◌, arith, subst}
+use Rattle.std.proofs.Common.{◌≡◌, ℕ, ◌<◌, ◌≤◌, ◌+◌, ◌-◌, ◌*◌, List, [], length, get_or, take, ap, ap₂, sym, ◌∙◌, arith, subst}
 use Rattle.std.specs.Prelude.{◌/◌, ◌%◌, slice_index}
 use Rattle.std.proofs.lemmas.List.{get_or-map, get_or_default, take_all}
 use Rattle.std.proofs.lemmas.Nat.{div-add-mod'}
@@ -7,19 +7,20 @@ use Rattle.std.proofs.Math.Nat.{mod-lt, div-lt_iff_lt-mul}
 use Rattle.xdg_problem.specs.declared.analysis.Edge.{Edge}
 use Rattle.xdg_problem.specs.declared.parts.DimPlan.{DimPlan}
 use Rattle.xdg_problem.specs.declared.parts.Parts.{Parts}
-use Rattle.xdg_problem.specs.Analyses.{Before, IsPlace}
+use Rattle.xdg_problem.specs.Analyses.{IsPlace}
 use Rattle.xdg_problem.specs.Arguments.{no_plan, attr_count}
 use Rattle.xdg_problem.specs.Boxes.{entry_decision, attr_decision, edge_decision, place_in}
-use Rattle.xdg_problem.specs.Places.{nodes, numbers_from, places}
+use Rattle.xdg_problem.specs.Places.{nodes, places}
 use Rattle.xdg_problem.specs.Problems.{IsProblem}
 use Rattle.xdg_problem.specs.Vectors.{attr_sizes, shape, first_place}
-use Rattle.xdg_problem.proofs.Edges.{same_edge_itself, before_apart}
-use Rattle.xdg_problem.proofs.Ordered.{Ordered, each_at, numbers_length}
 use Rattle.xdg_problem.proofs.PlaceOrder.{is_place, place_is, places_ordered}
 use Rattle.xdg_problem.proofs.VectorFacts.{length_shape}
+use Rattle.xdg_store.specs.Decisions.{IsDecision, number_of}
+use Rattle.xdg_store.specs.declared.decision.Decision.{Decision}
+use Rattle.xdg_store.specs.declared.decision.Decision.TheVariants as decisions
 use Rattle.xdg_store.specs.InRange.{HasCandidate, HasValue}
 use Rattle.xdg_store.specs.Layout.{bits_of}
-use Rattle.xdg_store.proofs.Located.{Located, attr_located, entry_located}
+use Rattle.xdg_store.proofs.Deciding.{has_bits, place_at, size_of}
 use Rattle.xdg_store.proofs.Sizes.{bits_sizes}
 use Rattle.xdg_rules.proofs.Sizes.{edge_size}
 use Rattle.xdg_facts.proofs.Numbers.{some_after}
@@ -27,25 +28,20 @@ use Rattle.xdg_store.proofs.Room.{attrs_more}
 
 -- ---- how many values
 
-located_size : (parts : Parts) (d start count : ℕ) → Located parts d (numbers_from start count) → slice_index (shape parts) d ≡ count
-located_size parts d start count at =
-    ap (λ z. get_or z d 0) (sym (bits_sizes parts))
-    ∙ get_or-map length (bits_of parts) d [] 0 at.within
-    ∙ ap length at.is
-    ∙ numbers_length start count
+its_size : (parts : Parts) (decision : Decision) → IsProblem parts → IsDecision parts decision → slice_index (shape parts) (number_of parts decision) ≡ size_of parts decision
+its_size parts decision p is =
+    let at = has_bits parts p decision is in
+    ap (λ z. get_or z (number_of parts decision) 0) (sym (bits_sizes parts)) ∙ get_or-map length (bits_of parts) (number_of parts decision) [] 0 at.within ∙ at.count
 
 pub has_candidate : (parts : Parts) (node place : ℕ) → IsProblem parts → node < nodes parts → place < slice_index (shape parts) (entry_decision node) → HasCandidate parts node place
-has_candidate parts node place is l v = record {
-  node_in = l;
-  place_in = subst (λ n. place < n) (located_size parts (entry_decision node) _ _ (entry_located parts is.candidates_each node l)) v;
-}
+has_candidate parts node place is l v = record { node_in = l; place_in = subst (λ n. place < n) (its_size parts (decisions.Entry (record { 0 = node })) is l) v }
 
 pub has_value : (parts : Parts) (node dim attr value : ℕ) → IsProblem parts → (dim < length parts.dims) × (node < nodes parts) × (attr < attr_count parts dim) → value < slice_index (shape parts) (attr_decision parts dim node attr) → HasValue parts node dim attr value
 has_value parts node dim attr value is l v = record {
   node_in = l.1;
   dim_in = l.0;
   attr_in = l.2;
-  value_in = subst (λ n. value < n) (located_size parts (attr_decision parts dim node attr) _ _ (attr_located parts is.candidates_each dim node attr l.0 l.1 l.2)) v;
+  value_in = subst (λ n. value < n) (its_size parts (decisions.Attr (record { 0 = dim }) (record { 0 = node }) (record { 0 = attr })) is l) v;
 }
 
 pub edge_value : (parts : Parts) (e : Edge) (value : ℕ) → IsPlace parts e → value < slice_index (shape parts) (edge_decision parts e) → value < 2
@@ -53,20 +49,12 @@ edge_value parts e value is v = subst (λ n. value < n) (edge_size parts e (plac
 
 -- ---- edge places
 
-at_place : (xs : List Edge) (k : ℕ) (d : Edge) → Ordered Before xs → k < length xs → place_in xs (get_or xs k d) ≡ k
-at_place [] k d ordered l = absurd (omega (arith, l))
-at_place (x ∷ xs) zero d ordered l = rw (same_edge_itself x) refl
-at_place (x ∷ xs) (suc k) d ordered l =
-    let later : k < length xs = omega (arith, l) in
-    let apart = before_apart x (get_or xs k d) (each_at (Before x) xs k d later ordered.0) in
-    rw apart (ap suc (at_place xs k d ordered.1 later))
-
 -- the decision behind the first ones is that of the edge place there
 pub place_number : (parts : Parts) (edges : List Edge) (d : Edge) (at first : ℕ) → edges ≡ places parts → first ≡ first_place parts → first ≤ at → at - first < length edges → edge_decision parts (get_or edges (at - first) d) ≡ at
 place_number parts edges d at first same is l m =
     let k : ℕ = at - first in
     let here : k < length (places parts) = subst (λ z. k < length z) same m in
-    let place : place_in (places parts) (get_or edges k d) ≡ k = ap (λ z. place_in (places parts) (get_or z k d)) same ∙ at_place (places parts) k d (places_ordered parts) here in
+    let place : place_in (places parts) (get_or edges k d) ≡ k = ap (λ z. place_in (places parts) (get_or z k d)) same ∙ place_at (places parts) k d (places_ordered parts) here in
     omega (arith, place, is, l)
 
 -- ---- attributes
@@ -121,5 +109,5 @@ first_is parts edges count first same all is =
 -- the decision on the edge at a place among the edge places
 pub place_decision : (parts : Parts) (edges : List Edge) (e d : Edge) (first k : ℕ) → edges ≡ places parts → first ≡ first_place parts → k < length edges → e ≡ get_or edges k d → edge_decision parts e ≡ first + k
 place_decision parts edges e d first k same is within found =
-    let place : place_in (places parts) e ≡ k = ap (λ x. place_in (places parts) x) (found ∙ ap (λ z. get_or z k d) same) ∙ at_place (places parts) k d (places_ordered parts) (subst (λ z. k < length z) same within) in
+    let place : place_in (places parts) e ≡ k = ap (λ x. place_in (places parts) x) (found ∙ ap (λ z. get_or z k d) same) ∙ place_at (places parts) k d (places_ordered parts) (subst (λ z. k < length z) same within) in
     omega (arith, place, is)

@@ -1,19 +1,18 @@
 -- A row that is read says of the edges in it which values remain.
-use Rattle.std.proofs.Common.{◌≡◌, ◌≢◌, ℕ, ◌<◌, ◌↔◌, inl, inr, zero, suc, true, Bool, List, length, get_or, refl, ap, sym, ◌∙◌, arith, subst, Contains}
+use Rattle.std.proofs.Common.{◌≡◌, ◌≢◌, ℕ, ◌<◌, ◌-◌, ◌↔◌, inl, inr, Bool, List, ap, sym, ◌∙◌, arith, subst, Contains}
 use Rattle.std.specs.Prelude.{IsTrue}
+use Rattle.std.proofs.lemmas.Bool.{cases_eq}
 use Rattle.xdg_problem.specs.declared.analysis.Edge.{Edge}
-use Rattle.xdg_problem.specs.declared.parts.DimPlan.{DimPlan}
 use Rattle.xdg_problem.specs.declared.parts.Parts.{Parts}
 use Rattle.xdg_problem.specs.Analyses.{IsPlace}
-use Rattle.xdg_problem.specs.Arguments.{no_plan}
 use Rattle.xdg_problem.specs.Boxes.{Has, IsBox, May, Must, edge_decision}
 use Rattle.xdg_problem.specs.Places.{edge, nodes, places}
 use Rattle.xdg_problem.specs.Problems.{IsProblem}
 use Rattle.xdg_problem.specs.Vectors.{shape}
 use Rattle.xdg_problem.proofs.PlaceOrder.{place_is}
-use Rattle.xdg_problem.proofs.PlacePlans.{dim_within, plan_read}
 use Rattle.xdg_rules.proofs.Sizes.{edge_some, edge_values}
 use Rattle.xdg_store.specs.InRange.{HasEdges}
+use Rattle.xdg_store.proofs.Kept.{place_has}
 use Rattle.xdg_stream.specs.Rows.{IsOf, Reads, Says}
 use Rattle.xdg_stream.specs.Runs.{IsAlone}
 use Rattle.xdg_stream.specs.declared.row.Row.{Row}
@@ -23,14 +22,7 @@ use Rattle.xdg_facts.specs.Rises.{has}
 
 -- the label of an edge place is one of its dimension
 pub place_edges : (parts : Parts) (e : Edge) → IsPlace parts e → HasEdges parts e.dim.0 e.mother.0 e.label.0
-place_edges parts e is =
-    let same : get_or parts.dims e.dim.0 no_plan ≡ is.plan = plan_read parts e is no_plan in
-    record {
-      dim_in = dim_within parts e is;
-      graph = subst (λ (plan : DimPlan). plan.graph ≡ true) (sym same) is.graph;
-      node_in = is.mother;
-      label_in = subst (λ (plan : DimPlan). e.label.0 < length plan.labels) (sym same) is.label;
-    }
+place_edges parts e is = (let has = place_has parts e is in record { dim_in = has.dim_in; graph = has.graph; node_in = is.mother; label_in = has.label_in })
 
 -- an edge in a row is that to its daughter
 the_edge : (row : Row) (e : Edge) → IsOf row e → edge row.dim.0 row.mother.0 row.label.0 e.daughter.0 ≡ e
@@ -62,38 +54,26 @@ none_read parts box row problem out e is of = absurd (
 
 -- ---- what it says
 
-module _ (parts : Parts) (box : List (List Bool)) (is : IsBox (shape parts) box) (e : Edge) (place : Contains (places parts) e) where
-  must_alone : Must parts box e → IsAlone box (edge_decision parts e) 0
-  must_alone must = record {
-    has = elim (edge_some parts box is e place) [
-      | inl present ↦ present
-      | inr absent ↦ absurd (must absent)
-    ];
-    only = λ x remains. by x (edge_values parts box is e place x remains) remains;
-  } where
-    by : (x : ℕ) → x < 2 → Has box (edge_decision parts e) x → x ≡ 0
-    by zero small remains = refl
-    by (suc zero) small remains = absurd (must remains)
-    by (suc (suc x)) small remains = absurd (omega arith)
+-- a value of an edge place remains alone where the other one doesn't remain
+other_alone : (parts : Parts) (box : List (List Bool)) (e : Edge) (v : ℕ) → IsBox (shape parts) box → Contains (places parts) e → v < 2 → (Has box (edge_decision parts e) (1 - v) → ⊥) → IsAlone box (edge_decision parts e) v
+other_alone parts box e v is place small none = record {
+  has = elim (edge_some parts box is e place) [ inl present ↦ one 0 (omega arith) present | inr absent ↦ one 1 (omega arith) absent ];
+  only = λ x remains. same x (edge_values parts box is e place x remains) remains;
+} where
+  same : (x : ℕ) → x < 2 → Has box (edge_decision parts e) x → x ≡ v
+  same x l remains = elim (cases_eq x v) [
+    | inl q ↦ q
+    | inr n ↦ absurd (let other : x ≡ 1 - v = omega (arith, l, n, small) in none (subst (Has box (edge_decision parts e)) other remains))
+  ]
 
-  never_alone : (May parts box e → ⊥) → IsAlone box (edge_decision parts e) 1
-  never_alone never = record {
-    has = elim (edge_some parts box is e place) [
-      | inl present ↦ absurd (never present)
-      | inr absent ↦ absent
-    ];
-    only = λ x remains. by x (edge_values parts box is e place x remains) remains;
-  } where
-    by : (x : ℕ) → x < 2 → Has box (edge_decision parts e) x → x ≡ 1
-    by zero small remains = absurd (never remains)
-    by (suc zero) small remains = refl
-    by (suc (suc x)) small remains = absurd (omega arith)
+  one : (x : ℕ) → x < 2 → Has box (edge_decision parts e) x → Has box (edge_decision parts e) v
+  one x l remains = subst (Has box (edge_decision parts e)) (same x l remains) remains
 
 pub says_alone : (parts : Parts) (box : List (List Bool)) (row : Row) (e : Edge) (v : ℕ) → IsBox (shape parts) box → IsPlace parts e → Reads parts box row → IsOf row e → Says row e.daughter.0 v → IsAlone box (edge_decision parts e) v
 says_alone parts box row e v is place reads of says =
     let tells = reads e place of in
     let here = place_is parts e place in
     elim says [
-      | inl (present, must) ↦ subst (IsAlone box (edge_decision parts e)) (sym present) (must_alone parts box is e here (tells.1.0 must))
-      | inr (absent, out) ↦ subst (IsAlone box (edge_decision parts e)) (sym absent) (never_alone parts box is e here (λ may. out (tells.0.1 may)))
+      | inl (present, must) ↦ subst (IsAlone box (edge_decision parts e)) (sym present) (other_alone parts box e 0 is here (omega arith) (tells.1.0 must))
+      | inr (absent, out) ↦ subst (IsAlone box (edge_decision parts e)) (sym absent) (other_alone parts box e 1 is here (omega arith) (λ may. out (tells.0.1 may)))
     ]

@@ -27,20 +27,6 @@ pub record Restricting (old now : State) (made : Change) (d v i : ℕ) : Type 0 
   pub stays : Has old.now d v → Has now.now d v
   pub others : LosesOf old.now now.now d
 
-abbrev not_emptied : Change → Type 0
-not_emptied changes.Emptied = ⊥
-not_emptied _ = Unit {0}
-
-abbrev not_same : Change → Type 0
-not_same changes.Same = ⊥
-not_same _ = Unit {0}
-
-changed_proper : changes.Changed ≢ changes.Emptied
-changed_proper e = subst not_emptied e tt
-
-changed_same : changes.Changed ≡ changes.Same → ⊥
-changed_same e = subst not_same e tt
-
 next_gone : (P : ℕ → Type 0) (v i x : ℕ) → ((y : ℕ) → y < i * 64 → y ≢ v → P y → ⊥) → (IsOther i v x → P x → ⊥) → x < (i + 1) * 64 → x ≢ v → P x → ⊥
 next_gone P v i x before here l n p = elim (cases_lt x (i * 64)) [
   | inl less ↦ before x less n p
@@ -65,8 +51,8 @@ pub restrict_changed : (old now new : State) (made : Change) (d v i : ℕ) → K
 restrict_changed old now new made d v i known m r = record {
   known = known;
   extends = extends_both old now new r.extends (removal_extends changes.Changed now new d (IsOther i v) m);
-  proper = changed_proper;
-  same = λ e. absurd (changed_same e);
+  proper = λ e. cc;
+  same = λ e. cc;
   gone = λ x l n. next_gone (Has new.now d) v i x (λ y k o h. r.gone y k o (m.1.inside d y h)) (m.1.gone x) l n;
   kept = λ small lies only. lies_shrunk now new d (IsOther i v) m.1 small (r.kept small lies only) (λ x other h. other.2 (only x h));
   stays = λ h. m.1.left v (λ other. other.2 refl) (r.stays h);

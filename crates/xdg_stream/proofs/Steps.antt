@@ -1,7 +1,7 @@
 -- The steps of the search, in the words of what a front ensures: shape and P are the problem as the call began, later and Q
 -- the same problem as the front has it now.
-use Rattle.std.proofs.Common.{◌≡◌, ◌≢◌, ℕ, ◌<◌, ◌≤◌, ◌+◌, ◌⊎◌, inl, inr, List, [], ◌∷◌, ◌++◌, length, take, drop, get_or, refl, ap, sym, ◌∙◌, arith, subst, length-append, append_assoc}
-use Rattle.std.proofs.lemmas.List.{append-nil, take_all, take-take, take-append-drop}
+use Rattle.std.proofs.Common.{◌≡◌, ◌≢◌, ℕ, ◌<◌, ◌≤◌, ◌+◌, ◌-◌, ◌⊎◌, ◌↔◌, inl, inr, List, [], ◌∷◌, ◌++◌, length, take, drop, get_or, refl, ap, ap₂, sym, ◌∙◌, arith, subst, length-append, append_assoc}
+use Rattle.std.proofs.lemmas.List.{take_all, take-take, take-append-drop}
 use Rattle.std.proofs.Math.Seq.{take-append_seam}
 use Rattle.xdg_facts.specs.Order.{Less}
 use Rattle.xdg_facts.specs.Fits.{Fits}
@@ -16,7 +16,7 @@ use Rattle.xdg_stream.proofs.Measure.{ahead, ahead_refused, ahead_taken, ahead_b
 use Rattle.xdg_stream.proofs.Following.{forced_same, forced_fits, forced_counts, passes_follow, finds_follow, ahead_follow, joined}
 use Rattle.xdg_stream.proofs.Backing.{last_same, passes_back, none_back}
 use Rattle.xdg_stream.proofs.Same.{same_then}
-use Rattle.xdg_stream.proofs.Passing.{Passes, passes_refused, passes_taken, finds_taken, spent_at, ended_at}
+use Rattle.xdg_stream.proofs.Passing.{Passes, passes_refused, spent_at, ended_at}
 
 pub stands_room : (shape : List ℕ) (P : List ℕ → Type 0) (later : List ℕ) (Q : List ℕ → Type 0) (numbers : List ℕ) → SameProblem shape P later Q → Stands shape P numbers → length numbers ≤ length later
 stands_room shape P later Q numbers s t = let h = fits_length shape numbers t.fits in let k = ap length s.sizes in omega (arith, h, k)
@@ -63,24 +63,6 @@ grew {shape} {P} {later} {Q} {latest} {R} {numbers} {grown} {v} s stands (e, bel
   is = is ∙ ap (place numbers) e;
 }
 
-shorter : (shape p t : List ℕ) → Fits shape (p ++ t) → length (p ++ t) ≢ length shape → length p ≢ length shape
-shorter shape p t f n e =
-    let k = fits_length shape (p ++ t) f in
-    let a = length-append p t in
-    n (omega (arith, k, a, e))
-
-not_whole : (shape p t : List ℕ) (v : ℕ) → length (p ++ v ∷ t) ≡ length shape → length p ≢ length shape
-not_whole shape p t v e d = let a = length-append p (v ∷ t) in omega (arith, a, e, d)
-
-finds_behind : (shape : List ℕ) (P : List ℕ → Type 0) (from grown t : List ℕ) (n : ℕ) (kept now : List ℕ) → Closed P → Fits shape grown → P grown → AreForced shape P grown t → length (grown ++ t) ≡ length shape
-    → Passes shape P from grown n kept now → Less from (grown ++ t) × Finds shape P from (grown ++ t) ((n + 1) + length t)
-finds_behind shape P from grown [] n kept now closed fits counted f whole p =
-    let e = append-nil grown in
-    let k : n + 1 ≡ (n + 1) + 0 = omega arith in
-    subst (λ z. Less from z × Finds shape P from z ((n + 1) + 0)) (sym e) (p.above, subst (Finds shape P from grown) k (finds_taken shape P from grown n kept now fits counted (ap length (sym e) ∙ whole) p))
-finds_behind shape P from grown (v ∷ t) n kept now closed fits counted f whole p =
-    finds_follow shape P from grown t v (n + 1) kept grown closed f whole (passes_taken shape P from grown n kept now fits counted (not_whole shape grown t v whole) p)
-
 module _ {shape : List ℕ} {P : List ℕ → Type 0} {later : List ℕ} {Q : List ℕ → Type 0} {numbers grown : List ℕ} {value : ℕ} (g : Grew shape P later Q numbers grown value) {ran : List ℕ} {most count : ℕ}
     (f : Follows later Q grown ran most count) where
   forced : AreForced shape P grown f.added
@@ -89,7 +71,7 @@ module _ {shape : List ℕ} {P : List ℕ → Type 0} {later : List ℕ} {Q : Li
   pub ran_counts : P ran
   ran_counts = subst P (sym f.joined) (forced_counts shape P grown f.added g.counts forced)
 
-  pub ran_joined : ran ≡ numbers ++ value ∷ f.added
+  ran_joined : ran ≡ numbers ++ value ∷ f.added
   ran_joined = f.joined ∙ ap (λ z. z ++ f.added) g.is ∙ joined numbers f.added value
 
   pub ran_stands : Stands shape P ran
@@ -105,14 +87,23 @@ module _ {shape : List ℕ} {P : List ℕ → Type 0} {later : List ℕ} {Q : Li
     pub ran_passes : {reached : List ℕ} → length ran ≢ length shape → reached ≡ ran → Passes shape P from (place ran 0) m kept reached
     ran_passes n_whole is =
         let undone : length (grown ++ f.added) ≢ length shape = λ w. n_whole (ap length f.joined ∙ w) in
-        let one = passes_taken shape P from grown n kept now g.stands.fits g.counts (shorter shape grown f.added (forced_fits shape P grown f.added g.stands.fits forced) undone) here in
-        let all = passes_follow shape P from grown f.added (n + 1) kept closed g.stands.fits forced undone one in
+        let all = passes_follow shape P from kept closed grown f.added n now g.stands.fits g.counts forced undone here in
         subst (λ z. Passes shape P from (place ran 0) m kept z) (sym is)
         (subst (λ i. Passes shape P from (place ran 0) i kept ran) all_are (subst (λ z. Passes shape P from (place z 0) ((n + 1) + length f.added) kept z) (sym f.joined) all))
 
     pub ran_finds : length ran ≡ length shape → Less from ran × Finds shape P from ran m
     ran_finds whole = subst (λ z. Less from z × Finds shape P from z m) (sym f.joined)
-        (subst (λ i. Less from (grown ++ f.added) × Finds shape P from (grown ++ f.added) i) all_are (finds_behind shape P from grown f.added n kept now closed g.stands.fits g.counts forced (ap length (sym f.joined) ∙ whole) here))
+        (subst (λ i. Less from (grown ++ f.added) × Finds shape P from (grown ++ f.added) i) all_are (finds_follow shape P from kept closed grown f.added n now g.stands.fits g.counts forced (ap length (sym f.joined) ∙ whole) here))
+
+  -- what is kept is the prefix
+  pub ran_kept : {reached prefix now : List ℕ} (kept : List ℕ) → take (length numbers) kept ≡ numbers → prefix ≡ grown → now ≡ ran → reached ≡ take (length prefix - 1) kept ++ drop (length prefix - 1) now → reached ≡ ran
+  ran_kept {reached} {prefix} {now} kept begins prefix_is now_is is =
+      let long = length-append numbers (value ∷ []) in
+      let grew = ap length (prefix_is ∙ g.is) in
+      let first : length prefix - 1 ≡ length numbers = omega (arith, long, grew) in
+      let front : take (length prefix - 1) kept ≡ take (length prefix - 1) ran =
+      ap (λ i. take i kept) first ∙ begins ∙ sym (ap (take (length prefix - 1)) ran_joined ∙ ap (λ i. take i (numbers ++ value ∷ f.added)) first ∙ take-append_seam numbers (value ∷ f.added)) in
+      is ∙ ap₂ (λ a b. a ++ drop (length prefix - 1) b) front now_is ∙ take-append-drop (length prefix - 1) ran
 
   pub ran_smaller : ahead shape (place ran 0) < ahead shape (place numbers value)
   ran_smaller =
@@ -120,6 +111,14 @@ module _ {shape : List ℕ} {P : List ℕ → Type 0} {later : List ℕ} {Q : Li
       let b = ahead_taken shape numbers value g.range in
       let d : ahead shape (place grown 0) < ahead shape (place numbers value) = subst (λ z. ahead shape (place z 0) < ahead shape (place numbers value)) (sym g.is) b in
       subst (λ z. ahead shape (place z 0) < ahead shape (place numbers value)) (sym f.joined) (omega (arith, a, d))
+
+-- the prefix is whole where it has as many numbers as there are decisions
+pub whole_test : {shape : List ℕ} {P : List ℕ → Type 0} {later : List ℕ} {Q : List ℕ → Type 0} {last : List ℕ} {R : List ℕ → Type 0} {ran prefix : List ℕ} {decisions : ℕ}
+    → SameProblem shape P later Q → SameProblem later Q last R → prefix ≡ ran → decisions ≡ length last → (length prefix ≡ decisions) ↔ (length ran ≡ length shape)
+whole_test s next p d =
+    let same = ap length next.sizes ∙ ap length s.sizes in
+    let long = ap length p in
+    (λ w. omega (arith, same, long, d, w), λ w. omega (arith, same, long, d, w))
 
 -- a candidate that was refused
 pub refused_passes : (shape : List ℕ) (P : List ℕ → Type 0) (later : List ℕ) (Q : List ℕ → Type 0) (from numbers same : List ℕ) (value v n : ℕ) (kept now : List ℕ) → Closed P → SameProblem shape P later Q → v ≡ value → (Q (numbers ++ v ∷ []) → ⊥) → same ≡ numbers → Passes shape P from (place numbers value) n kept now → Passes shape P from (place same (value + 1)) n kept now
@@ -168,12 +167,6 @@ begins_back numbers r t kept h e =
     let m = length-append r t in
     sym (take-take (length r) (length numbers) kept (omega (arith, n, m))) ∙ ap (take (length r)) (h ∙ e) ∙ take-append_seam r t
 
--- what is kept of more numbers
-pub kept_ran : (numbers ran t kept now : List ℕ) (first : ℕ) → take (length numbers) kept ≡ numbers → ran ≡ numbers ++ t → first ≡ length numbers → now ≡ take first kept ++ drop first ran → now ≡ ran
-kept_ran numbers ran t kept now first h e k is =
-    let a : take first kept ≡ take first ran = ap (λ i. take i kept) k ∙ h ∙ sym (ap (λ z. take first z) e ∙ ap (λ i. take i (numbers ++ t)) k ∙ take-append_seam numbers t) in
-    is ∙ ap (λ z. z ++ drop first ran) a ∙ take-append-drop first ran
-
--- which is its own front
+-- more numbers are their own front
 pub begins_taken : (grown now : List ℕ) → now ≡ grown → take (length grown) now ≡ grown
 begins_taken grown now e = ap (take (length grown)) e ∙ take_all (length grown) grown (omega arith)

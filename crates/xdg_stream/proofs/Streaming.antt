@@ -14,9 +14,10 @@ use Rattle.xdg_facts.proofs.Ordered.{less_irreflexive, less_transitive, at_most_
 use Rattle.xdg_facts.proofs.Wholes.{filter_member}
 use Rattle.xdg_problem.specs.declared.analysis.Analysis.{Analysis}
 use Rattle.xdg_problem.specs.declared.parts.Parts.{Parts}
+use Rattle.xdg_problem.specs.Analyses.{IsAnalysis}
 use Rattle.xdg_problem.specs.Problems.{IsProblem}
 use Rattle.xdg_problem.specs.Solutions.{IsSolution}
-use Rattle.xdg_problem.specs.Vectors.{shape, vector}
+use Rattle.xdg_problem.specs.Vectors.{analysis_of, shape, vector}
 use Rattle.xdg_problem.proofs.VectorFacts.{vector_analysis, vector_fits, length_vector}
 use Rattle.xdg_rules.specs.Boxed.{Boxed}
 use Rattle.xdg_rules.proofs.RuleLaws.{boxed_laws}
@@ -29,23 +30,14 @@ use Rattle.xdg_stream.specs.Streamed.{Streamed, seen, IsStart, start_vector, Lea
 
 -- ---- steps that differ
 
-abbrev is_found : Step → Type 0
-is_found steps.Found = Unit {0}
-is_found steps.End = ⊥
-is_found steps.Spent = ⊥
-
 pub end_found : steps.End ≢ steps.Found
-end_found e = subst is_found (sym e) tt
+end_found e = cc
 
 pub spent_found : steps.Spent ≢ steps.Found
-spent_found e = subst is_found (sym e) tt
-
-abbrev is_some_step : Option Step → Type 0
-is_some_step None = ⊥
-is_some_step (Some step) = Unit {0}
+spent_found e = cc
 
 pub some_none : (step : Step) → Some step ≡ None → ⊥
-some_none step e = subst is_some_step e tt
+some_none step e = cc
 
 pub cases_done : (done : Option Step) → (done ≡ None) ⊎ ((step : Step) × (done ≡ Some step))
 cases_done None = inl refl
@@ -146,18 +138,22 @@ module _ {s : Streamed} {numbers : List ℕ} {value room : ℕ} (is : IsStream s
         let fits = solution_fits s.parts is.problem a solves in
         subst (λ d. Leaves d s.parts s.front s.charged s.budget) (ended ∙ ap Some (sym same ∙ e)) is.so_far.leaves (vector s.parts a) fits.0 fits.1.0 (is.so_far.between a solves l)
         );
-    repeats = λ more e. (same ∙ some_one other more (sym ended ∙ e), refl);
+    repeats = λ more e. (same ∙ (let one : Some other ≡ Some more = sym ended ∙ e in cc), refl);
   })
-    where
-      some_of : Option Step → Step
-      some_of None = other
-      some_of (Some x) = x
-
-      some_one : (x y : Step) → Some x ≡ Some y → x ≡ y
-      some_one x y e = ap some_of e
 
   module _ (t : Streamed) {numbers' : List ℕ} (value' : ℕ) {room' : ℕ} (same : t.parts ≡ s.parts) (begun : t.start ≡ s.start) (spends : t.budget ≡ s.budget)
       (lawful : IsLawful (shape t.parts) (Boxed t.parts) numbers' t.front room' t.ended t.charged t.budget) (rises : s.charged ≤ t.charged) where
+    -- it is kept, by what it has come to
+    stream_of : (front last : List ℕ) → t ≡ seen s.parts s.start s.budget t.charged front last t.ended → (answers : List (List ℕ)) → IsCharged (seen s.parts s.start s.budget t.charged front last t.ended) answers
+        → (t.ended ≡ None → Next (shape s.parts) (Boxed s.parts) front (place numbers' value')) → IsStream t numbers' value' room'
+    stream_of front last path answers so_far next = subst (λ z. IsStream z numbers' value' room') (sym path) (record {
+      problem = is.problem;
+      lawful = subst (λ z. IsLawful (shape z.parts) (Boxed z.parts) numbers' z.front room' z.ended z.charged z.budget) path lawful;
+      answers = answers;
+      so_far = so_far;
+      next = next;
+    })
+
     -- something was found
     module _ (open_still : s.ended ≡ None) (front_is : t.front ≡ numbers') (last_is : t.last ≡ numbers') (goes_on : t.ended ≡ None) (finds : (from : List ℕ) → Next (shape s.parts) (Boxed s.parts) from (place numbers value) → Less from numbers' × Finds (shape s.parts) (Boxed s.parts) from numbers' (t.charged - s.charged)) where
       later : Streamed
@@ -180,14 +176,8 @@ module _ {s : Streamed} {numbers : List ℕ} {value room : ℕ} (is : IsStream s
           }
 
       pub stream_found : Next (shape s.parts) (Boxed s.parts) numbers' (place numbers' value') → IsStream t numbers' value' room'
-      unfolding later so_far_found
-      stream_found next = subst (λ z. IsStream z numbers' value' room') (sym path) (record {
-        problem = is.problem;
-        lawful = subst (λ z. IsLawful (shape z.parts) (Boxed z.parts) numbers' z.front room' z.ended z.charged z.budget) path lawful;
-        answers = is.answers ++ numbers' ∷ [];
-        so_far = so_far_found;
-        next = λ e. next;
-      })
+      unfolding later
+      stream_found next = stream_of numbers' numbers' path (is.answers ++ numbers' ∷ []) so_far_found (λ e. next)
 
       next_found : Fits (shape s.parts) numbers' → Whole (shape s.parts) (Boxed s.parts) numbers' → IsNext s.parts s.last numbers'
       next_found fits whole =
@@ -253,13 +243,7 @@ module _ {s : Streamed} {numbers : List ℕ} {value room : ℕ} (is : IsStream s
 
       pub stream_stopped : IsStream t numbers' value' room'
       unfolding ended
-      stream_stopped = subst (λ z. IsStream z numbers' value' room') (sym route) (record {
-        problem = is.problem;
-        lawful = subst (λ z. IsLawful (shape z.parts) (Boxed z.parts) numbers' z.front room' z.ended z.charged z.budget) route lawful;
-        answers = is.answers;
-        so_far = so_far_stopped;
-        next = λ e. absurd (some_none step (sym stopped ∙ e));
-      })
+      stream_stopped = stream_of t.front s.last route is.answers so_far_stopped (λ e. absurd (some_none step (sym stopped ∙ e)))
 
       pub stopped_advances : Advances s step t
       unfolding ended
@@ -286,3 +270,7 @@ module _ {s : Streamed} {numbers : List ℕ} {value room : ℕ} (is : IsStream s
       | inl none ↦ (stream_stopped none step different last_is stopped Rest (halts none) (leaves none), stopped_advances none step different last_is stopped Rest (halts none) (leaves none))
       | inr some ↦ (let r = repeats some.0 some.1 in (r.2, again step some.0 t different some.1 r.0 r.1))
     ]
+
+-- what was found stands for an analysis of the sentence
+pub found_fits : {s t : Streamed} {parts : Parts} → s.parts ≡ parts → Advances s steps.Found t → IsAnalysis parts (analysis_of parts t.last)
+found_fits {t = t} same step = subst (λ p. IsAnalysis p (analysis_of p t.last)) same (step.found refl).3.solution.fits

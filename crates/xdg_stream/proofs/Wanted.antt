@@ -1,9 +1,10 @@
 -- How many answers are wanted, and the list of them.
-use Rattle.std.proofs.Common.{◌≡◌, ◌≢◌, ℕ, ◌+◌, List, [], ◌∷◌, ◌++◌, length, refl, ap, arith, false, Some, None, eqb}
+use Rattle.std.proofs.Common.{◌≡◌, ◌≢◌, ℕ, ◌+◌, List, [], ◌∷◌, ◌++◌, length, arith, false, Some, None, eqb}
 use Rattle.std.specs.Prelude.{Option, Vec}
 use Rattle.std.specs.Global.{Global}
 use Rattle.std.specs.Option.{option_eq}
 use Rattle.std.proofs.lemmas.Bool.{eqb-false}
+use Rattle.std.proofs.lemmas.List.{length-map, map-append}
 use Rattle.xdg_facts.specs.Endings.{IsBelow, IsUpTo}
 use Rattle.xdg_stream.specs.Vectors.{vectors}
 
@@ -16,9 +17,7 @@ wanted_more m k None b e = tt
 wanted_more m k (Some n) b e = omega arith
 
 pub vectors_length : (vs : List (Vec ℕ Global)) → length (vectors vs) ≡ length vs
-vectors_length [] = refl
-vectors_length (v ∷ vs) = let h = vectors_length vs in omega (arith, h)
+vectors_length vs = length-map vs (λ v. v.items)
 
 pub vectors_push : (vs : List (Vec ℕ Global)) (v : Vec ℕ Global) → vectors (vs ++ v ∷ []) ≡ vectors vs ++ v.items ∷ []
-vectors_push [] v = refl
-vectors_push (x ∷ vs) v = ap (λ z. x.items ∷ z) (vectors_push vs v)
+vectors_push vs v = map-append (λ v. v.items) vs (v ∷ [])

@@ -26,8 +26,8 @@ places_none : (candidates : List (List EntryNo)) → entry_places candidates [] 
 places_none [] = refl
 places_none (c ∷ candidates) = refl
 
-pub places_zip : Zips (List EntryNo) EntryNo ℕ place_among entry_places
-places_zip = record { none = places_none; past = λ ys. refl; both = λ c candidates e ys. refl }
+pub places_zip : Zips (List EntryNo) EntryNo ℕ (λ c e. place_among c e ∷ []) entry_places
+places_zip = record { few = λ c e. omega arith; none = places_none; past = λ ys. refl; both = λ c candidates e ys. refl }
 
 -- ---- the numbers of edge places
 

@@ -21,27 +21,17 @@ absent_from-absent-requires-clause-ordered c = subst (AllPairs Before) (sym c.re
 pub absent_from-absent-requires-clause-of : goal.absent_from-absent-requires-clause-of
 absent_from-absent-requires-clause-of c d = subst (IsOf c.read_row.new.row) (get_or_default c.args.edge_places.now c.places.place (edge 0 0 0 0) d (omega arith)) c.read_row.ensures.of
 
-pub add_absent-requires-clause-for_numbers : goal.add_absent-requires-clause-for_numbers
-add_absent-requires-clause-for_numbers c =
+pub add_absent-requires : goal.add_absent-requires
+add_absent-requires c =
     let here = c.places.invariant.here in
     let within = c.absent_from-absent.ensures.within in
     let all = c.first_edge-first.ensures.all in
-    let room = c.requires.for_numbers in
-    let more = c.places.invariant.rooms.0 in
-    omega (arith, here, within, all, room, more)
-
-pub add_absent-requires-clause-for_marks : goal.add_absent-requires-clause-for_marks
-add_absent-requires-clause-for_marks c =
-    let here = c.places.invariant.here in
-    let within = c.absent_from-absent.ensures.within in
-    let all = c.first_edge-first.ensures.all in
-    let room = c.requires.for_marks in
-    let more = c.places.invariant.rooms.1 in
+    let numbers = c.requires.for_numbers in
+    let marks = c.requires.for_marks in
+    let more = c.places.invariant.rooms in
     let count = c.requires.count in
     let long = adds_lengths c.args.store.now.now c.args.mark c.args.marks.now.items c.args.numbers.now.items c.places.marks.items c.places.numbers.items c.args.most c.places.added c.places.invariant.adds in
-    let a = long.0 in
-    let b = long.1 in
-    omega (arith, here, within, all, room, more, count, a, b)
+    record { for_numbers = omega (arith, here, within, all, numbers, more.0); for_marks = omega (arith, here, within, all, marks, more.1, count, long.0, long.1) }
 
 pub places-preserved-then-absent-gt0 : goal.places-preserved-then-absent-gt0
 places-preserved-then-absent-gt0 c =

@@ -47,6 +47,3 @@ pub returns-in-Same-clause-still : goal.returns-in-Same-clause-still
 returns-in-Same-clause-still g c t =
     let calm = AllStill g.P.Propagator.still c.args.props.now in
     subst (calm c.restrict.new.store.parts) (sym c.in-Same.ensures.restricts.0) (subst (λ q. calm q c.args.store.now.now) (sym c.in-Same.ensures.extends.same) c.requires.still)
-
-pub returns-in-Settled-clause-still : goal.returns-in-Settled-clause-still
-returns-in-Settled-clause-still g c t = c.in-Settled.ensures.still

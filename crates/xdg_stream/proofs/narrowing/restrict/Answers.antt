@@ -32,9 +32,6 @@ loop-block-preserved c =
       | in-Changed w ↦ subst (λ z. Restricting old new z d v (i + 1)) (sym w.change-is) (restrict_changed old now new c.loop-block.change d v i c.remove_others.ensures.known (subst (λ q. RemovesAll changes.Changed now new (number_of q c.args.decision) (IsOther i v)) same w.in-Changed.ensures.removes) c.loop-block.invariant)
     ]
 
-pub returns-clause-only : goal.returns-clause-only
-returns-clause-only c = c.loop-block.invariant.others
-
 pub returns-in-Emptied : goal.returns-in-Emptied
 returns-in-Emptied c =
     let m = subst (λ q. RemovesAll changes.Emptied c.loop-block.store c.remove_others.new.store (number_of q c.args.decision) (IsOther c.loop-block.block c.args.value)) c.loop-block.invariant.extends.same c.in-Emptied.ensures.removes in

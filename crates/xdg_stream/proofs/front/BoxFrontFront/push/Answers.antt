@@ -32,25 +32,20 @@ returns-then-depth-eq0-clause-refused g c r =
 pub undo-requires : goal.undo-requires
 undo-requires g c = top_there c.self.inside.store c.self.inside.store c.self.invariant.3 c.if-depth-eq0.false c.as_slice.ensures.value c.index-as_slice-depth.is (let len = c.len-depth.ensures in omega (arith, len))
 
-pub lengthen-requires-clause-stand : goal.lengthen-requires-clause-stand
-lengthen-requires-clause-stand g c =
-    subst (AllStandIn g.P.Propagator.stands c.self.inside.props.now) (sym c.undo.ensures.parts) c.self.invariant.1
-
-pub lengthen-requires-clause-still : goal.lengthen-requires-clause-still
-lengthen-requires-clause-still g c = calm_top (AllStill g.P.Propagator.still c.self.inside.props.now) (top g (goal.at.lengthen-requires-clause-still g c).After-undo) c.self.invariant.4
-
-pub lengthen-requires-clause-decisions : goal.lengthen-requires-clause-decisions
-lengthen-requires-clause-decisions g c = c.self.invariant.5 ∙ ap (λ (p : Parts). length (shape p)) (sym c.undo.ensures.parts)
-
-pub lengthen-requires-clause-listed : goal.lengthen-requires-clause-listed
-lengthen-requires-clause-listed g c =
-    c.as_slice-2.ensures ∙ c.self.invariant.3.listed ∙ ap places (sym c.undo.ensures.parts)
-
-pub lengthen-requires-clause-within : goal.lengthen-requires-clause-within
-lengthen-requires-clause-within g c = (next_fits (top g (goal.at.lengthen-requires-clause-within g c).After-undo) c.args.self.now c.args.value c.self.view_is c.requires.fits).0
-
-pub lengthen-requires-clause-value : goal.lengthen-requires-clause-value
-lengthen-requires-clause-value g c = (next_fits (top g (goal.at.lengthen-requires-clause-value g c).After-undo) c.args.self.now c.args.value c.self.view_is c.requires.fits).1
+pub lengthen-requires : goal.lengthen-requires
+lengthen-requires g c =
+    let top = top g (goal.at.lengthen-requires g c).After-undo in
+    let next = next_fits top c.args.self.now c.args.value c.self.view_is c.requires.fits in
+    record {
+      stand = subst (AllStandIn g.P.Propagator.stands c.self.inside.props.now) (sym top.same) c.self.invariant.1;
+      agenda = search rules;
+      decisions = c.self.invariant.5 ∙ ap (λ (p : Parts). length (shape p)) (sym top.same);
+      listed = c.as_slice-2.ensures ∙ c.self.invariant.3.listed ∙ ap places (sym top.same);
+      within = next.0;
+      value = next.1;
+      still = calm_top (AllStill g.P.Propagator.still c.self.inside.props.now) top c.self.invariant.4;
+      known = search rules;
+    }
 
 pub invariant_of-self : goal.invariant_of-self
 invariant_of-self g c =

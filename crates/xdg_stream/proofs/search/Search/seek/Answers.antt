@@ -1,10 +1,10 @@
-use Rattle.std.proofs.Common.{◌≡◌, ◌-◌, ◌∷◌, ◌++◌, [], arith, length, length-append, take, drop, refl, ap, sym, subst, ◌∙◌}
+use Rattle.std.proofs.Common.{◌≡◌, ◌-◌, arith, length, take, refl, ap, sym, subst, ◌∙◌}
 use Rattle.xdg_facts.specs.Fits.{Fits}
 use Rattle.xdg_facts.proofs.Fitting.{fits_length}
 use Rattle.xdg_stream.specs.Place.{Stands}
 use Rattle.xdg_stream.proofs.Passing.{next_first}
 use Rattle.xdg_stream.proofs.Same.{same_then}
-use Rattle.xdg_stream.proofs.Steps.{back_passes, back_smaller, back_stands, begins_back, begins_taken, finished, grew, kept_ran, push_counts, push_fits, ran_counts, ran_finds, ran_joined, ran_passes, ran_smaller, ran_stands, refused_passes, refused_smaller, stands_room, taken_spent}
+use Rattle.xdg_stream.proofs.Steps.{back_passes, back_smaller, back_stands, begins_back, begins_taken, finished, grew, push_counts, push_fits, ran_counts, ran_finds, ran_kept, ran_passes, ran_smaller, ran_stands, refused_passes, refused_smaller, stands_room, taken_spent, whole_test}
 use Rattle.xdg_stream.proofs.search.Search.seek.Goals as goal
 
 pub candidate-requires : goal.candidate-requires
@@ -73,28 +73,19 @@ returns-then-prefix-decisions-clause-found g c w =
 pub returns-then-prefix-decisions-clause-finds : goal.returns-then-prefix-decisions-clause-finds
 returns-then-prefix-decisions-clause-finds g c w from next =
     let r = grew c.steps.invariant.same c.steps.invariant.stands (c.in-Some.ensures.some c.in-Some.value refl) (c.if-push.ensures.taken refl) c.push.ensures.same in
-    let e = ap length (same_then _ _ _ _ _ _ r.same c.follow.ensures.same).sizes in
-    let a = ap length c.prefix-then-push-2.ensures in
-    let b = c.decisions.ensures in
     let d = c.steps.invariant.charged in
-    ran_finds r c.follow.ensures.follows (g.met.F.Front.closed c.args.self.now.front) (omega (arith, d)) (c.steps.invariant.passed from next) (omega (arith, e, a, b))
+    ran_finds r c.follow.ensures.follows (g.met.F.Front.closed c.args.self.now.front) (omega (arith, d)) (c.steps.invariant.passed from next)
+    ((whole_test r.same c.follow.ensures.same c.prefix-then-push-2.ensures c.decisions.ensures).0 c.if-prefix-decisions.true)
 
 pub returns-then-prefix-decisions-clause-whole : goal.returns-then-prefix-decisions-clause-whole
 returns-then-prefix-decisions-clause-whole g c w =
     let r = grew c.steps.invariant.same c.steps.invariant.stands (c.in-Some.ensures.some c.in-Some.value refl) (c.if-push.ensures.taken refl) c.push.ensures.same in
-    let e = ap length (same_then _ _ _ _ _ _ r.same c.follow.ensures.same).sizes in
-    let a = ap length c.prefix-then-push-2.ensures in
-    let b = c.decisions.ensures in
-    (ran_counts r c.follow.ensures.follows, omega (arith, e, a, b))
+    (ran_counts r c.follow.ensures.follows, (whole_test r.same c.follow.ensures.same c.prefix-then-push-2.ensures c.decisions.ensures).0 c.if-prefix-decisions.true)
 
 pub returns-then-prefix-decisions-clause-reached : goal.returns-then-prefix-decisions-clause-reached
 returns-then-prefix-decisions-clause-reached g c w =
     let r = grew c.steps.invariant.same c.steps.invariant.stands (c.in-Some.ensures.some c.in-Some.value refl) (c.if-push.ensures.taken refl) c.push.ensures.same in
-    let l = ap length c.prefix.ensures in
-    let m = ap length r.is in
-    let k = length-append (g.F.Front.numbers c.steps.self.front) (c.steps.self.value ∷ []) in
-    kept_ran _ _ _ _ _ _ c.steps.invariant.begins (ran_joined r c.follow.ensures.follows) (omega (arith, l, m, k)) (c.keep.ensures.items
-    ∙ ap (λ z. take (length c.prefix.result.now - 1) c.steps.self.reached.items ++ drop (length c.prefix.result.now - 1) z) c.prefix-then-push.ensures)
+    ran_kept r c.follow.ensures.follows _ c.steps.invariant.begins c.prefix.ensures c.prefix-then-push.ensures c.keep.ensures.items
 
 pub steps-smaller-else-prefix-decisions : goal.steps-smaller-else-prefix-decisions
 steps-smaller-else-prefix-decisions g c =
@@ -105,28 +96,20 @@ pub steps-preserved-else-prefix-decisions : goal.steps-preserved-else-prefix-dec
 steps-preserved-else-prefix-decisions g c =
     let r = grew c.steps.invariant.same c.steps.invariant.stands (c.in-Some.ensures.some c.in-Some.value refl) (c.if-push.ensures.taken refl) c.push.ensures.same in
     let f = c.follow.ensures.follows in
-    let q = same_then _ _ _ _ _ _ r.same c.follow.ensures.same in
-    let e = ap length q.sizes in
-    let a = ap length c.prefix-then-push-2.ensures in
-    let b = c.decisions.ensures in
     let d = c.steps.invariant.charged in
     let n = c.if-self.false in
-    let o = c.if-prefix-decisions.false in
     let within = f.within in
-    let l = ap length c.prefix.ensures in
-    let m = ap length r.is in
-    let k = length-append (g.F.Front.numbers c.steps.self.front) (c.steps.self.value ∷ []) in
-    let is = kept_ran _ _ _ _ _ _ c.steps.invariant.begins (ran_joined r f) (omega (arith, l, m, k)) (c.keep.ensures.items
-    ∙ ap (λ z. take (length c.prefix.result.now - 1) c.steps.self.reached.items ++ drop (length c.prefix.result.now - 1) z) c.prefix-then-push.ensures) in
+    let is = ran_kept r c.follow.ensures.follows _ c.steps.invariant.begins c.prefix.ensures c.prefix-then-push.ensures c.keep.ensures.items in
     record {
       problem = c.follow.ensures.kept ∙ c.push.ensures.kept ∙ c.steps.invariant.problem;
-      same = q;
+      same = same_then _ _ _ _ _ _ r.same c.follow.ensures.same;
       stands = ran_stands r f;
       charged = (omega (arith, d), omega (arith, d, n, within));
       kept = c.steps.invariant.kept;
       begins = begins_taken _ _ is;
       room = (let r = c.keep.ensures.room in let kept = c.steps.invariant.room in omega (arith, r, kept));
-      passed = λ from next. ran_passes r f (g.met.F.Front.closed c.args.self.now.front) (omega (arith, d)) (c.steps.invariant.passed from next) (λ w. o (omega (arith, e, a, b, w))) is;
+      passed = λ from next. ran_passes r f (g.met.F.Front.closed c.args.self.now.front) (omega (arith, d)) (c.steps.invariant.passed from next)
+          (λ w. c.if-prefix-decisions.false ((whole_test r.same c.follow.ensures.same c.prefix-then-push-2.ensures c.decisions.ensures).1 w)) is;
     }
 
 pub steps-smaller : goal.steps-smaller

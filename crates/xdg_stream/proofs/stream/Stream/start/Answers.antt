@@ -26,9 +26,6 @@ begun g c =
     let begun = stream_start r.front.parts start r.reached.items c.refill.new.self.numbers r.front.numbers r.value (vec_capacity r.reached) r.done r.charged r.budget (subst IsProblem (sym (q ∙ c.in_ok-front.ensures.0)) c.in_ok-last.ensures.problem) c.start-3.ensures.lawful next (c.start-3.ensures.reached ∙ held) (c.refill.ensures.numbers ∙ c.as_slice.ensures.value) fresh.0 fresh.2 in
     (begun.0, subst (IsCharged (seen r.front.parts start r.budget r.charged r.reached.items c.refill.new.self.numbers r.done)) begun.1 begun.0.so_far)
 
-pub start-requires : goal.start-requires
-start-requires g c = c.requires.stand
-
 pub refill-requires-clause-short : goal.refill-requires-clause-short
 refill-requires-clause-short g c =
     let parts = c.args.problem.now in
