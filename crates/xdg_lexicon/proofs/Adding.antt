@@ -23,11 +23,8 @@ same_added known _ all others (new _ more _ e n a) (new _ _ _ _ m b) = same_adde
 
 pub same_whole : (table : Table) (ps : List Partial) (es ds : List Entry) → AreWhole table ps es → AreWhole table ps ds → es ≡ ds
 same_whole table [] [] [] a b = refl
-same_whole table [] [] (d ∷ ds) a b = absurd b
-same_whole table [] (e ∷ es) ds a b = absurd a
-same_whole table (p ∷ ps) [] ds a b = absurd a
-same_whole table (p ∷ ps) (e ∷ es) [] a b = absurd b
 same_whole table (p ∷ ps) (e ∷ es) (d ∷ ds) a b = ap₂ (λ x xs. x ∷ xs) (some_same (whole table p) e d a.0 b.0) (same_whole table ps es ds a.1 b.1)
+same_whole table _ _ _ a b = absurd (assumption (a, b))
 
 apart : (o : Option Entry) (e : Entry) → o ≡ Some e → o ≡ None → ⊥
 apart o e a b = cc

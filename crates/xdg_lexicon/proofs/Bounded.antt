@@ -1,7 +1,8 @@
 -- A body denotes at most as many partial entries as it has combinations, and the classes that an entry uses have places.
-use Rattle.std.proofs.Common.{◌≡◌, ℕ, zero, suc, ◌<◌, ◌≤◌, ◌+◌, ◌*◌, List, ◌++◌, length, get_or, ap, sym, ◌∙◌, arith, subst}
+use Rattle.std.proofs.Common.{◌≡◌, suc, ◌<◌, ◌≤◌, ◌+◌, ◌*◌, List, ◌++◌, length, get_or, ap, sym, ◌∙◌, arith, subst}
 use Rattle.std.specs.Prelude.{Some}
 use Rattle.std.proofs.Math.Nat.{suc-mul}
+use Rattle.std.proofs.lemmas.Nat.{mul-le}
 use Rattle.std.proofs.lemmas.List.{length-append, length-map}
 use Rattle.xdg_names.proofs.Texts.{among_has, place_of-Some, place_of-has_text}
 use Rattle.xdg_terms.specs.Forms.{Bindings}
@@ -33,15 +34,6 @@ all_few dims _ _ _ (first_then m ms ns js ks e rest) =
     let product : suc (length ms) * length ns ≡ length ms * length ns + length ns = suc-mul (length ms) (length ns) in
     omega (arith, one, more, both, product)
 
-products : (a b c d : ℕ) → a ≤ c → b ≤ d → a * b ≤ c * d
-products zero b c d h k = omega arith
-products (suc a) b zero d h k = absurd (omega (arith, h))
-products (suc a) b (suc c) d h k =
-    let less = products a b c d (omega (arith, h)) k in
-    let left = suc-mul a b in
-    let right = suc-mul c d in
-    omega (arith, less, left, right, k)
-
 -- ---- classes
 
 module _ (checked : Parts) (names : Counting) (agrees : Agrees combos checked.classes names) where
@@ -63,7 +55,7 @@ module _ (checked : Parts) (names : Counting) (agrees : Agrees combos checked.cl
         let one = few bs b ms d in
         let others = few_both bs rest ns more in
         let made = all_few checked.types.dims ms ns js all in
-        let bound = products (length ms) (length ns) (combos names b) (product_of_combos names rest) one others in
+        let bound = mul-le (length ms) (length ns) (combos names b) (product_of_combos names rest) one others in
         omega (arith, made, bound)
 
     few_either : (bs : Bindings) (bodies : Bodies) (ms : List Partial) → DenotesEither checked.types.dims (named_bodies checked.classes) bs bodies ms → length ms ≤ sum_of_combos names bodies

@@ -1,52 +1,21 @@
--- The place of words, and the limits of entries.
-use Rattle.std.proofs.Common.{◌≡◌, ℕ, ◌-◌, ◌^◌, ◌<◌, ◌≤◌, List, [], length, get_or, map, Option, None, Some, Err, false, refl, sym, ap, ◌∙◌, subst, inr, arith, codes}
-use Rattle.std.specs.Prelude.{slice_get, option_map}
+-- The limits of entries.
+use Rattle.std.proofs.Common.{◌≡◌, ℕ, ◌-◌, ◌^◌, ◌<◌, ◌≤◌, List, [], length, get_or, map, Option, None, Some, Err, false, refl, sym, ap, ◌∙◌, subst, inr, arith}
 use Rattle.std.proofs.lemmas.List.{length-map, get_or-map}
 use Rattle.xdg_base.specs.declared.faults.Cause.TheVariants as causes
 use Rattle.xdg_base.specs.declared.faults.Fault.{Fault}
 use Rattle.xdg_base.specs.declared.faults.Stop.{Stop}
 use Rattle.xdg_base.specs.declared.faults.Stop.TheVariants as stops
-use Rattle.xdg_domain.specs.declared.types.Ty.{Ty}
-use Rattle.xdg_domain.specs.Shapes.{Shape, shape, text}
 use Rattle.xdg_names.specs.Texts.{has_text, place_of}
 use Rattle.xdg_names.proofs.Texts.{place_of-Some, place_of-None}
-use Rattle.xdg_types.specs.declared.table.DimType.{DimType}
-use Rattle.xdg_types.specs.Table.{Table, IsTable, typed, firsts}
+use Rattle.xdg_types.specs.Table.{Table, IsTable}
 use Rattle.xdg_packed.specs.Lexicon.{Lexicon, number, places_of, word_of}
 use Rattle.xdg_packed.proofs.WordLists.{numbers_none}
+use Rattle.xdg_packed.proofs.OfTable.{words_once}
 use Rattle.xdg_check.specs.Counts.{capped}
 use Rattle.xdg_packed.specs.Entries.{IsWordPlace, count_of}
 use Rattle.xdg_lexicon.specs.Growing.{IsFirstCrowded, count_at}
 use Rattle.xdg_lexicon.specs.Lexicon.{AreFewEach, IsCrowded, reaching}
 use Rattle.xdg_lexicon.specs.Steps.{KeepsLimits}
-use Rattle.xdg_lexicon.proofs.Dims.{keeps_at}
-use Rattle.xdg_facts.proofs.In.{differ_once}
-use Rattle.xdg_facts.proofs.Lists.{fused}
-use Rattle.xdg_types.proofs.Places.{places_once}
-use Rattle.std.proofs.lemmas.Option.{slice_get-map}
-use Rattle.xdg_lexicon.proofs.OneMeaning.{some_same}
-
--- ---- one place
-
-map_at : {A B : Type 0} (f : A → B) (xs : List A) (k : ℕ) (x : A) → slice_get xs k ≡ Some x → slice_get (map f xs) k ≡ Some (f x)
-map_at f xs k x is = slice_get-map f xs k ∙ ap (option_map f) is
-
-name_at : (fs : List (List ℕ × Ty)) (k : ℕ) (name : List ℕ) (s : Shape) → slice_get (typed fs) k ≡ Some (name, s) → slice_get (firsts fs) k ≡ Some name
-name_at fs k name s is =
-    subst (λ l. slice_get l k ≡ Some name) (fused (λ (p : List ℕ × Shape). p.0) (λ (f : List ℕ × Ty). (f.0, shape f.1)) fs) (map_at (λ (p : List ℕ × Shape). p.0) (typed fs) k (name, s) is)
-
-pub words_once : (table : Table) → IsTable table → (d f e g : ℕ) → IsWordPlace table d f → IsWordPlace table e g → (d ≡ e) × (f ≡ g)
-words_once table is d f e g x y =
-    let names = map (λ (dim : DimType). dim.name) table.dims in
-    let one : slice_get names x.used.0 ≡ Some (codes "lex") = map_at (λ (dim : DimType). dim.name) table.dims x.used.0 x.lex x.used.1.1 ∙ ap Some x.name in
-    let other : slice_get names y.used.0 ≡ Some (codes "lex") = map_at (λ (dim : DimType). dim.name) table.dims y.used.0 y.lex y.used.1.1 ∙ ap Some y.name in
-    let same_place : x.used.0 ≡ y.used.0 = differ_once names x.used.0 y.used.0 (codes "lex") is.names one other in
-    let same_dim : x.lex ≡ y.lex = some_same (slice_get table.dims x.used.0) x.lex y.lex x.used.1.1 (ap (slice_get table.dims) same_place ∙ y.used.1.1) in
-    let keeps = keeps_at table.dims x.used.0 x.lex x.used.1.1 is.dims in (
-      places_once (length table.dims) table.used d e x.used.0 is.used x.used.1.0 (y.used.1.0 ∙ ap Some (sym same_place)),
-      differ_once (firsts x.lex.fields) f g (codes "word") keeps.fields (name_at x.lex.fields f (codes "word") text x.word)
-          (name_at x.lex.fields g (codes "word") text (ap (λ (dim : DimType). slice_get (typed dim.fields) g) same_dim ∙ y.word)),
-    )
 
 -- ---- entries of words
 

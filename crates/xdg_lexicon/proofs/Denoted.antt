@@ -76,5 +76,3 @@ module _ (checked : Parts) (bs : Bindings) (items : List Expr) where
   pub both_denotes : (left : ℕ) (made : List Partial) → left ≡ 0 → BothSoFar checked bs items left made → Denotes checked.types.dims (named_bodies checked.classes) bs (both (trees items)) made
   both_denotes left made none so_far =
       den.conjunction bs (trees items) made (subst (λ n. DenotesBoth checked.types.dims (named_bodies checked.classes) bs (trees (drop n items)) made) none so_far.1.0)
-
--- ---- answers

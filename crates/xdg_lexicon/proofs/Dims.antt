@@ -1,16 +1,15 @@
 -- Partial entries made dimension after dimension.
-use Rattle.std.proofs.Common.{◌≡◌, ℕ, zero, suc, ◌<◌, ◌≤◌, ◌+◌, List, [], ◌∷◌, ◌++◌, length, get_or, ap, sym, ◌∙◌, arith, inl, inr, subst}
-use Rattle.std.proofs.Math.Seq.{get_or-append_seam}
-use Rattle.std.proofs.lemmas.Bool.{cases_eq}
-use Rattle.std.proofs.lemmas.List.{length-append, length-map, get_or_append_left, get_or-map}
-use Rattle.std.specs.Prelude.{Option, Some, MatchOption, slice_get}
+use Rattle.std.proofs.Common.{◌≡◌, ℕ, ◌<◌, ◌≤◌, ◌+◌, List, [], ◌∷◌, ◌++◌, length, get_or, ap, sym, ◌∙◌, arith, subst}
+use Rattle.std.proofs.lemmas.List.{length-append, length-map, get_or-map}
+use Rattle.std.specs.Prelude.{Option, Some, MatchOption}
 use Rattle.std.proofs.lemmas.Option.{get_or_from_slice_get, slice_get_within}
 use Rattle.xdg_domain.specs.Joined.{fields_in}
 use Rattle.xdg_domain.specs.Joins.{SaysBoth, JoinsField, OnSome, ClashesField}
 use Rattle.xdg_domain.specs.Shapes.{AreTypes}
 use Rattle.xdg_domain.specs.declared.types.Ty.{Ty}
-use Rattle.xdg_types.specs.Table.{typed, AreFeatures, KeepsDim, KeepDims}
+use Rattle.xdg_types.specs.Table.{typed, AreFeatures}
 use Rattle.xdg_types.specs.declared.table.DimType.{DimType}
+use Rattle.xdg_packed.proofs.Firsts.{each_pushed}
 use Rattle.xdg_terms.specs.Forms.{Bindings}
 use Rattle.xdg_classes.specs.Bodies.{Pairs}
 use Rattle.xdg_lexicon.specs.Partial.{Record, Partial, features, IsDim, said_of, IsRecord, IsPartial, nothing, PartialsJoin, ReadsDim}
@@ -29,10 +28,7 @@ module _ (Q : ℕ → Record → Type 0) where
   pub further : (bound : ℕ) (made new : Partial) (m : Record) → new ≡ made ++ m ∷ [] → SoFar Q bound made → Q bound m → SoFar Q (bound + 1) new
   further bound made new m is s q = subst (SoFar Q (bound + 1)) (sym is) (record {
     count = length-append made (m ∷ []) ∙ ap (λ n. n + 1) s.count;
-    each = λ k h. elim (cases_eq k bound) [
-      | inl e ↦ subst (λ j. Q j (said_of (made ++ m ∷ []) j)) (sym e) (subst (Q bound) (sym (ap (λ j. said_of (made ++ m ∷ []) j) (sym s.count) ∙ get_or-append_seam made m [] [])) q)
-      | inr other ↦ let less : k < length made = (let n = s.count in omega (arith, h, other, n)) in subst (Q k) (sym (get_or_append_left made (m ∷ []) [] k less)) (s.each k (omega (arith, h, other)))
-    ];
+    each = λ k h. each_pushed Q made m [] (λ j within. s.each j (subst (λ n. j < n) s.count within)) (subst (λ n. Q n m) (sym s.count) q) k (subst (λ n. k < n) (sym (length-append made (m ∷ []) ∙ ap (λ n. n + 1) s.count)) h);
   })
 
 -- ---- dimensions
@@ -41,11 +37,6 @@ module _ (Q : ℕ → Record → Type 0) where
 
 pub one_dim : (dims : List DimType) (k : ℕ) (d dim : DimType) → d ≡ get_or dims k d → IsDim dims k dim → dim ≡ d
 one_dim dims k d dim is at = sym (get_or_from_slice_get dims k dim d at) ∙ sym is
-
-pub keeps_at : (dims : List DimType) (k : ℕ) (dim : DimType) → slice_get dims k ≡ Some dim → KeepDims dims → KeepsDim dim
-keeps_at [] k dim is keeps = absurd (cc)
-keeps_at (d ∷ dims) zero dim is keeps = (let same : d ≡ dim = cc in subst KeepsDim same keeps.0)
-keeps_at (d ∷ dims) (suc k) dim is keeps = keeps_at dims k dim is keeps.1
 
 pub types_of : (fs : List (List ℕ × Ty)) → AreFeatures (typed fs) → AreTypes (fields_in fs)
 types_of [] h = tt

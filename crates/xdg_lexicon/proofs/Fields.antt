@@ -10,6 +10,7 @@ use Rattle.xdg_domain.specs.Values.{IsValue, IsFieldOf}
 use Rattle.xdg_domain.specs.declared.types.Ty.{Ty}
 use Rattle.xdg_domain.specs.declared.values.Value.{Value}
 use Rattle.xdg_domain.proofs.Keyed.{said_right, right_said, both_changes}
+use Rattle.xdg_packed.proofs.Laws.{if_some}
 use Rattle.xdg_terms.specs.Forms.{Term, Bindings}
 use Rattle.xdg_terms.specs.Means.{Means, MeansField, Said, written_for}
 use Rattle.xdg_classes.specs.Bodies.{Pairs}
@@ -41,10 +42,10 @@ clashes_at fs k f x y within is = (at_field (λ gs j. ClashesField gs j x y) (λ
 value_at : (fs : All) (k : ℕ) (f : List ℕ × Ty) (x : Value) → k < length fs → f ≡ get_or fs k f → IsFieldOf (fields_in fs) k x ↔ IsValue (shape f.1) x
 value_at fs k f x = at_field (λ gs j. IsFieldOf gs j x) (λ g. IsValue (shape g.1) x) (λ _ _. (λ h. h, λ h. h)) (λ _ _ _. (λ h. h, λ h. h)) fs k f
 
-no_value : (fs : All) (k : ℕ) (x : Value) → length fs ≤ k → IsFieldOf (fields_in fs) k x → ⊥
-no_value [] k x order h = h
-no_value (g ∷ fs) zero x order h = omega (arith, order)
-no_value (g ∷ fs) (suc k) x order h = no_value fs k x (omega (arith, order)) h
+pub field_within : (fs : All) (k : ℕ) (x : Value) → IsFieldOf (fields_in fs) k x → k < length fs
+field_within [] k x h = absurd h
+field_within (g ∷ fs) zero x h = omega arith
+field_within (g ∷ fs) (suc k) x h = (let r = field_within fs k x h in omega (arith, r))
 
 means_at : (bs : Bindings) (fs : All) (pairs : List (Name × Term)) (k : ℕ) (f : List ℕ × Ty) (said : Option Value) → k < length fs → f ≡ get_or fs k f
     → Said (Means bs (shape f.1)) (written_for pairs f.0) said → MeansField bs (fields_in fs) pairs k said
@@ -59,18 +60,14 @@ means_none bs (g ∷ fs) pairs (suc k) order = means_none bs fs pairs k (omega (
 -- ---- what is said of a feature
 
 pub said_value : (fs : All) (m : Record) (k : ℕ) (f : List ℕ × Ty) → k < length fs → f ≡ get_or fs k f → IsRecord (fields_in fs) m → IfSome (said_at m k) (IsValue (shape f.1))
-said_value fs m k f within is right = told (said_at m k) refl
-  where
-    told : (o : Option Value) → said_at m k ≡ o → IfSome o (IsValue (shape f.1))
-    told None e = tt
-    told (Some x) e = (value_at fs k f x within is).0 (said_right (IsFieldOf (fields_in fs)) m k x right.1 e)
+said_value fs m k f within is right = if_some (IsValue (shape f.1)) (said_at m k) (λ x e. (value_at fs k f x within is).0 (said_right (IsFieldOf (fields_in fs)) m k x right.1 e))
 
 said_nothing : (fs : All) (m : Record) (k : ℕ) → length fs ≤ k → IsRecord (fields_in fs) m → said_at m k ≡ None
 said_nothing fs m k order right = told (said_at m k) refl
   where
     told : (o : Option Value) → said_at m k ≡ o → said_at m k ≡ None
     told None e = e
-    told (Some x) e = absurd (no_value fs k x order (said_right (IsFieldOf (fields_in fs)) m k x right.1 e))
+    told (Some x) e = absurd (let w = field_within fs k x (said_right (IsFieldOf (fields_in fs)) m k x right.1 e) in omega (arith, w, order))
 
 if_value : (fs : All) (k : ℕ) (f : List ℕ × Ty) (o : Option Value) → k < length fs → f ≡ get_or fs k f → IfSome o (IsValue (shape f.1)) → IfSome o (IsFieldOf (fields_in fs) k)
 if_value fs k f None within is h = tt
@@ -85,33 +82,28 @@ record_of fs m rises each = (rises, right_said (IsFieldOf (fields_in fs)) 0 m ri
 abbrev pub Joining : All → Record → Record → ℕ → Option Value → Type 0
 Joining fs a b key c = Both (JoinsField (fields_in fs) key) (said_at a key) (said_at b key) c × IfSome c (IsFieldOf (fields_in fs) key)
 
-pub joined_one : (fs : All) (a b : Record) (k : ℕ) (f : List ℕ × Ty) (o p : Option Value) (c : Option Value) → k < length fs → f ≡ get_or fs k f → o ≡ said_at a k → p ≡ said_at b k
-    → Both (Joins (shape f.1)) o p c × IfSome c (IsValue (shape f.1)) → Joining fs a b k c
-joined_one fs a b k f o p c within is i j h = (
-  subst (λ t. Both (JoinsField (fields_in fs) k) t (said_at b k) c) i (subst (λ t. Both (JoinsField (fields_in fs) k) o t c) j (both_changes (Joins (shape f.1)) (JoinsField (fields_in fs) k) (λ x y z. joins_at fs k f x y z within is) o p c h.0)),
-  if_value fs k f c within is h.1,
-)
-
 on_changes : (fs : All) (k : ℕ) (f : List ℕ × Ty) (o p : Option Value) → k < length fs → f ≡ get_or fs k f → OnBoth (Clashes (shape f.1)) o p → OnBoth (ClashesField (fields_in fs) k) o p
 on_changes fs k f None p within is h = absurd h
 on_changes fs k f (Some x) None within is h = absurd h
 on_changes fs k f (Some x) (Some y) within is h = clashes_at fs k f x y within is h
 
-pub clash_one : (fs : All) (a b : Record) (k : ℕ) (f : List ℕ × Ty) (o p : Option Value) → k < length fs → f ≡ get_or fs k f → o ≡ said_at a k → p ≡ said_at b k
-    → OnBoth (Clashes (shape f.1)) o p → OnSome (ClashesField (fields_in fs)) a b
-clash_one fs a b k f o p within is i j h = (k, subst (λ t. OnBoth (ClashesField (fields_in fs) k) t (said_at b k)) i (subst (λ t. OnBoth (ClashesField (fields_in fs) k) o t) j (on_changes fs k f o p within is h)))
-
--- the same of an answer
+-- an answer tells what two say together, or that it can't hold together
 module _ (fs : All) (a b : Record) (k : ℕ) (f : List ℕ × Ty) (o p : Option Value) (told : Option (Option Value)) where
   pub joined_told : (c : Option Value) → k < length fs → f ≡ get_or fs k f → o ≡ said_at a k → p ≡ said_at b k → told ≡ Some c
       → MatchOption told (OnBoth (Clashes (shape f.1)) o p) (λ (d : Option Value). Both (Joins (shape f.1)) o p d × IfSome d (IsValue (shape f.1))) → Joining fs a b k c
   joined_told c within is i j some h =
-      joined_one fs a b k f o p c within is i j (subst (λ t. MatchOption t (OnBoth (Clashes (shape f.1)) o p) (λ (d : Option Value). Both (Joins (shape f.1)) o p d × IfSome d (IsValue (shape f.1)))) some h)
+      let both = subst (λ t. MatchOption t (OnBoth (Clashes (shape f.1)) o p) (λ (d : Option Value). Both (Joins (shape f.1)) o p d × IfSome d (IsValue (shape f.1)))) some h in (
+        subst (λ t. Both (JoinsField (fields_in fs) k) t (said_at b k) c) i (subst (λ t. Both (JoinsField (fields_in fs) k) o t c) j (both_changes (Joins (shape f.1)) (JoinsField (fields_in fs) k) (λ x y z. joins_at fs k f x y z within is) o p c both.0)),
+        if_value fs k f c within is both.1,
+      )
 
   pub clash_told : k < length fs → f ≡ get_or fs k f → o ≡ said_at a k → p ≡ said_at b k → told ≡ None
       → MatchOption told (OnBoth (Clashes (shape f.1)) o p) (λ (d : Option Value). Both (Joins (shape f.1)) o p d × IfSome d (IsValue (shape f.1))) → OnSome (ClashesField (fields_in fs)) a b
-  clash_told within is i j none h =
-      clash_one fs a b k f o p within is i j (subst (λ t. MatchOption t (OnBoth (Clashes (shape f.1)) o p) (λ (d : Option Value). Both (Joins (shape f.1)) o p d × IfSome d (IsValue (shape f.1)))) none h)
+  clash_told within is i j none h = (
+    k,
+    subst (λ t. OnBoth (ClashesField (fields_in fs) k) t (said_at b k)) i (subst (λ t. OnBoth (ClashesField (fields_in fs) k) o t) j (on_changes fs k f o p within is
+        (subst (λ t. MatchOption t (OnBoth (Clashes (shape f.1)) o p) (λ (d : Option Value). Both (Joins (shape f.1)) o p d × IfSome d (IsValue (shape f.1)))) none h))),
+  )
 
 pub joined_all : (fs : All) (a b : Record) (bound : ℕ) (made : Record) → IsRecord (fields_in fs) a → IsRecord (fields_in fs) b → length fs ≤ bound → IsMade (Joining fs a b) bound made
     → SaysBoth (JoinsField (fields_in fs)) a b made × IsRecord (fields_in fs) made

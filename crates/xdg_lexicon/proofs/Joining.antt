@@ -1,8 +1,9 @@
 -- Lists of joins, made one by one.
-use Rattle.std.proofs.Common.{◌≡◌, ℕ, zero, suc, ◌<◌, ◌+◌, List, [], ◌∷◌, ◌++◌, length, take, get_or, refl, ap, sym, ◌∙◌, arith, subst, append_assoc, length-append}
+use Rattle.std.proofs.Common.{◌≡◌, ℕ, ◌<◌, ◌+◌, List, [], ◌∷◌, ◌++◌, length, take, get_or, refl, ap, sym, ◌∙◌, arith, subst, append_assoc, length-append}
 use Rattle.std.specs.Prelude.{Option, None, Some, MatchOption, option_to_list}
 use Rattle.std.proofs.lemmas.List.{append-nil, take_more}
 use Rattle.xdg_types.specs.declared.table.DimType.{DimType}
+use Rattle.xdg_types.proofs.Kept.{at_place}
 use Rattle.xdg_lexicon.specs.Denotes.{JoinsEach, no_other, clashes, joins, JoinsAll, no_first, first_then}
 use Rattle.xdg_lexicon.specs.Partial.{Partial, IsPartial, ArePartial, PartialsJoin, PartialsClash}
 
@@ -11,9 +12,7 @@ are_all dims [] ys a b = b
 are_all dims (x ∷ xs) ys a b = (a.0, are_all dims xs ys a.1 b)
 
 pub one_of : (dims : List DimType) (ps : List Partial) (k : ℕ) (p : Partial) → k < length ps → p ≡ get_or ps k p → ArePartial dims ps → IsPartial dims p
-one_of dims [] k p within is h = absurd (omega (arith, within))
-one_of dims (q ∷ ps) zero p within is h = subst (IsPartial dims) (sym is) h.0
-one_of dims (q ∷ ps) (suc k) p within is h = one_of dims ps k p (omega (arith, within)) is h.1
+one_of dims ps k p within is h = at_place (ArePartial dims) (IsPartial dims) (λ _ _ all. all) ps k p h within is
 
 -- ---- one with each
 

@@ -4,7 +4,7 @@ use Rattle.xdg_classes.specs.Bodies.{Body}
 use Rattle.xdg_classes.specs.Wants.{NamedBody}
 use Rattle.xdg_check.specs.declared.checked.Class.{Class}
 use Rattle.xdg_check.specs.Checked.{named_body, named_bodies}
-use Rattle.xdg_check.specs.Counts.{Counting, Agrees, AreCounted, uses, combos}
+use Rattle.xdg_check.specs.Counts.{Counting, Agrees, AreCounted, uses, combos, capped}
 use Rattle.xdg_check.proofs.SameCounts.{same_uses, same_combos}
 use Rattle.xdg_lexicon.specs.Sources.{AreNumbers, HasNumber}
 use Rattle.xdg_facts.specs.Membership.{In}
@@ -38,8 +38,10 @@ module _ (count : Counting → Body → ℕ) (same : (p q : Counting) (b : Body)
   pub number_once : (b : Body) (n m : ℕ) → HasNumber count (named_bodies cs) b n → HasNumber count (named_bodies cs) b m → n ≡ m
   number_once b n m one other = told b n one ∙ sym (told b m other)
 
-  pub has_number : (b : Body) → HasNumber count (named_bodies cs) b (count counted.names b)
-  has_number b = (counted.names, (numbers_of count cs counted.names counted.agrees, refl))
+  -- what is told of a number that is capped like that of a body is told of the body's number
+  pub number_told : {P : ℕ → Type 0} (b : Body) (here : ℕ) → ((names : Counting) → Agrees count cs names → here ≡ capped (count names b)) → ((n : ℕ) → here ≡ capped n → P n) → (n : ℕ) × (HasNumber count (named_bodies cs) b n × P n)
+  number_told b here is tells =
+      (count counted.names b, ((counted.names, (numbers_of count cs counted.names counted.agrees, refl)), tells (count counted.names b) (is counted.names counted.agrees)))
 
 pub alike_uses : (p q : Counting) (b : Body) → ((name : List ℕ) → p name ≡ q name) → uses p b ≡ uses q b
 alike_uses p q b alike = same_uses p q b (λ call stands. alike call.name.text)

@@ -1,5 +1,5 @@
 -- Two partial entries have one join at most, and none where they clash.
-use Rattle.std.proofs.Common.{◌≡◌, List, [], ◌∷◌, ◌++◌, refl, ap₂, sym, ◌∙◌, arith, inl, inr, ◌⊎◌}
+use Rattle.std.proofs.Common.{◌≡◌, List, [], ◌∷◌, ◌++◌, refl, ap₂, sym, ◌∙◌, arith}
 use Rattle.std.proofs.lemmas.List.{ext_get_or}
 use Rattle.xdg_domain.specs.Joins.{JoinsField, ClashesField}
 use Rattle.xdg_domain.proofs.Keyed.{says_unique, says_exclusive}
@@ -23,40 +23,14 @@ join_apart dims a b c h k =
 
 -- ---- lists of them
 
-abbrev EachView : List DimType → Partial → List Partial → List Partial → Type 0
-EachView dims m [] js = js ≡ []
-EachView dims m (n ∷ ns) js = (PartialsClash dims m n × JoinsEach dims m ns js) ⊎ ((j : Partial) × ((ks : List Partial) × ((js ≡ j ∷ ks) × (PartialsJoin dims m n j × JoinsEach dims m ns ks))))
-
-each_view : (dims : List DimType) (m : Partial) (ns js : List Partial) → JoinsEach dims m ns js → EachView dims m ns js
-each_view dims m _ _ no_other = refl
-each_view dims m _ _ (clashes n ns js c d) = inl (c, d)
-each_view dims m _ _ (joins n j ns js c d) = inr (j, (js, (refl, (c, d))))
-
 each_once : (dims : List DimType) (m : Partial) (ns js ks : List Partial) → JoinsEach dims m ns js → JoinsEach dims m ns ks → js ≡ ks
-each_once dims m [] js ks h k = each_view dims m [] js h ∙ sym (each_view dims m [] ks k)
-each_once dims m (n ∷ ns) js ks h k = elim (each_view dims m (n ∷ ns) js h) [
-  | inl a ↦ elim (each_view dims m (n ∷ ns) ks k) [
-    | inl b ↦ each_once dims m ns js ks a.1 b.1
-    | inr b ↦ absurd (join_apart dims m n b.0 b.1.1.1.0 a.0)
-  ]
-  | inr a ↦ elim (each_view dims m (n ∷ ns) ks k) [
-    | inl b ↦ absurd (join_apart dims m n a.0 a.1.1.1.0 b.0)
-    | inr b ↦ a.1.1.0 ∙ ap₂ (λ x l. x ∷ l) (one_join dims m n a.0 b.0 a.1.1.1.0 b.1.1.1.0) (each_once dims m ns a.1.0 b.1.0 a.1.1.1.1 b.1.1.1.1) ∙ sym b.1.1.0
-  ]
-]
-
-abbrev AllView : List DimType → List Partial → List Partial → List Partial → Type 0
-AllView dims [] ns js = js ≡ []
-AllView dims (m ∷ ms) ns js = (first : List Partial) × ((rest : List Partial) × ((js ≡ first ++ rest) × (JoinsEach dims m ns first × JoinsAll dims ms ns rest)))
-
-all_view : (dims : List DimType) (ms ns js : List Partial) → JoinsAll dims ms ns js → AllView dims ms ns js
-all_view dims _ _ _ (no_first ns) = refl
-all_view dims _ _ _ (first_then m ms ns js ks e rest) = (js, (ks, (refl, (e, rest))))
+each_once dims m _ _ _ no_other no_other = refl
+each_once dims m _ js ks (clashes n ns _ c d) (clashes _ _ _ _ e) = each_once dims m ns js ks d e
+each_once dims m _ _ _ (clashes n ns _ c d) (joins _ k _ ks b e) = absurd (join_apart dims m n k b c)
+each_once dims m _ _ _ (joins n j ns js c d) (clashes _ _ _ b e) = absurd (join_apart dims m n j c b)
+each_once dims m _ _ _ (joins n j ns js c d) (joins _ k _ ks b e) = ap₂ (λ x l. x ∷ l) (one_join dims m n j k c b) (each_once dims m ns js ks d e)
 
 -- the joins of each with each are one list
 pub all_once : (dims : List DimType) (ms ns js ks : List Partial) → JoinsAll dims ms ns js → JoinsAll dims ms ns ks → js ≡ ks
-all_once dims [] ns js ks h k = all_view dims [] ns js h ∙ sym (all_view dims [] ns ks k)
-all_once dims (m ∷ ms) ns js ks h k =
-    let a = all_view dims (m ∷ ms) ns js h in
-    let b = all_view dims (m ∷ ms) ns ks k in
-    a.1.1.0 ∙ ap₂ (λ x l. x ++ l) (each_once dims m ns a.0 b.0 a.1.1.1.0 b.1.1.1.0) (all_once dims ms ns a.1.0 b.1.0 a.1.1.1.1 b.1.1.1.1) ∙ sym b.1.1.0
+all_once dims _ _ _ _ (no_first ns) (no_first _) = refl
+all_once dims _ _ _ _ (first_then m ms ns first rest e d) (first_then _ _ _ other more f c) = ap₂ (λ (x l : List Partial). x ++ l) (each_once dims m ns first other e f) (all_once dims ms ns rest more d c)

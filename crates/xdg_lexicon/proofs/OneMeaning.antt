@@ -19,7 +19,8 @@ use Rattle.xdg_types.specs.Table.{KeepDims}
 use Rattle.xdg_types.specs.declared.table.DimType.{DimType}
 use Rattle.xdg_classes.specs.Bodies.{Pairs}
 use Rattle.xdg_lexicon.specs.Partial.{Record, Partial, features, SaysFields, SaysRecord, written}
-use Rattle.xdg_lexicon.proofs.Dims.{types_of, keeps_at}
+use Rattle.xdg_types.proofs.Kept.{keeps_found}
+use Rattle.xdg_lexicon.proofs.Dims.{types_of}
 use Rattle.xdg_facts.proofs.Lists.{some_at}
 use Rattle.xdg_facts.proofs.Truths.{same_flag}
 use Rattle.xdg_facts.proofs.Texts.{same_text, is_same}
@@ -103,6 +104,6 @@ one_record dims bs name pairs p q keeps h k = ext_get_or [] p q (h.count ∙ sym
     let at = some_at dims i inside in
     let dim : DimType = at.0 in
     elim (same_or_not dim.name name) [
-      | inl is ↦ one_said bs (features dim) pairs _ _ (types_of dim.fields (keeps_at dims i dim at.1 keeps).features) (h.said i dim at.1 is) (k.said i dim at.1 is)
+      | inl is ↦ one_said bs (features dim) pairs _ _ (types_of dim.fields (keeps_found dims i dim at.1 keeps).features) (h.said i dim at.1 is) (k.said i dim at.1 is)
       | inr other ↦ h.unsaid i dim at.1 other ∙ sym (k.unsaid i dim at.1 other)
     ])

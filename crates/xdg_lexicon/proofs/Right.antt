@@ -1,5 +1,5 @@
 -- What is whole is an entry of the grammar.
-use Rattle.std.proofs.Common.{◌≡◌, ℕ, zero, suc, ◌+◌, ◌<◌, ◌≤◌, List, [], ◌∷◌, ◌++◌, length, get_or, Option, None, Some, refl, sym, ap, ◌∙◌, subst, arith, drop}
+use Rattle.std.proofs.Common.{◌≡◌, ℕ, zero, suc, ◌+◌, ◌<◌, ◌≤◌, List, [], ◌∷◌, ◌++◌, length, get_or, Option, None, Some, refl, sym, ap, ◌∙◌, subst, drop}
 use Rattle.std.specs.Prelude.{slice_get}
 use Rattle.std.proofs.lemmas.Option.{slice_get_read}
 use Rattle.std.proofs.lemmas.List.{at_drop_more, drop_all, append_assoc, append-nil}
@@ -14,14 +14,14 @@ use Rattle.xdg_packed.specs.Filled as filled
 use Rattle.xdg_packed.specs.Filled.{filled_fields, fields_said, AreSaid}
 use Rattle.xdg_packed.proofs.Laws.{record_said, filled_right}
 use Rattle.xdg_types.specs.declared.table.DimType.{DimType}
-use Rattle.xdg_types.specs.Table.{Table, IsTable, KeepsDim, ArePlaces, AreFeatures, typed, firsts}
+use Rattle.xdg_types.specs.Table.{Table, IsTable, KeepsDim, typed, firsts}
 use Rattle.xdg_packed.specs.Lexicon.{Record, Entry}
 use Rattle.xdg_lexicon.specs.Partial.{Partial, IsPartial, IsRecord, said_of}
 use Rattle.xdg_packed.specs.Entries.{IsWhole, IsEntry, record_type}
 use Rattle.xdg_lexicon.specs.Lexicon.{whole_record, record_then, records_of, whole}
 use Rattle.xdg_facts.proofs.Lists.{any_default}
 use Rattle.xdg_facts.specs.Membership.{Differ}
-use Rattle.xdg_lexicon.proofs.Dims.{keeps_at, types_of as fields_right}
+use Rattle.xdg_types.proofs.Kept.{keeps_found, place_below, types_of}
 use Rattle.xdg_lexicon.proofs.OneMeaning.{some_same}
 
 -- ---- types
@@ -31,15 +31,12 @@ pub same_features : (fs : List (List ℕ × Ty)) → fields_in fs ≡ fields_of 
 same_features [] = refl
 same_features (f ∷ fs) = ap (field_then f.0 (shape f.1)) (same_features fs)
 
-pub types_of : (fs : List (List ℕ × Ty)) → AreFeatures (typed fs) → AreTypes (fields_of (typed fs))
-types_of fs h = subst AreTypes (same_features fs) (fields_right fs h)
-
 names_are : (fs : List (List ℕ × Ty)) → names_of (fields_of (typed fs)) ≡ firsts fs
 names_are [] = refl
 names_are (f ∷ fs) = ap (λ l. f.0 ∷ l) (names_are fs)
 
 record_is_type : (dim : DimType) → KeepsDim dim → IsType (record_type dim)
-record_is_type dim keeps = (subst Differ (sym (names_are dim.fields)) keeps.fields, types_of dim.fields keeps.features)
+record_is_type dim keeps = (subst Differ (sym (names_are dim.fields)) keeps.fields, types_of (typed dim.fields) keeps.features)
 
 -- ---- records
 
@@ -98,7 +95,7 @@ whole_right table p entry is partial made = record {
       let found = some_record (slice_get table.dims used.0) (said_of p used.0) (get_or entry d []) at in
       let same : found.0 ≡ dim = some_same (slice_get table.dims used.0) found.0 dim found.1.0 used.1.1 in
       let right = subst (λ fs. IsRecord fs (said_of p used.0)) (same_features dim.fields) (partial.each used.0 dim used.1.1) in
-      record_is_whole dim (said_of p used.0) (get_or entry d []) (keeps_at table.dims used.0 dim used.1.1 is.dims) right
+      record_is_whole dim (said_of p used.0) (get_or entry d []) (keeps_found table.dims used.0 dim used.1.1 is.dims) right
       (subst (λ (x : DimType). filled_fields 0 (fields_of (typed x.fields)) (said_of p used.0) ≡ Some (get_or entry d [])) same found.1.1);
 }
 
@@ -139,11 +136,6 @@ module _ (table : Table) (p : Partial) where
 
 -- ---- what is looked at
 
-place_within : (bound : ℕ) (ks : List ℕ) (i k : ℕ) → ArePlaces bound ks → i < length ks → k ≡ get_or ks i k → k < bound
-place_within bound [] i k are within is = absurd (omega (arith, within))
-place_within bound (j ∷ ks) zero k are within is = subst (λ n. n < bound) (sym is) are.0.0
-place_within bound (j ∷ ks) (suc i) k are within is = place_within bound ks i k are.1 (omega (arith, within)) is
-
 -- of the dimension at a place of the used ones: its features, and what is said of them
 pub record Here (table : Table) (p : Partial) (i k : ℕ) (fs : List (List ℕ × Ty)) (said : Record) : Type 0 where
   pub inside : i < length table.used
@@ -164,7 +156,7 @@ module _ (table : Table) (p : Partial) (dims : List DimType) (used : List ℕ) (
   at_used = ap (λ l. get_or l i 0) same_used ∙ any_default table.used i 0 k within_used
 
   k_within : k < length table.dims
-  k_within = place_within (length table.dims) table.used i k is.used within_used at_used
+  k_within = place_below (length table.dims) table.used i k is.used within_used at_used
 
   dim_here : slice_get table.dims k ≡ Some d
   dim_here = slice_get_read table.dims (length table.dims) k d refl k_within (d_is ∙ ap (λ l. get_or l k d) same_dims)
@@ -176,7 +168,7 @@ module _ (table : Table) (p : Partial) (dims : List DimType) (used : List ℕ) (
   here = record {
     inside = within_used;
     own = at_used;
-    types = subst (λ l. AreTypes (fields_of (typed l))) (sym fs_is) (types_of d.fields (keeps_at table.dims k d dim_here is.dims).features);
+    types = subst (λ l. AreTypes (fields_of (typed l))) (sym fs_is) (types_of (typed d.fields) (keeps_found table.dims k d dim_here is.dims).features);
     right =
         let right = subst (λ l. IsRecord l (said_of p k)) (same_features d.fields) (partial.each k d dim_here) in
         said_right (fields_of (typed fs)) said (subst (λ l. IsRecord (fields_of (typed l)) said) (sym fs_is) (subst (IsRecord (fields_of (typed d.fields))) (sym said_here) right));

@@ -1,8 +1,7 @@
 -- Nothing is wrong where a body is denoted: in an entry, in each part of a body, and in the body of a class that is used.
 use Rattle.std.proofs.Common.{◌≡◌, inl, inr, ℕ, zero, suc, ◌<◌, List, [], ◌∷◌, length, map, get_or, refl, sym, ap, ◌∙◌, subst, arith}
 use Rattle.std.specs.Prelude.{Bool, true, false, bytes_eq, if◌then◌else◌, Option, None, Some, IfSome}
-use Rattle.std.proofs.lemmas.Bool.{true≢false}
-use Rattle.std.proofs.lemmas.Option.{slice_get_read}
+use Rattle.std.proofs.lemmas.Bool.{true≢false, false_from_ne_true}
 use Rattle.xdg_ast.specs.declared.names.Name.{Name}
 use Rattle.xdg_ast.specs.declared.names.Pair.{Pair}
 use Rattle.xdg_ast.specs.declared.expressions.ExprKind.{ExprKind}
@@ -11,6 +10,7 @@ use Rattle.xdg_domain.specs.Shapes.{Shape, shape}
 use Rattle.xdg_domain.specs.declared.types.Ty.{Ty}
 use Rattle.xdg_types.specs.Table.{Table, typed, firsts, IsTable, KeepDims, KeepsDim, dim_named}
 use Rattle.xdg_types.specs.declared.table.DimType.{DimType}
+use Rattle.xdg_packed.proofs.Laws.{if_some}
 use Rattle.xdg_terms.specs.Answers.{IsRight}
 use Rattle.xdg_terms.specs.Closed.{closed}
 use Rattle.xdg_terms.specs.Forms.{Term, Bindings, bound_to}
@@ -30,50 +30,39 @@ use Rattle.xdg_check.proofs.Opened.{wants_stand}
 use Rattle.xdg_lexicon.specs.Denotes.{closed_args}
 use Rattle.xdg_lexicon.specs.Partial.{written}
 use Rattle.xdg_lexicon.specs.Right.{AreRight, IsRightUnder}
-use Rattle.xdg_lexicon.proofs.Dims.{keeps_at}
+use Rattle.xdg_types.proofs.Kept.{keeps_at}
 use Rattle.xdg_lexicon.proofs.Once.{one_named}
 use Rattle.xdg_facts.proofs.Texts.{same_text, is_same}
 use Rattle.xdg_facts.specs.Membership.{In, Differ}
-use Rattle.xdg_facts.proofs.In.{in_left, in_right, in_index, map_in}
-use Rattle.xdg_facts.proofs.Lists.{fused}
+use Rattle.xdg_facts.proofs.In.{in_left, in_right, in_index, in_map, map_in}
 use Rattle.xdg_ast.specs.Texts.{texts}
 
 -- ---- features by name
 
-at_name : {A : Type 0} (a b : List ℕ) (here : A) (other : A) → a ≡ b → (if bytes_eq a b then here else other) ≡ here
-at_name a b here other e = ap (λ (t : Bool). if t then here else other) (is_same a b e)
-
-past_name : {A : Type 0} (a b : List ℕ) (here : A) (other : A) → (a ≡ b → ⊥) → (if bytes_eq a b then here else other) ≡ other
-past_name a b here other e = by (bytes_eq a b) refl
-  where
-    by : (t : Bool) → bytes_eq a b ≡ t → (if t then here else other) ≡ other
-    by true i = absurd (e (same_text a b i))
-    by false i = refl
-
-dim_found : (dims : List DimType) (dim : DimType) → Differ (map (λ d. d.name) dims) → In dims dim → dim_named dims dim.name ≡ Some dim
-dim_found [] dim differ h = absurd h
-dim_found (x ∷ dims) dim differ h = elim h [
-  | inl e ↦ at_name x.name dim.name (Some x) (dim_named dims dim.name) (ap (λ (d : DimType). d.name) e) ∙ ap (λ z. Some z) e
-  | inr k ↦ past_name x.name dim.name (Some x) (dim_named dims dim.name) (λ i. differ.0 (subst (In (map (λ (d : DimType). d.name) dims)) (sym i) (map_in (λ (d : DimType). d.name) dims dim k))) ∙ dim_found dims dim differ.1 k
+-- of things whose names differ the one with a name is found by it
+named_found : {A B : Type 0} (name : A → List ℕ) (value : A → B) (key : List ℕ) (find : List A → Option B) → ((x : A) (xs : List A) → find (x ∷ xs) ≡ (if bytes_eq (name x) key then Some (value x) else find xs)) → (xs : List A) (x : A)
+    → Differ (map name xs) → In xs x → name x ≡ key → find xs ≡ Some (value x)
+named_found name value key find step [] x differ h is = absurd h
+named_found name value key find step (y ∷ xs) x differ h is = elim h [
+  | inl e ↦ step y xs ∙ ap (λ (t : Bool). if t then Some (value y) else find xs) (is_same (name y) key (ap name e ∙ is)) ∙ ap (λ z. Some (value z)) e
+  | inr k ↦
+      let other = false_from_ne_true (bytes_eq (name y) key) (λ t. differ.0 (subst (In (map name xs)) (is ∙ sym (same_text (name y) key t)) (map_in name xs x k))) in
+      step y xs ∙ ap (λ (t : Bool). if t then Some (value y) else find xs) other ∙ named_found name value key find step xs x differ.1 k is
 ]
 
 type_found : (fs : List (List ℕ × Ty)) (name : List ℕ) (s : Shape) → Differ (firsts fs) → In (typed fs) (name, s) → type_named fs name ≡ Some s
-type_found [] name s differ h = absurd h
-type_found (f ∷ fs) name s differ h = elim h [
-  | inl e ↦ at_name f.0 name (Some (shape f.1)) (type_named fs name) (ap (λ (p : List ℕ × Shape). p.0) e) ∙ ap (λ (p : List ℕ × Shape). Some p.1) e
-  | inr k ↦ past_name f.0 name (Some (shape f.1)) (type_named fs name) (λ i. differ.0 (subst (In (firsts fs)) (sym i) (among k))) ∙ type_found fs name s differ.1 k
-]
-  where
-    among : In (typed fs) (name, s) → In (firsts fs) name
-    among k = subst (λ l. In l name) (fused (λ (p : List ℕ × Shape). p.0) (λ (x : List ℕ × Ty). (x.0, shape x.1)) fs) (map_in (λ (p : List ℕ × Shape). p.0) (typed fs) (name, s) k)
+type_found fs name s differ h =
+    let f = in_map (λ (x : List ℕ × Ty). (x.0, shape x.1)) fs (name, s) h in
+    named_found (λ (x : List ℕ × Ty). x.0) (λ x. shape x.1) name (λ gs. type_named gs name) (λ _ _. refl) fs f.0 differ f.1.0 (ap (λ (p : List ℕ × Shape). p.0) f.1.1) ∙ ap (λ (p : List ℕ × Shape). Some p.1) f.1.1
 
 keeps_in : (dims : List DimType) (dim : DimType) → KeepDims dims → In dims dim → KeepsDim dim
-keeps_in dims dim keeps h = let at = in_index dims dim dim h in keeps_at dims at.0 dim (slice_get_read dims (length dims) at.0 dim refl at.1.0 (sym at.1.1)) keeps
+keeps_in dims dim keeps h = let at = in_index dims dim dim h in keeps_at dims at.0 dim keeps at.1.0 (sym at.1.1)
 
 -- the type of a feature of a dimension is found by their names
 feature_found : (table : Table) (dim : DimType) (name key : List ℕ) (s : Shape) → IsTable table → In table.dims dim → dim.name ≡ name → In (typed dim.fields) (key, s) → feature_shape table name key ≡ Some s
 feature_found table dim name key s keeps stands is has =
-    ap (λ o. feature_in o key) (ap (dim_named table.dims) (sym is) ∙ dim_found table.dims dim keeps.names stands) ∙ type_found dim.fields key s (keeps_in table.dims dim keeps.dims stands).fields has
+    ap (λ o. feature_in o key) (ap (dim_named table.dims) (sym is) ∙ named_found (λ (d : DimType). d.name) (λ d. d) dim.name (λ ds. dim_named ds dim.name) (λ _ _. refl) table.dims dim keeps.names stands refl)
+    ∙ type_found dim.fields key s (keeps_in table.dims dim keeps.dims stands).fields has
 
 -- ---- what a record says
 
@@ -90,18 +79,12 @@ written_in (p ∷ pairs) name t h = by (bytes_eq p.key.text name) refl h (writte
     by false e k later = (let r = later k in (r.0, (inr r.1.0, r.1.1)))
 
 pub record_right : (table : Table) (cs : List Class) (bs : Bindings) (kind : ExprKind) (name : Name) (pairs : Pairs) (dim : DimType) → IsTable table → IsRightUnder table cs bs (body kind) → kind ≡ v.Dim name pairs → In table.dims dim → dim.name ≡ name.text → AreRight bs dim.fields pairs
-record_right table cs bs kind name pairs dim keeps right is stands same f among = by (written_for (written pairs) f.0) refl
-  where
-    there : In (records (body kind)) (record { dim = name; pairs = pairs })
-    there = subst (λ b. In (records b) (record { dim = name; pairs = pairs })) (sym (ap body is ∙ body_dim name pairs)) (inl refl)
-
-    by : (o : Option Term) → written_for (written pairs) f.0 ≡ o → IfSome o (IsRight bs (shape f.1))
-    by None e = tt
-    by (Some t) e =
-        let r = written_in pairs f.0 t e in
-        let type : feature_shape table name.text r.0.key.text ≡ Some (shape f.1) =
-        ap (feature_shape table name.text) r.1.1.0 ∙ feature_found table dim name.text f.0 (shape f.1) keeps stands same (map_in (λ (x : List ℕ × Ty). (x.0, shape x.1)) dim.fields f among) in
-        subst (IsRight bs (shape f.1)) r.1.1.1 (right.said (record { dim = name; pairs = pairs }) there r.0 r.1.0 (shape f.1) type)
+record_right table cs bs kind name pairs dim keeps right is stands same f among = if_some (IsRight bs (shape f.1)) (written_for (written pairs) f.0) (λ t e.
+    let r = written_in pairs f.0 t e in
+    let there : In (records (body kind)) (record { dim = name; pairs = pairs }) = subst (λ b. In (records b) (record { dim = name; pairs = pairs })) (sym (ap body is ∙ body_dim name pairs)) (inl refl) in
+    let type : feature_shape table name.text r.0.key.text ≡ Some (shape f.1) =
+    ap (feature_shape table name.text) r.1.1.0 ∙ feature_found table dim name.text f.0 (shape f.1) keeps stands same (map_in (λ (x : List ℕ × Ty). (x.0, shape x.1)) dim.fields f among) in
+    subst (IsRight bs (shape f.1)) r.1.1.1 (right.said (record { dim = name; pairs = pairs }) there r.0 r.1.0 (shape f.1) type))
 
 -- ---- parts of a body
 

@@ -19,8 +19,8 @@ use Rattle.xdg_lexicon.specs.Denotes.{Denotes}
 use Rattle.xdg_lexicon.specs.Sources.{Source, source_of, HasNumber}
 use Rattle.xdg_lexicon.specs.Lexicon.{Adds, SoFar, nothing_yet, IsWithinLimits, IsExpanded, Expands, ExpandsAll, no_more, one_more, AreFewEach, IsTooMany, many_uses, many_combos, unsaid, many_entries, many_of_word, Refuses}
 use Rattle.xdg_lexicon.specs.Steps.{one_of, AddsMembers, KeepsLimits, Once, AllOnce, CountsOne, AddsOne, ExpandsOne}
-use Rattle.xdg_lexicon.proofs.Bounds.{words_once}
-use Rattle.xdg_lexicon.proofs.Numbers.{number_once, has_number, alike_uses, alike_combos}
+use Rattle.xdg_packed.proofs.OfTable.{words_once}
+use Rattle.xdg_lexicon.proofs.Numbers.{number_once, number_told, alike_uses, alike_combos}
 use Rattle.xdg_lexicon.specs.Answers.{IsAnswer, Tells}
 use Rattle.xdg_lexicon.proofs.Only.{IsDefinite, not_within, only_expanded, only_refused}
 
@@ -40,62 +40,51 @@ module _ (parts : Parts) (is : IsChecked parts) where
   }
 
   module _ (before : SoFar) (def : EntryDef) where
-    some_uses : ℕ
-    some_uses = uses is.uses.names (body def.body.kind)
+    abbrev part : Body
+    part = body def.body.kind
 
-    some_combos : ℕ
-    some_combos = combos is.combos.names (body def.body.kind)
-
-    has_uses : HasNumber uses (source_of parts).classes (body def.body.kind) some_uses
-    unfolding some_uses
-    has_uses = has_number uses alike_uses (λ c. c.uses) parts.classes is.uses (body def.body.kind)
-
-    has_combos : HasNumber combos (source_of parts).classes (body def.body.kind) some_combos
-    unfolding some_combos
-    has_combos = has_number combos alike_combos (λ c. c.combos) parts.classes is.combos (body def.body.kind)
-
-    module _ (here : ℕ) (uses_here : (names : Counting) → Agrees uses parts.classes names → here ≡ capped (uses names (body def.body.kind))) where
-      here_is : here ≡ capped some_uses
-      unfolding some_uses
-      here_is = uses_here is.uses.names is.uses.agrees
+    module _ (here : ℕ) (uses_here : (names : Counting) → Agrees uses parts.classes names → here ≡ capped (uses names part)) where
+      uses_told : {P : ℕ → Type 0} → ((n : ℕ) → here ≡ capped n → P n) → (n : ℕ) × (HasNumber uses (source_of parts).classes part n × P n)
+      uses_told tells = number_told uses alike_uses (λ c. c.uses) parts.classes is.uses part here uses_here tells
 
       pub uses_refused : (n : ℕ) (stop : Stop) → before.uses ≡ n → Sums causes.TooManyUses def.at n here (Err stop) → CountsOne (source_of parts) before (one_of def) (Err stop)
       uses_refused n stop same sums =
-          let told = sums some_uses here_is in
-          let many = subst (λ m. IsTooMany causes.TooManyUses def.at m some_uses told.0) (sym same) told.1.1 in
-          subst (λ s. CountsOne (source_of parts) before (one_of def) (Err s)) (sym told.1.0) (
-            many_uses some_uses has_uses many,
-            λ c. not_within causes.TooManyUses def.at before.uses some_uses told.0 many (subst (IsWithinLimits before.uses) (definite.uses_once (body def.body.kind) c.uses_of some_uses c.has_uses has_uses) c.few_uses),
+          let told = uses_told sums in
+          let f = told.1.1.0 in
+          let many = subst (λ m. IsTooMany causes.TooManyUses def.at m told.0 f) (sym same) told.1.1.1.1 in
+          subst (λ s. CountsOne (source_of parts) before (one_of def) (Err s)) (sym told.1.1.1.0) (
+            many_uses told.0 told.1.0 many,
+            λ c. not_within causes.TooManyUses def.at before.uses told.0 f many (subst (IsWithinLimits before.uses) (definite.uses_once part c.uses_of told.0 c.has_uses told.1.0) c.few_uses),
           )
 
-      module _ (there : ℕ) (combos_there : (names : Counting) → Agrees combos parts.classes names → there ≡ capped (combos names (body def.body.kind))) where
-        there_is : there ≡ capped some_combos
-        unfolding some_combos
-        there_is = combos_there is.combos.names is.combos.agrees
+      module _ (there : ℕ) (combos_there : (names : Counting) → Agrees combos parts.classes names → there ≡ capped (combos names part)) where
+        combos_told : {P : ℕ → Type 0} → ((n : ℕ) → there ≡ capped n → P n) → (n : ℕ) × (HasNumber combos (source_of parts).classes part n × P n)
+        combos_told tells = number_told combos alike_combos (λ c. c.combos) parts.classes is.combos part there combos_there tells
 
         pub combos_refused : (n m sum : ℕ) (stop : Stop) → before.uses ≡ n → before.combos ≡ m → Sums causes.TooManyUses def.at n here (Ok sum) → Sums causes.TooManyEntries def.at m there (Err stop) → CountsOne (source_of parts) before (one_of def) (Err stop)
         combos_refused n m sum stop same alike sums refused =
-            let told = refused some_combos there_is in
-            let within = subst (λ k. IsWithinLimits k some_uses) (sym same) (sums some_uses here_is).0 in
-            let many = subst (λ k. IsTooMany causes.TooManyEntries def.at k some_combos told.0) (sym alike) told.1.1 in
-            subst (λ s. CountsOne (source_of parts) before (one_of def) (Err s)) (sym told.1.0) (
-              many_combos some_uses some_combos has_uses within has_combos many,
-              λ c. not_within causes.TooManyEntries def.at before.combos some_combos told.0 many (subst (IsWithinLimits before.combos) (definite.combos_once (body def.body.kind) c.combos_of some_combos c.has_combos has_combos) c.few_combos),
+            let first = uses_told sums in
+            let told = combos_told refused in
+            let f = told.1.1.0 in
+            let many = subst (λ k. IsTooMany causes.TooManyEntries def.at k told.0 f) (sym alike) told.1.1.1.1 in
+            subst (λ s. CountsOne (source_of parts) before (one_of def) (Err s)) (sym told.1.1.1.0) (
+              many_combos first.0 told.0 first.1.0 (subst (λ k. IsWithinLimits k first.0) (sym same) first.1.1.0) told.1.0 many,
+              λ c. not_within causes.TooManyEntries def.at before.combos told.0 f many (subst (IsWithinLimits before.combos) (definite.combos_once part c.combos_of told.0 c.has_combos told.1.0) c.few_combos),
             )
 
         pub both_counted : (n m sum total : ℕ) → before.uses ≡ n → before.combos ≡ m → Sums causes.TooManyUses def.at n here (Ok sum) → Sums causes.TooManyEntries def.at m there (Ok total) → CountsOne (source_of parts) before (one_of def) (Ok (sum, total))
         both_counted n m sum total same alike sums totals =
-            let first = sums some_uses here_is in
-            let second = totals some_combos there_is in (
+            let first = uses_told sums in
+            let second = combos_told totals in (
               record {
-                uses_of = some_uses;
-                has_uses = has_uses;
-                few_uses = subst (λ k. IsWithinLimits k some_uses) (sym same) first.0;
-                combos_of = some_combos;
-                has_combos = has_combos;
-                few_combos = subst (λ k. IsWithinLimits k some_combos) (sym alike) second.0;
+                uses_of = first.0;
+                has_uses = first.1.0;
+                few_uses = subst (λ k. IsWithinLimits k first.0) (sym same) first.1.1.0;
+                combos_of = second.0;
+                has_combos = second.1.0;
+                few_combos = subst (λ k. IsWithinLimits k second.0) (sym alike) second.1.1.0;
               },
-              (first.1 ∙ ap (λ k. k + some_uses) (sym same), second.1 ∙ ap (λ k. k + some_combos) (sym alike)),
+              (first.1.1.1 ∙ ap (λ k. k + first.0) (sym same), second.1.1.1 ∙ ap (λ k. k + second.0) (sym alike)),
             )
 
 -- ---- the members of one `defentry`

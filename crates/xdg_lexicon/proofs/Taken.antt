@@ -1,5 +1,5 @@
 -- Records joined from their last features to their first.
-use Rattle.std.proofs.Common.{◌≡◌, ℕ, zero, suc, ◌<◌, ◌≤◌, ◌+◌, List, [], ◌∷◌, ◌++◌, length, get_or, reverse, refl, ap, sym, ◌∙◌, arith, inl, inr, subst}
+use Rattle.std.proofs.Common.{◌≡◌, ℕ, ◌<◌, ◌≤◌, ◌+◌, List, [], ◌∷◌, ◌++◌, length, get_or, reverse, refl, ap, sym, ◌∙◌, arith, inl, inr, subst}
 use Rattle.std.specs.Prelude.{Option, None, Some, IfSome, MatchOption, false, nat_eq}
 use Rattle.std.proofs.lemmas.Bool.{cases_eq, eq-eqb, true≢false}
 use Rattle.std.proofs.lemmas.List.{reverse-append}
@@ -15,7 +15,7 @@ use Rattle.xdg_domain.proofs.Keyed.{at_head, after_head, unsaid}
 use Rattle.xdg_terms.proofs.SaidKeys.{rises_later}
 use Rattle.xdg_lexicon.specs.Made.{entry, IsMade, EndsAt}
 use Rattle.xdg_lexicon.specs.Partial.{Record, IsRecord}
-use Rattle.xdg_lexicon.proofs.Fields.{All, Joining, said_value, joined_told, clash_told, joined_all}
+use Rattle.xdg_lexicon.proofs.Fields.{All, Joining, field_within, said_value, joined_told, clash_told, joined_all}
 use Rattle.xdg_lexicon.proofs.Made.{beyond, before, last}
 
 -- ---- the last key of a list
@@ -115,11 +115,6 @@ pub record IsFront (whole : Record) (first : ℕ) (front : Record) : Type 0 wher
   pub rises : KeysRise 0 front
   pub below : KeysBelow first front
   pub says : (key : ℕ) → key < first → said_at front key ≡ said_at whole key
-
-field_within : (fs : All) (k : ℕ) (x : Value) → IsFieldOf (fields_in fs) k x → k < length fs
-field_within [] k x h = absurd h
-field_within (g ∷ fs) zero x h = omega arith
-field_within (g ∷ fs) (suc k) x h = (let r = field_within fs k x h in omega (arith, r))
 
 keys_within : (fs : All) (m : Record) → EachSaid (IsFieldOf (fields_in fs)) m → KeysBelow (length fs) m
 keys_within fs [] h = tt

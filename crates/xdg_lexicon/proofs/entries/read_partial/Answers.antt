@@ -1,11 +1,10 @@
-use Rattle.std.proofs.Common.{refl}
-use Rattle.std.proofs.lemmas.Option.{slice_get_read}
-use Rattle.xdg_lexicon.proofs.Dims.{ReadsAt, further, keeps_at, read_here}
+use Rattle.xdg_types.proofs.Kept.{keeps_at}
+use Rattle.xdg_lexicon.proofs.Dims.{ReadsAt, further, read_here}
 use Rattle.xdg_lexicon.proofs.entries.read_partial.Goals as goal
 use Rattle.xdg_facts.proofs.In.{in_at}
 
 pub read_dim-requires-clause-keeps : goal.read_dim-requires-clause-keeps
-read_dim-requires-clause-keeps c = keeps_at c.args.dims.now c.loop-dim.dim-index c.dim-item.result (slice_get_read c.args.dims.now _ c.loop-dim.dim-index c.dim-item.result refl c.loop-dim-test.true c.dim-item.is) c.requires.keeps
+read_dim-requires-clause-keeps c = keeps_at c.args.dims.now c.loop-dim.dim-index c.dim-item.result c.requires.keeps c.loop-dim-test.true c.dim-item.is
 
 pub read_dim-requires-clause-right : goal.read_dim-requires-clause-right
 read_dim-requires-clause-right c = c.requires.right c.dim-item.result (in_at c.args.dims.now c.loop-dim.dim-index c.dim-item.result c.loop-dim-test.true c.dim-item.is)

@@ -8,7 +8,7 @@ use Rattle.xdg_lexicon.specs.Growing.{entries_in}
 use Rattle.xdg_lexicon.specs.Lexicon.{IsLexicon}
 use Rattle.xdg_lexicon.specs.Sources.{source_of}
 use Rattle.xdg_lexicon.proofs.Exits.{exit_gives}
-use Rattle.xdg_lexicon.proofs.Bounds.{words_once}
+use Rattle.xdg_packed.proofs.OfTable.{words_once}
 use Rattle.xdg_lexicon.proofs.Stepping.{expanded_none, expanded_more, refused_tells, refused_only, all_expanded, expanded_only}
 use Rattle.xdg_lexicon.proofs.expanding.lexicon.Goals as goal
 use Rattle.xdg_facts.specs.Membership.{In}
