@@ -1,11 +1,11 @@
 -- The limits of entries.
-use Rattle.std.proofs.Common.{◌≡◌, ℕ, ◌-◌, ◌^◌, ◌<◌, ◌≤◌, List, [], length, get_or, map, Option, None, Some, Err, false, refl, sym, ap, ◌∙◌, subst, inr, arith}
+use Rattle.std.proofs.Common.{◌≡◌, ℕ, ◌-◌, ◌^◌, ◌<◌, ◌≤◌, List, [], length, get_or, map, Option, None, Some, Err, refl, sym, ap, ◌∙◌, subst, inr, arith}
 use Rattle.std.proofs.lemmas.List.{length-map, get_or-map}
 use Rattle.xdg_base.specs.declared.faults.Cause.TheVariants as causes
 use Rattle.xdg_base.specs.declared.faults.Fault.{Fault}
 use Rattle.xdg_base.specs.declared.faults.Stop.{Stop}
 use Rattle.xdg_base.specs.declared.faults.Stop.TheVariants as stops
-use Rattle.xdg_names.specs.Texts.{has_text, place_of}
+use Rattle.xdg_names.specs.Texts.{place_of}
 use Rattle.xdg_names.proofs.Texts.{place_of-Some, place_of-None}
 use Rattle.xdg_types.specs.Table.{Table, IsTable}
 use Rattle.xdg_packed.specs.Lexicon.{Lexicon, number, places_of, word_of}
@@ -19,9 +19,6 @@ use Rattle.xdg_lexicon.specs.Steps.{KeepsLimits}
 
 -- ---- entries of words
 
-no_entry : (said : List (List ℕ)) (word : List ℕ) → has_text said word ≡ false → length (places_of said word) ≡ 0
-no_entry said word none = sym (length-map (places_of said word) number) ∙ ap (λ l. length l) (numbers_none said word none)
-
 pub few_scanned : (lexicon : Lexicon) → ((n : ℕ) → n < length lexicon.entries → count_at lexicon n ≤ 1024) → (word : List ℕ) → count_of lexicon.dim lexicon.field lexicon.entries word ≤ 1024
 few_scanned lexicon few word = by (place_of said word) refl
   where
@@ -29,7 +26,7 @@ few_scanned lexicon few word = by (place_of said word) refl
     said = map (word_of lexicon.dim lexicon.field) lexicon.entries
 
     by : (found : Option ℕ) → place_of said word ≡ found → count_of lexicon.dim lexicon.field lexicon.entries word ≤ 1024
-    by None e = (let none = no_entry said word (place_of-None said word e) in omega (arith, none))
+    by None e = (let none : length (places_of said word) ≡ 0 = sym (length-map (places_of said word) number) ∙ ap (λ l. length l) (numbers_none said word (place_of-None said word e)) in omega (arith, none))
     by (Some place) e =
         let at = place_of-Some said word place e in
         let within : place < length lexicon.entries = subst (λ n. place < n) (length-map lexicon.entries (word_of lexicon.dim lexicon.field)) at.0 in

@@ -59,23 +59,17 @@ module _ (checked : Parts) (scope : Scope) (items : List Expr) where
     right = record { said = h.right.said; bound = h.right.bound; given = h.right.given };
   }
 
-or_tree : (kind : ExprKind) (es items : List Expr) → kind ≡ v.Or es → items ≡ es → body kind ≡ either (trees items)
-or_tree kind es items is same = ap body is ∙ body_or es ∙ ap (λ l. either (trees l)) (sym same)
-
-and_tree : (kind : ExprKind) (es items : List Expr) → kind ≡ v.And es → items ≡ es → body kind ≡ both (trees items)
-and_tree kind es items is same = ap body is ∙ body_and es ∙ ap (λ l. both (trees l)) (sym same)
-
 -- ---- going in
 
 module _ (checked : Parts) (whole : Body) (frames : List Frame) (scope : Scope) (kind : ExprKind) (es items : List Expr) (same : items ≡ es) (h : Enters checked whole frames scope (body kind)) where
   pub or_parts : kind ≡ v.Or es → Stands checked scope (either (trees items)) × IsOpen checked whole frames scope (either (trees items))
   or_parts is =
-      let tree = or_tree kind es items is same in
+      let tree = ap body is ∙ body_or es ∙ ap (λ l. either (trees l)) (sym same) in
       (subst (Stands checked scope) tree h.stands, subst (IsOpen checked whole frames scope) tree h.around)
 
   pub and_parts : kind ≡ v.And es → Stands checked scope (either (trees items)) × IsOpen checked whole frames scope (both (trees items))
   and_parts is =
-      let tree = and_tree kind es items is same in
+      let tree = ap body is ∙ body_and es ∙ ap (λ l. both (trees l)) (sym same) in
       (parts_stand checked scope items (subst (Stands checked scope) tree h.stands), subst (IsOpen checked whole frames scope) tree h.around)
 
   pub first_listed : (e : Expr) (listed : List Partial) → kind ≡ v.Or es → 0 < length items → e ≡ get_or items 0 e → listed ≡ [] → IsListing checked scope items 0 listed (body e.kind)

@@ -13,7 +13,7 @@ use Rattle.xdg_lexicon.specs.Partial.{Partial}
 use Rattle.xdg_lexicon.specs.Denotes.{Denotes}
 use Rattle.xdg_packed.specs.Entries.{IsWordPlace, count_of}
 use Rattle.xdg_lexicon.specs.Sources.{Source, HasNumber}
-use Rattle.xdg_lexicon.specs.Lexicon.{whole, AreWhole, Adds, SoFar, nothing_yet, IsWithinLimits, IsCounted, IsExpanded, Expands, ExpandsAll, no_more, one_more, IsTooMany, alone, together, IsCrowded, OffendsAt, many_uses, many_combos, unsaid, many_entries, many_of_word, Refuses, reaching}
+use Rattle.xdg_lexicon.specs.Lexicon.{whole, AreWhole, Adds, SoFar, nothing_yet, IsWithinLimits, IsExpanded, Expands, ExpandsAll, no_more, one_more, IsTooMany, alone, together, IsCrowded, OffendsAt, many_uses, many_combos, unsaid, many_entries, many_of_word, Refuses, reaching}
 use Rattle.xdg_lexicon.specs.Steps.{Once, AllOnce, OnceCounted}
 use Rattle.xdg_lexicon.specs.Answers.{IsAnswer}
 use Rattle.xdg_lexicon.proofs.Adding.{same_added, same_whole, none_lacks}
@@ -61,12 +61,6 @@ module _ (source : Source) (definite : IsDefinite source) where
   -- ---- one `defentry`
 
   module _ (before : SoFar) (b : Body) where
-    same_uses_of : (x y : IsCounted source before b) → x.uses_of ≡ y.uses_of
-    same_uses_of x y = definite.uses_once b x.uses_of y.uses_of x.has_uses y.has_uses
-
-    same_combos_of : (x y : IsCounted source before b) → x.combos_of ≡ y.combos_of
-    same_combos_of x y = definite.combos_once b x.combos_of y.combos_of x.has_combos y.has_combos
-
     same_all : (all others : List Entry) → Once source b → IsExpanded source before b all → IsExpanded source before b others → all ≡ others
     same_all all others once x y =
         let ms = once x.members y.members x.denotes y.denotes in
@@ -86,8 +80,8 @@ module _ (source : Source) (definite : IsDefinite source) where
     pub expands_same : (x y : SoFar) → Once source b → Expands source before b x → Expands source before b y → x ≡ y
     expands_same x y once one other =
         same_so_far x y
-        (one.uses_are ∙ ap (λ n. before.uses + n) (same_uses_of one.counted other.counted) ∙ sym other.uses_are)
-        (one.combos_are ∙ ap (λ n. before.combos + n) (same_combos_of one.counted other.counted) ∙ sym other.combos_are)
+        (one.uses_are ∙ ap (λ n. before.uses + n) (definite.uses_once b one.counted.uses_of other.counted.uses_of one.counted.has_uses other.counted.has_uses) ∙ sym other.uses_are)
+        (one.combos_are ∙ ap (λ n. before.combos + n) (definite.combos_once b one.counted.combos_of other.counted.combos_of one.counted.has_combos other.counted.has_combos) ∙ sym other.combos_are)
         (same_all x.entries y.entries once one.expanded other.expanded)
       where
         same_so_far : (s t : SoFar) → s.uses ≡ t.uses → s.combos ≡ t.combos → s.entries ≡ t.entries → s ≡ t

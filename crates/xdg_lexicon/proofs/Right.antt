@@ -6,7 +6,7 @@ use Rattle.std.proofs.lemmas.List.{at_drop_more, drop_all, append_assoc, append-
 use Rattle.xdg_domain.specs.declared.types.Ty.{Ty}
 use Rattle.xdg_domain.specs.declared.values.Value.TheVariants as v
 use Rattle.xdg_domain.specs.Defaults.{record_of_defaults}
-use Rattle.xdg_domain.specs.Shapes.{fields, Fields, field_then, shape, fields_of, names_of, IsType, AreTypes}
+use Rattle.xdg_domain.specs.Shapes.{fields, Fields, field_then, shape, fields_of, names_of, AreTypes}
 use Rattle.xdg_domain.specs.Valencies.{KeysRise}
 use Rattle.xdg_domain.specs.Values.{IsIn}
 use Rattle.xdg_domain.specs.Joined.{behind, fields_in}
@@ -35,9 +35,6 @@ names_are : (fs : List (List ℕ × Ty)) → names_of (fields_of (typed fs)) ≡
 names_are [] = refl
 names_are (f ∷ fs) = ap (λ l. f.0 ∷ l) (names_are fs)
 
-record_is_type : (dim : DimType) → KeepsDim dim → IsType (record_type dim)
-record_is_type dim keeps = (subst Differ (sym (names_are dim.fields)) keeps.fields, types_of (typed dim.fields) keeps.features)
-
 -- ---- records
 
 -- what is said of a dimension is right for its features
@@ -50,7 +47,7 @@ record_is_whole : (dim : DimType) (m all : Record) → KeepsDim dim → IsRecord
 record_is_whole dim m all keeps right made =
     let fs = fields_of (typed dim.fields) in
     let inside : fields_said (Some (v.Rec m)) ≡ m = ap filled.fields_in (v.outs-Rec m) in
-    filled_right (record_type dim) (record_is_type dim keeps) (Some (v.Rec m)) (subst (IsIn (fields fs)) (sym (v.outs-Rec m)) right) (v.Rec all)
+    filled_right (record_type dim) (subst Differ (sym (names_are dim.fields)) keeps.fields, types_of (typed dim.fields) keeps.features) (Some (v.Rec m)) (subst (IsIn (fields fs)) (sym (v.outs-Rec m)) right) (v.Rec all)
     (ap record_of_defaults (ap (filled_fields 0 fs) inside ∙ made))
 
 -- ---- entries

@@ -1,6 +1,6 @@
 -- Nothing is wrong where a body is denoted: in an entry, in each part of a body, and in the body of a class that is used.
 use Rattle.std.proofs.Common.{◌≡◌, inl, inr, ℕ, zero, suc, ◌<◌, List, [], ◌∷◌, length, map, get_or, refl, sym, ap, ◌∙◌, subst, arith}
-use Rattle.std.specs.Prelude.{Bool, true, false, bytes_eq, if◌then◌else◌, Option, None, Some, IfSome}
+use Rattle.std.specs.Prelude.{Bool, true, false, bytes_eq, if◌then◌else◌, Option, Some}
 use Rattle.std.proofs.lemmas.Bool.{true≢false, false_from_ne_true}
 use Rattle.xdg_ast.specs.declared.names.Name.{Name}
 use Rattle.xdg_ast.specs.declared.names.Pair.{Pair}
@@ -8,7 +8,7 @@ use Rattle.xdg_ast.specs.declared.expressions.ExprKind.{ExprKind}
 use Rattle.xdg_ast.specs.declared.expressions.ExprKind.TheVariants as v
 use Rattle.xdg_domain.specs.Shapes.{Shape, shape}
 use Rattle.xdg_domain.specs.declared.types.Ty.{Ty}
-use Rattle.xdg_types.specs.Table.{Table, typed, firsts, IsTable, KeepDims, KeepsDim, dim_named}
+use Rattle.xdg_types.specs.Table.{Table, typed, firsts, IsTable, dim_named}
 use Rattle.xdg_types.specs.declared.table.DimType.{DimType}
 use Rattle.xdg_packed.proofs.Laws.{if_some}
 use Rattle.xdg_terms.specs.Answers.{IsRight}
@@ -55,14 +55,12 @@ type_found fs name s differ h =
     let f = in_map (λ (x : List ℕ × Ty). (x.0, shape x.1)) fs (name, s) h in
     named_found (λ (x : List ℕ × Ty). x.0) (λ x. shape x.1) name (λ gs. type_named gs name) (λ _ _. refl) fs f.0 differ f.1.0 (ap (λ (p : List ℕ × Shape). p.0) f.1.1) ∙ ap (λ (p : List ℕ × Shape). Some p.1) f.1.1
 
-keeps_in : (dims : List DimType) (dim : DimType) → KeepDims dims → In dims dim → KeepsDim dim
-keeps_in dims dim keeps h = let at = in_index dims dim dim h in keeps_at dims at.0 dim keeps at.1.0 (sym at.1.1)
-
 -- the type of a feature of a dimension is found by their names
 feature_found : (table : Table) (dim : DimType) (name key : List ℕ) (s : Shape) → IsTable table → In table.dims dim → dim.name ≡ name → In (typed dim.fields) (key, s) → feature_shape table name key ≡ Some s
 feature_found table dim name key s keeps stands is has =
+    let at = in_index table.dims dim dim stands in
     ap (λ o. feature_in o key) (ap (dim_named table.dims) (sym is) ∙ named_found (λ (d : DimType). d.name) (λ d. d) dim.name (λ ds. dim_named ds dim.name) (λ _ _. refl) table.dims dim keeps.names stands refl)
-    ∙ type_found dim.fields key s (keeps_in table.dims dim keeps.dims stands).fields has
+    ∙ type_found dim.fields key s (keeps_at table.dims at.0 dim keeps.dims at.1.0 (sym at.1.1)).fields has
 
 -- ---- what a record says
 

@@ -40,14 +40,11 @@ text_said : (l : Value-F Value) → IsIn text l → IsTextIn l
 text_said (Value-F.Str t) is = tt
 text_said _ is = absurd is
 
-from_zero : (k : ℕ) → k ≡ 0 + k
-from_zero k = omega arith
-
 word_said : (dim : DimType) (m : Record) (field : ℕ) → slice_get (typed dim.fields) field ≡ Some (codes "word", text) → IsWhole dim m → IsText (said_at m field)
 word_said dim m field word whole =
     let filled : AreFilled 0 (fields_of (typed dim.fields)) m = subst (λ x. IsFilledIn (record_type dim) x) (v.outs-Rec m) whole.1 in
     let each : EachSaid (IsFieldOf (fields_of (typed dim.fields))) m = (subst (λ x. IsIn (record_type dim) x) (v.outs-Rec m) whole.0).1 in
-    let said : (x : Value) × (said_at m field ≡ Some x) = filled_at (typed dim.fields) 0 field field (codes "word", text) m (from_zero field) word filled in
+    let said : (x : Value) × (said_at m field ≡ Some x) = filled_at (typed dim.fields) 0 field field (codes "word", text) m (omega arith) word filled in
     let right : IsFieldOf (fields_of (typed dim.fields)) field said.0 = said_right (IsFieldOf (fields_of (typed dim.fields))) m field said.0 each said.1 in
     subst IsText (sym said.1) (text_said (out-Value said.0) (field_in (typed dim.fields) field (codes "word", text) said.0 word right))
 
