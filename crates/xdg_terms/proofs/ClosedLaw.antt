@@ -9,7 +9,6 @@ use Rattle.xdg_ast.specs.declared.terms.TermKind.TheVariants as k
 use Rattle.xdg_ast.specs.declared.terms.ElemKind.{ElemKind, out-ElemKind}
 use Rattle.xdg_ast.specs.declared.terms.ElemKind.TheVariants as e
 use Rattle.xdg_ast.specs.declared.terms.ElemKind.TheOpen.{TermKind-F, ElemKind-F}
-use Rattle.xdg_domain.specs.Shapes as d
 use Rattle.xdg_domain.specs.Shapes.{Shape, tuple, integer, text, set, iset, card, valency, mapping, fields, sizes}
 use Rattle.xdg_terms.specs.Forms.{Term, Card, Bindings, with_open, bound, bound_in, bound_to, bound_or, constant_of, constant_in, number_of, number_in, card_of, card_in, generator_of, generator_in, bracket_of, bracket_in, constants_of, brackets_of, counts_of, pairs_of, braces_in, all_of, then_also, plain_elem, bracketed_elem, counted_elem, keyed_in, keyed_elem}
 use Rattle.xdg_terms.specs.Offences.{is_some, has_form, has_set_form, OfSeen, OffendsIn}

@@ -1,5 +1,5 @@
 -- What is wrong in a term of the wanted form, told of its elements one by one.
-use Rattle.std.proofs.Common.{◌≡◌, ℕ, true, false, List, [], ◌∷◌, ◌++◌, length, Option, Some, None, refl, sym, ap, ap₂, ◌∙◌, eqb, eq-eqb}
+use Rattle.std.proofs.Common.{◌≡◌, ℕ, Bool, true, false, List, [], ◌∷◌, ◌++◌, length, Option, Some, None, refl, sym, ap, ap₂, ◌∙◌, eqb, eq-eqb}
 use Rattle.std.specs.List.{flat_map}
 use Rattle.std.proofs.lemmas.Bool.{ne_eqb, true≢false}
 use Rattle.std.proofs.lemmas.List.Folds.{flat_map-map}
@@ -22,7 +22,7 @@ use Rattle.xdg_terms.specs.Forms.{Term, Card, Look, bracket_of, bracket_in, all_
 use Rattle.xdg_terms.specs.Offences.{is_some, gen_names}
 use Rattle.xdg_terms.specs.Faults as spec
 use Rattle.xdg_terms.proofs.Right.{told}
-use Rattle.xdg_terms.proofs.Read.{so_many, split, ended}
+use Rattle.xdg_terms.proofs.Read.{split, ended}
 
 -- ---- layers
 
@@ -88,8 +88,12 @@ pub plain_is : (l : ElemKind-F ElemKind TermKind) (x : Name) → plain_in l ≡ 
 plain_is (ElemKind-F.ElemKind::Const name) x h = let e : name ≡ x = cc in ap ElemKind-F.ElemKind::Const e
 plain_is l x h = absurd (cc)
 
+pub so_many : (b : Bool) (names xs : List Name) → (if b then Some names else None) ≡ Some xs → names ≡ xs
+so_many true names xs h = cc
+so_many false names xs h = absurd (cc)
+
 pub bracketed_is : (n : ℕ) (l : ElemKind-F ElemKind TermKind) (x : List Name) → bracketed_in n l ≡ Some x → l ≡ ElemKind-F.ElemKind::Tuple x
-bracketed_is n (ElemKind-F.ElemKind::Tuple names) x h = ap ElemKind-F.ElemKind::Tuple (so_many (eqb (length names) n) n names x refl h).0
+bracketed_is n (ElemKind-F.ElemKind::Tuple names) x h = ap ElemKind-F.ElemKind::Tuple (so_many (eqb (length names) n) names x h)
 bracketed_is n l x h = absurd (cc)
 
 pub counted_is : (l : ElemKind-F ElemKind TermKind) (x : Name × Card) → counted_in l ≡ Some x → l ≡ ElemKind-F.Count x.0 x.1

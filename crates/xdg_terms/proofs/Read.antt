@@ -16,7 +16,7 @@ use Rattle.xdg_facts.specs.Rises.{has}
 
 -- ---- tuples
 
-pub so_many : (b : Bool) (wanted : ℕ) (names got : List Name) → (length names == wanted) ≡ b → (if b then Some names else None) ≡ Some got → (names ≡ got) × (length got ≡ wanted)
+so_many : (b : Bool) (wanted : ℕ) (names got : List Name) → (length names == wanted) ≡ b → (if b then Some names else None) ≡ Some got → (names ≡ got) × (length got ≡ wanted)
 so_many true wanted names got e h = let same : names ≡ got = cc in (same, ap length (sym same) ∙ eqb-true (length names) wanted e)
 so_many false wanted names got e h = absurd (cc)
 
