@@ -9,23 +9,12 @@ use Rattle.xdg_packed.specs.Spelling.{number, keyed, spelling}
 use Rattle.xdg_packed.proofs.Prefixes.{inner, spelling_is}
 use Rattle.xdg_packed.proofs.Writing.{end_written}
 
--- the layer of a value tells its spelling
-from_layer : (x : Value) (l : Value-F Value) (before after : List ℕ) → out-Value x ≡ l → after ≡ before ++ inner l → after ≡ before ++ spelling x
-from_layer x l before after is e = e ∙ ap (λ z. before ++ z) (sym (spelling_is x ∙ ap inner is))
-
--- a mark and what follows it
-both : {T E : Type 0} (r : Result T E) (x : Value) (l : Value-F Value) (before marked after mark content : List ℕ) → out-Value x ≡ l → inner l ≡ mark ++ content → marked ≡ before ++ mark
-    → OnOk r (after ≡ marked ++ content) → OnOk r (after ≡ before ++ spelling x)
-both r x l before marked after mark content is whole m h =
-    on_ok_weaker r
-    (λ e. from_layer x l before after is (e ∙ ap (λ z. z ++ content) m ∙ append_assoc before mark content ∙ ap (λ z. before ++ z) (sym whole)))
-    h
-
 -- a variant's mark and what it holds
 pub written : {A T E : Type 0} (make : A → Value) (layer : A → Value-F Value) (mark : List ℕ) (spell : A → List ℕ) → ((held : A) → out-Value (make held) ≡ layer held) → ((held : A) → inner (layer held) ≡ mark ++ spell held)
     → (r : Result T E) (x : Value) (held given : A) (before marked after : List ℕ) → x ≡ make held → given ≡ held → marked ≡ before ++ mark → OnOk r (after ≡ marked ++ spell given) → OnOk r (after ≡ before ++ spelling x)
 written make layer mark spell outs whole r x held given before marked after is same m h =
-    both r x (layer held) before marked after mark (spell given) (ap out-Value is ∙ outs held) (whole held ∙ ap (λ z. mark ++ spell z) (sym same)) m h
+    let spelled : spelling x ≡ mark ++ spell given = spelling_is x ∙ ap inner (ap out-Value is ∙ outs held) ∙ whole held ∙ ap (λ z. mark ++ spell z) (sym same) in
+    on_ok_weaker r (λ e. e ∙ ap (λ z. z ++ spell given) m ∙ append_assoc before mark (spell given) ∙ ap (λ z. before ++ z) (sym spelled)) h
 
 -- the semicolon after the last entry
 pub entries_end : {T E : Type 0} (r : Result T E) (entries : List (ℕ × Value)) (start now after : List ℕ) (i : ℕ) → length entries ≤ i → now ++ keyed spelling (drop i entries) ≡ start ++ keyed spelling entries
