@@ -1,11 +1,6 @@
 -- When a box is closed for a bound, and that it stays so while it loses no entries and no edges.
-use Rattle.std.proofs.Common.{◌≡◌, ℕ, ◌+◌, ◌<◌, inl, inr, zero, suc, Bool, ◌&&◌, cond, List, [], length, Some, refl, sym, ap, ap₂, ◌∙◌, arith, subst}
-use Rattle.std.specs.Prelude.{Contains, not, slice_index_or}
+use Rattle.std.proofs.Common.{◌≡◌, ℕ, ◌<◌, inl, inr, zero, suc, Bool, List, refl, sym, arith, subst}
 use Rattle.std.specs.Int.{bit_at}
-use Rattle.std.specs.List.{sum_by}
-use Rattle.std.proofs.lemmas.Bool.{cases_Bool, false≢true}
-use Rattle.std.proofs.lemmas.List.Elements.{All-weaker, All-contains_itself}
-use Rattle.xdg_problem.specs.declared.analysis.Edge.{Edge}
 use Rattle.xdg_problem.specs.declared.parts.Group.{Group}
 use Rattle.xdg_problem.specs.declared.parts.Parts.{Parts}
 use Rattle.xdg_problem.specs.declared.parts.Principle.{Principle}
@@ -13,21 +8,21 @@ use Rattle.xdg_problem.specs.declared.parts.Principle.TheVariants as principles
 use Rattle.xdg_problem.specs.Arguments.{first_dim, label_count}
 use Rattle.xdg_problem.specs.Boxes.{Has, IsBox, LiesIn, entry_decision, edge_decision}
 use Rattle.xdg_problem.specs.Costs.{CostLists}
-use Rattle.xdg_problem.specs.Places.{nodes, places}
+use Rattle.xdg_problem.specs.Places.{nodes}
 use Rattle.xdg_problem.specs.Problems.{IsProblem}
 use Rattle.xdg_problem.specs.Tests.{Test, IsTestOf, linked}
 use Rattle.xdg_problem.specs.Vectors.{shape}
-use Rattle.xdg_problem.proofs.FilterFacts.{filter_alike}
 use Rattle.xdg_problem.proofs.PlaceOrder.{is_place}
 use Rattle.xdg_problem.proofs.PlacePlans.{dim_within}
 use Rattle.xdg_propcore.specs.Kinds.{kind_of, edge_kind}
 use Rattle.xdg_propcore.specs.Losses.{LosesOutside}
 use Rattle.xdg_propcore.specs.Uses.{IsClosedBy, StandsFor, use_at}
 use Rattle.xdg_propcore.proofs.DecisionKinds.{kind_of_entry, kind_of_edge}
-use Rattle.xdg_rules.specs.Bounds.{least_below, with_least, or_nothing, candidate_cost, node_cost, edge_cost, least_cost, BoundReached, BoundPlace}
-use Rattle.xdg_rules.specs.Rules.{has, FailsTest, TakesBy, IsClosedFor}
+use Rattle.xdg_rules.specs.Bounds.{BoundReached, BoundPlace}
+use Rattle.xdg_rules.specs.Rules.{FailsTest, TakesBy, IsClosedFor}
 use Rattle.xdg_rules.proofs.Sizes.{some_value}
-use Rattle.xdg_rules.proofs.Summing.{below_same}
+use Rattle.xdg_rules.proofs.Costing.{CostsLie, cost_more}
+use Rattle.xdg_propcore.proofs.Losing.{kept_or_lost}
 use Rattle.xdg_engine.specs.Bounding.{HoldsBound, bound_stands}
 use Rattle.xdg_engine.specs.declared.cost_prop.CostProp.{CostProp}
 
@@ -60,55 +55,33 @@ edge_bit (suc (suc (suc (suc (suc (suc zero)))))) l = refl
 edge_bit (suc (suc (suc (suc (suc (suc (suc zero))))))) l = refl
 edge_bit (suc (suc (suc (suc (suc (suc (suc (suc dim)))))))) l = absurd (omega (arith, l))
 
-least_like : (few many : ℕ → Bool) (cost : ℕ → ℕ) (k : ℕ) → ((c : ℕ) → few c ≡ many c) → least_below few cost k ≡ least_below many cost k
-least_like few many cost zero same = refl
-least_like few many cost (suc k) same = ap₂ (λ b o. cond b (Some (with_least (cost k) o)) o) (same k) (least_like few many cost k same)
-
 module _ (parts : Parts) (problem : IsProblem parts) (old new : List (List Bool)) (inside : LiesIn new old) (outside : LosesOutside parts 87381 old new) where
-  same_has : (d v : ℕ) → bit_at 87381 (kind_of parts d) ≡ 1 → has new d v ≡ has old d v
-  same_has d v woken = elim (cases_Bool (has new d v)) [
-    | inl there ↦ there ∙ sym (inside d v there)
-    | inr gone ↦ elim (cases_Bool (has old d v)) [
-      | inl before ↦ absurd (let quiet = outside d v (before, λ there. false≢true (sym gone ∙ there)) in omega (arith, woken, quiet))
-      | inr never ↦ gone ∙ sym never
-    ]
-  ]
+  stays : (d v : ℕ) → bit_at 87381 (kind_of parts d) ≡ 1 → Has old d v → Has new d v
+  stays d v woken = kept_or_lost old new d v (λ lost. (let quiet = outside d v lost in omega (arith, woken, quiet)))
 
-  same_entry : (node c : ℕ) → node < nodes parts → has new (entry_decision node) c ≡ has old (entry_decision node) c
-  same_entry node c within =
-      same_has (entry_decision node) c
-      (subst (λ k. bit_at 87381 k ≡ 1) (sym (kind_of_entry parts node (let each = problem.candidates_each in omega (arith, each, within)))) refl)
-
-  same_edge_values : (e : Edge) → Contains (places parts) e → (v : ℕ) → has new (edge_decision parts e) v ≡ has old (edge_decision parts e) v
-  same_edge_values e place v =
-      let dim_in = dim_within parts e (is_place parts e place) in
-      let few = problem.dims_most in
-      same_has (edge_decision parts e) v (subst (λ k. bit_at 87381 k ≡ 1) (sym (kind_of_edge parts e place)) (edge_bit e.dim.0 (omega (arith, dim_in, few))))
-
-  pub same_cost : (costs : CostLists) → least_cost parts costs new ≡ least_cost parts costs old
-  same_cost costs = ap₂ (λ a b. a + b)
-      (below_same (node_cost parts costs new) (node_cost parts costs old) (nodes parts)
-      (λ node within. ap or_nothing
-      (least_like (has new (entry_decision node)) (has old (entry_decision node)) (candidate_cost parts costs node)
-      (length (slice_index_or parts.candidates node [])) (λ c. same_entry node c within))))
-      (ap (sum_by (edge_cost costs)) (filter_alike (λ e. has new (edge_decision parts e) 0 && not (has new (edge_decision parts e) 1)) (λ e. has old (edge_decision parts e) 0 && not (has old (edge_decision parts e) 1)) (places parts)
-      (All-weaker (Contains (places parts)) _ (λ e place. ap₂ (λ a b. a && not b) (same_edge_values e place 0) (same_edge_values e place 1)) (places parts) (All-contains_itself (places parts)))))
+  costs_stay : CostsLie parts old new
+  costs_stay = record {
+    entries = λ node c within. stays (entry_decision node) c
+        (subst (λ k. bit_at 87381 k ≡ 1) (sym (kind_of_entry parts node (let each = problem.candidates_each in omega (arith, each, within)))) refl);
+    edges = λ dim e on v. stays (edge_decision parts e) v (subst (λ k. bit_at 87381 k ≡ 1) (sym (kind_of_edge parts e on.0))
+        (edge_bit e.dim.0 (let dim_in = dim_within parts e (is_place parts e on.0) in let few = problem.dims_most in omega (arith, dim_in, few))));
+  }
 
   closed_still : (group : Group) (p : Principle) (mine : ℕ) (entries labels : List (List ℕ)) → IsBox (shape parts) old → HoldsBound p parts mine entries labels
       → group.principle ≡ p → IsClosedFor parts group old → IsClosedFor parts group new
   closed_still group (principles.Bound costs bound) mine entries labels old_is holds is closed =
-      let same = same_cost costs in
+      let more = cost_more parts costs old new problem old_is costs_stay in
       let some = some_value parts old problem old_is in
       let takes : (d v : ℕ) → Has old d v → TakesBy (principles.Bound costs bound) parts group old d v
       → ⊥ = λ d v remains by. closed d v remains (inr (subst (λ q. TakesBy q parts group old d v) (sym is) by)) in
       closed_for_bound parts group new costs bound is
-      (λ reached. takes 0 some.0 some.1 (inl (omega (arith, reached, same))))
+      (λ reached. takes 0 some.0 some.1 (inl (omega (arith, reached, more))))
       (λ d v remains rule. takes d v (inside d v remains) (inr (record {
         place = rule.place;
         is = rule.is;
         says = rule.says;
         free = inside (edge_decision parts rule.place) 1 rule.free;
-        reaches = (let reaches = rule.reaches in omega (arith, reaches, same));
+        reaches = (let reaches = rule.reaches in omega (arith, reaches, more));
       })))
   closed_still group p mine entries labels old_is holds is closed = absurd holds
 

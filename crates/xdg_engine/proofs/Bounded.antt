@@ -14,7 +14,7 @@ use Rattle.xdg_graph.specs.Edges.{edge_labels}
 use Rattle.xdg_graph.proofs.Labelled.{label_below}
 use Rattle.xdg_rules.specs.Bounds.{least_cost}
 use Rattle.xdg_rules.specs.Rules.{TakesBy, Takes, IsClosedFor}
-use Rattle.xdg_rules.proofs.Costing.{cost_more}
+use Rattle.xdg_rules.proofs.Costing.{costs_lie, cost_more}
 use Rattle.xdg_engine.specs.CostRows.{AreLabelCosts}
 use Rattle.xdg_engine.specs.Freeing.{Dear, TakesFree, OfDims}
 use Rattle.xdg_engine.proofs.BoundStaying.{closed_for_bound}
@@ -31,7 +31,7 @@ module _ (parts : Parts) (group : Group) (costs : CostLists) (bound : ℕ) (prob
         is = place_is parts (edge dim m label x) place;
         says = (refl, refl);
         free = absent;
-        reaches = (let more = cost_more parts costs box start problem box_is lies in let cost = costs_are dim label few small in omega (arith, more, cost, dear, least_is, room_is));
+        reaches = (let more = cost_more parts costs box start problem box_is (costs_lie parts box start lies) in let cost = costs_are dim label few small in omega (arith, more, cost, dear, least_is, room_is));
       }))
 
   -- where no dear edge is left open and the bound isn't reached, the box is closed

@@ -54,48 +54,39 @@ noted_end which parts box dim k table is all noted = noted_all (IsDaughter (edge
 pub mothers_end : (which : Which) (parts : Parts) (box : List (List Bool)) (dim k : ℕ) (table : List (List ℕ)) → IsBox (shape parts) box → nodes parts ≤ k → Noted (IsMother (edges_of which parts box dim)) k table → (a b : ℕ) → In table a b ↔ IsDaughter (edges_of which parts box dim) b a
 mothers_end which parts box dim k table is all noted = noted_all (IsMother (edges_of which parts box dim)) k table noted (λ a b (j, e, within, at, (m, d)). (let stands = (which_exact which parts box dim e is).0 (j, within, at) in let l = (is_place parts e stands.0.0).daughter in omega (arith, l, d, all)))
 
--- ---- paths
+-- ---- paths, downwards and upwards
 
-one_above : (edges : List Edge) (table : List (List ℕ)) → ((a b : ℕ) → In table a b ↔ IsDaughter edges a b) → (a b : ℕ) → In table a b → Above edges a b
-one_above edges table is a b h = (let (k, e, l, at, (m, d)) = (is a b).0 h in subst (λ x. Above edges x b) m (subst (λ x. Above edges e.mother.0 x) d (above_edge edges e (k, l, at))))
+-- what each step of a table is, and what two such come to, each entry of its closure is
+along_by : (R : ℕ → ℕ → Type 0) (table : List (List ℕ)) → ((a b : ℕ) → In table a b → R a b) → ((a n b : ℕ) → R a n → R n b → R a b) → (between : List ℕ) (a b : ℕ) → Along table a between b → R a b
+along_by R table one both [] a b h = one a b h
+along_by R table one both (n ∷ between) a b h = both a n b (one a n h.0) (along_by R table one both between n b h.1)
 
-along_above : (edges : List Edge) (table : List (List ℕ)) → ((a b : ℕ) → In table a b ↔ IsDaughter edges a b) → (between : List ℕ) (a b : ℕ) → Along table a between b → Above edges a b
-along_above edges table is [] a b h = one_above edges table is a b h
-along_above edges table is (n ∷ between) a b h = above_trans edges a n b (one_above edges table is a n h.0) (along_above edges table is between n b h.1)
+module _ (which : Which) (parts : Parts) (box : List (List Bool)) (dim size : ℕ) (next far : List (List ℕ)) (box_is : IsBox (shape parts) box) (all : nodes parts ≤ size) where
+  abbrev edges : List Edge
+  edges = edges_of which parts box dim
 
--- the nodes below a node are what the closure of the table of daughters has for it
-pub closure_exact : (which : Which) (parts : Parts) (box : List (List Bool)) (dim size : ℕ) (next far : List (List ℕ)) → IsBox (shape parts) box → nodes parts ≤ size → ((a b : ℕ) → In next a b ↔ IsDaughter (edges_of which parts box dim) a b) → IsClosure size next far → (a b : ℕ) → In far a b ↔ Above (edges_of which parts box dim) a b
-closure_exact which parts box dim size next far box_is all is c a b =
-    let edges = edges_of which parts box dim in (
-      λ h. (let p = c.along a b h in along_above edges next is p.0 a b p.1),
-      λ above. closed_above edges a b (λ x. In far a x) (λ e stands reach.
-          let place = is_place parts e ((which_exact which parts box dim e box_is).0 stands).0.0 in
-          let here : In far e.mother.0 e.daughter.0 = c.contains e.mother.0 e.daughter.0 ((is e.mother.0 e.daughter.0).1 (any_of (λ f. (f.mother.0 ≡ e.mother.0) × (f.daughter.0 ≡ e.daughter.0)) edges e stands (refl, refl))) in
-          elim reach [
-            | inl s ↦ subst (λ x. In far x e.daughter.0) s here
-            | inr r ↦ c.through a e.mother.0 e.daughter.0 (let m = place.mother in omega (arith, m, all)) r here
-          ]) above,
-    )
+  one_above : (a b : ℕ) → IsDaughter edges a b → Above edges a b
+  one_above a b (k, e, l, at, (m, d)) = subst (λ x. Above edges x b) m (subst (λ x. Above edges e.mother.0 x) d (above_edge edges e (k, l, at)))
 
--- ---- paths upwards
+  -- what has each edge, and goes on through each node, has what is above
+  above_by : (R : ℕ → ℕ → Type 0) → ((e : Edge) → IsDaughter edges e.mother.0 e.daughter.0 → R e.mother.0 e.daughter.0) → ((a n b : ℕ) → n < size → R a n → R n b → R a b) → (a b : ℕ) → Above edges a b → R a b
+  above_by R one both a b = closed_above edges a b (R a) (λ e stands reach.
+      let here = one e (any_of (λ f. (f.mother.0 ≡ e.mother.0) × (f.daughter.0 ≡ e.daughter.0)) edges e stands (refl, refl)) in
+      elim reach [
+        | inl same ↦ subst (λ x. R x e.daughter.0) same here
+        | inr far ↦ both a e.mother.0 e.daughter.0 (let m = (is_place parts e ((which_exact which parts box dim e box_is).0 stands).0.0).mother in omega (arith, m, all)) far here
+      ])
 
-one_over : (edges : List Edge) (table : List (List ℕ)) → ((a b : ℕ) → In table a b ↔ IsDaughter edges b a) → (a b : ℕ) → In table a b → Above edges b a
-one_over edges table is a b h = (let (k, e, l, at, (m, d)) = (is a b).0 h in subst (λ x. Above edges x a) m (subst (λ x. Above edges e.mother.0 x) d (above_edge edges e (k, l, at))))
+  -- the nodes below a node are what the closure of the table of daughters has for it
+  pub closure_exact : ((a b : ℕ) → In next a b ↔ IsDaughter edges a b) → IsClosure size next far → (a b : ℕ) → In far a b ↔ Above edges a b
+  closure_exact is c a b = (
+    λ h. (let p = c.along a b h in along_by (Above edges) next (λ x y i. one_above x y ((is x y).0 i)) (above_trans edges) p.0 a b p.1),
+    above_by (In far) (λ e d. c.contains e.mother.0 e.daughter.0 ((is e.mother.0 e.daughter.0).1 d)) c.through a b,
+  )
 
-along_over : (edges : List Edge) (table : List (List ℕ)) → ((a b : ℕ) → In table a b ↔ IsDaughter edges b a) → (between : List ℕ) (a b : ℕ) → Along table a between b → Above edges b a
-along_over edges table is [] a b h = one_over edges table is a b h
-along_over edges table is (n ∷ between) a b h = above_trans edges b n a (along_over edges table is between n b h.1) (one_over edges table is a n h.0)
-
--- the nodes above a node are what the closure of the table of mothers has for it
-pub ancestors_exact : (which : Which) (parts : Parts) (box : List (List Bool)) (dim size : ℕ) (next far : List (List ℕ)) → IsBox (shape parts) box → nodes parts ≤ size → ((a b : ℕ) → In next a b ↔ IsDaughter (edges_of which parts box dim) b a) → IsClosure size next far → (a b : ℕ) → In far a b ↔ Above (edges_of which parts box dim) b a
-ancestors_exact which parts box dim size next far box_is all is c a b =
-    let edges = edges_of which parts box dim in (
-      λ h. (let p = c.along a b h in along_over edges next is p.0 a b p.1),
-      λ above. closed_above edges b a (λ x. In far x b) (λ e stands reach.
-          let place = is_place parts e ((which_exact which parts box dim e box_is).0 stands).0.0 in
-          let here : In far e.daughter.0 e.mother.0 = c.contains e.daughter.0 e.mother.0 ((is e.daughter.0 e.mother.0).1 (any_of (λ f. (f.mother.0 ≡ e.mother.0) × (f.daughter.0 ≡ e.daughter.0)) edges e stands (refl, refl))) in
-          elim reach [
-            | inl s ↦ subst (λ x. In far e.daughter.0 x) s here
-            | inr r ↦ c.through e.daughter.0 e.mother.0 b (let m = place.mother in omega (arith, m, all)) here r
-          ]) above,
-    )
+  -- the nodes above a node are what the closure of the table of mothers has for it
+  pub ancestors_exact : ((a b : ℕ) → In next a b ↔ IsDaughter edges b a) → IsClosure size next far → (a b : ℕ) → In far a b ↔ Above edges b a
+  ancestors_exact is c a b = (
+    λ h. (let p = c.along a b h in along_by (λ x y. Above edges y x) next (λ x y i. one_above y x ((is x y).0 i)) (λ x n y up on. above_trans edges y n x on up) p.0 a b p.1),
+    above_by (λ x y. In far y x) (λ e d. c.contains e.daughter.0 e.mother.0 ((is e.daughter.0 e.mother.0).1 d)) (λ x n y within up on. c.through y n x within on up) b a,
+  )

@@ -1,6 +1,6 @@
 -- Places and nodes, one after another.
-use Rattle.std.proofs.Common.{◌≡◌, ℕ, ◌<◌, ◌≤◌, inl, inr, Bool, true, false, List, [], sym, ◌∙◌, arith, subst}
-use Rattle.std.proofs.lemmas.Bool.{cases_Bool, cases_lt}
+use Rattle.std.proofs.Common.{◌≡◌, ◌≢◌, ℕ, ◌<◌, ◌≤◌, inl, inr, Bool, List, [], refl, sym, ◌∙◌, arith, subst}
+use Rattle.std.proofs.lemmas.Bool.{cases_lt}
 use Rattle.xdg_problem.specs.declared.analysis.Edge.{Edge}
 use Rattle.xdg_problem.specs.declared.parts.Group.{Group}
 use Rattle.xdg_problem.specs.declared.parts.Parts.{Parts}
@@ -19,7 +19,9 @@ use Rattle.xdg_propcore.specs.Sweeps.{Sweeps}
 use Rattle.xdg_pagree.specs.Family.{IsOfPlaces}
 use Rattle.xdg_pagree.specs.Places.{PlaceAsks, PlaceLacks, IsDoneAt, IsLabelDone, AreLabelsDone, IsNodeDone, AreNodesDone}
 use Rattle.xdg_pagree.specs.Untouched.{AreOthersDoneAt}
-use Rattle.xdg_propcore.proofs.Turns.{AreDone}
+use Rattle.xdg_propcore.proofs.Sweeping.{sweeps_skip}
+use Rattle.xdg_propcore.proofs.Turns.{AreDone, turns_end}
+use Rattle.xdg_problem.proofs.Edges.{edge_equal}
 use Rattle.xdg_facts.specs.Rises.{has}
 
 -- ---- daughters
@@ -37,20 +39,12 @@ lacks_present principles.Government parts group box e d v lacks has = elim lacks
 lacks_present p parts group box e d v lacks has = absurd lacks
 
 pub daughters_last : (group : Group) (dim u l : ℕ) (first : List ℕ) (p : Progress) (old : State) (q : Progress) (new : State) → dim ≡ first_dim group → (IsQuiet p → AreOthersDoneAt old.parts group dim u l first old.now) → Sweeps group (AreDone (λ v. IsDoneAt old.parts group (edge dim u l v)) first []) p old q new → Sweeps group (IsLabelDone old.parts group u l) p old q new
-daughters_last group dim u l first p old q new dim_is others a = record {
-  goes = a.goes;
-  known = a.known;
-  done = λ quiet place on mother_is label_is.
-      let w : ℕ = place.daughter.0 in
-      let is = is_place old.parts place on.0 in
-      let d_is : place.dim.0 ≡ dim = on.1 ∙ sym dim_is in
-      let before = a.goes.quiet quiet in
-      let here : IsDoneAt old.parts group (edge dim u l w) new.now = elim (cases_Bool (has first w)) [
-        | inl there ↦ a.done quiet w there (λ h. (let z : false ≡ true = h in cc))
-        | inr not ↦ subst (IsDoneAt old.parts group (edge dim u l w)) (sym before.1) (others before.0 w is.daughter (λ e. is.differ (mother_is ∙ e)) (λ there. (let z : true ≡ false = sym there ∙ not in cc)))
-      ] in
-      subst (λ k. IsDoneAt old.parts group (edge k place.mother.0 place.label.0 w) new.now) (sym d_is) (subst (λ k. IsDoneAt old.parts group (edge dim k place.label.0 w) new.now) (sym mother_is) (subst (λ k. IsDoneAt old.parts group (edge dim u k w) new.now) (sym label_is) here));
-}
+daughters_last group dim u l first p old q new dim_is others a =
+    sweeps_skip group (λ box. (w : ℕ) → (w < nodes old.parts) × (u ≢ w) → IsDoneAt old.parts group (edge dim u l w) box) (IsLabelDone old.parts group u l) p old q new
+    (turns_end group (λ w. IsDoneAt old.parts group (edge dim u l w)) (λ w. (w < nodes old.parts) × (u ≢ w)) first p old q new (λ still w beside. others still w beside.0 beside.1) a)
+    (λ done place on mother_is label_is.
+    let is = is_place old.parts place on.0 in
+    subst (λ e. IsDoneAt old.parts group e new.now) (sym (edge_equal place (edge dim u l place.daughter.0) (on.1 ∙ sym dim_is) mother_is label_is refl)) (done place.daughter.0 (is.daughter, λ e. is.differ (mother_is ∙ e))))
 
 -- ---- labels
 

@@ -5,4 +5,3 @@ pub mod Bringing
 pub mod Closing
 pub mod Keeping
 pub mod Others
-pub mod Staying

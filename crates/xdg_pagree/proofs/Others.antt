@@ -1,27 +1,24 @@
 -- Nodes and places where nothing was lost: nothing is left to take there, as before.
 use Rattle.std.proofs.Common.{◌≡◌, ◌≢◌, ℕ, ◌<◌, ◌↔◌, ◌&&◌, IsTrue, inl, inr, Bool, true, List, [], length, refl, sym, ◌∙◌, arith, subst}
-use Rattle.std.specs.Prelude.{Contains}
-use Rattle.std.proofs.lemmas.Bool.{cases_Bool, false≢true}
+use Rattle.std.proofs.lemmas.Bool.{false≢true}
 use Rattle.std.proofs.lemmas.List.{nil_from_length}
 use Rattle.xdg_nodeset.proofs.TableSets.{both, none_in}
 use Rattle.xdg_problem.specs.declared.analysis.Edge.{Edge}
 use Rattle.xdg_problem.specs.declared.parts.Group.{Group}
 use Rattle.xdg_problem.specs.declared.parts.Parts.{Parts}
-use Rattle.xdg_problem.specs.declared.parts.Principle.{Principle}
 use Rattle.xdg_problem.specs.declared.parts.Principle.TheVariants as principles
 use Rattle.xdg_problem.specs.Arguments.{attr_of, first_dim}
-use Rattle.xdg_problem.specs.Boxes.{Has, IsBox, LiesIn, May, edge_decision, entry_decision}
+use Rattle.xdg_problem.specs.Boxes.{Has, IsBox, LiesIn, May, entry_decision}
 use Rattle.xdg_problem.specs.Places.{edge, nodes}
 use Rattle.xdg_problem.specs.Problems.{IsGroup, IsProblem}
 use Rattle.xdg_problem.specs.Vectors.{shape}
 use Rattle.xdg_problem.proofs.PlaceOrder.{is_place, place_is}
-use Rattle.xdg_rules.specs.Rules.{AgrValues, IsClosedFor, IsPlaceOn, TakesBy, attr_of_node, must_edges}
-use Rattle.xdg_rules.proofs.Shrinking.{must_exact}
+use Rattle.xdg_rules.specs.Rules.{AgrValues, IsClosedFor, IsPlaceOn, TakesBy, attr_of_node}
 use Rattle.xdg_store.specs.InRange.{HasEdges}
 use Rattle.xdg_store.specs.States.{State, Known}
 use Rattle.xdg_propcore.specs.Passes.{IsQuiet, Progress}
 use Rattle.xdg_propcore.specs.Sweeps.{Sweeps}
-use Rattle.xdg_propcore.specs.Touching.{HasAll, HasTouched, InTable}
+use Rattle.xdg_propcore.specs.Touching.{HasAll, HasTouched}
 use Rattle.xdg_propcore.specs.declared.touched.Touched.{Touched}
 use Rattle.xdg_propcore.proofs.Passing.{goes_none}
 use Rattle.xdg_propcore.proofs.Sweeping.{sweeps_start}
@@ -29,56 +26,38 @@ use Rattle.xdg_pagree.specs.Family.{IsOfFamily, IsOfPlaces}
 use Rattle.xdg_pagree.specs.Places.{AreMothersDone, AreNodesDone, IsDoneAt, IsLabelDone, IsNodeDone, PlaceAsks}
 use Rattle.xdg_pagree.specs.Untouched.{AreOthersDone, AreOthersDoneAt, AreTouched, HasMothers, HasOwn, IsNodeFree, IsPlaceFree, IsRowFree}
 use Rattle.xdg_pagree.proofs.AtNodes.{daughters_last, lacks_present}
-use Rattle.xdg_propcore.proofs.Turns.{AreDone, quiet_later}
-use Rattle.xdg_pagree.proofs.Keeping.{KeepsPlace, attr_some, took_at}
+use Rattle.xdg_propcore.proofs.Turns.{AreDone, quiet_later, turns_end}
+use Rattle.xdg_pagree.proofs.Keeping.{attr_some, took_at}
+use Rattle.xdg_rules.proofs.Antitone.{PlaceLies}
 use Rattle.xdg_facts.specs.Rises.{has}
-use Rattle.xdg_propcore.proofs.Losing.{kept_or_lost}
+use Rattle.xdg_propcore.proofs.Losing.{entry_kept, kept_or_lost, must_kept}
+use Rattle.xdg_problem.proofs.AttrPlaces.{attr_dim_within}
 use Rattle.xdg_store.proofs.Daughters.{out_is_place}
-use Rattle.xdg_problem.specs.Principles.{dim_arguments, attr_arguments}
+use Rattle.xdg_problem.specs.Principles.{attr_arguments}
 
 -- ---- what was closed is done where nothing was lost
 
-dim_some : (p : Principle) → IsOfFamily p → 0 < dim_arguments p
-dim_some principles.Agr family = omega arith
-dim_some principles.Agreement family = omega arith
-dim_some principles.Government family = omega arith
-dim_some p family = absurd family
-
 module _ (parts : Parts) (group : Group) (group_is : IsGroup parts group) (family : IsOfFamily group.principle) (old new : List (List Bool)) (was : IsBox (shape parts) old) (is : IsBox (shape parts) new) (lies : LiesIn new old) (t : Touched) (touched : HasTouched parts (first_dim group) old new t) (closed : IsClosedFor parts group old) where
-  dim_within : first_dim group < length parts.dims
-  dim_within = group_is.dims 0 (record { 0 = 0 }) (let c = group_is.dims_count in let some = dim_some group.principle family in omega (arith, c, some))
-
-  entry_kept : (node c : ℕ) → node < nodes parts → (has t.entries node ≡ true → ⊥) → Has old (entry_decision node) c → Has new (entry_decision node) c
-  entry_kept node c within free = kept_or_lost old new (entry_decision node) c (λ lost. free (touched.entries node c within lost))
-
   attr_kept : (argument node x : ℕ) → argument < attr_arguments group.principle → node < nodes parts → (has t.attrs node ≡ true → ⊥) → Has old (attr_of_node parts group argument node) x → Has new (attr_of_node parts group argument node) x
   attr_kept argument node x known within free = kept_or_lost old new (attr_of_node parts group argument node) x (λ lost.
-      free (touched.attrs node (attr_of group argument) x dim_within within (group_is.attrs argument (record { 0 = 0 }) (let c = group_is.attrs_count in omega (arith, c, known))) lost))
+      free (touched.attrs node (attr_of group argument) x (attr_dim_within parts group group_is argument known) within (group_is.attrs argument (record { 0 = 0 }) (let c = group_is.attrs_count in omega (arith, c, known))) lost))
 
-  must_kept : (e : Edge) → (InTable t.out e.label.0 e.mother.0 → ⊥) → Contains (must_edges parts new (first_dim group)) e → Contains (must_edges parts old (first_dim group)) e
-  must_kept e free c =
-      let (on, must) = (must_exact parts new (first_dim group) e is).0 c in
-      (must_exact parts old (first_dim group) e was).1 (
-        on,
-        λ absent. must (kept_or_lost old new (edge_decision parts e) 1 (λ lost. free (touched.edges e 1 (is_place parts e on.0) on.1 lost).out) absent),
-      )
-
-  place_kept : IsOfPlaces group.principle → (e : Edge) → IsPlaceOn parts (first_dim group) e → IsPlaceFree t e → KeepsPlace parts group old new e
+  place_kept : IsOfPlaces group.principle → (e : Edge) → IsPlaceOn parts (first_dim group) e → IsPlaceFree t e → PlaceLies parts group old new group.principle e
   place_kept asks e on free =
       let place = is_place parts e on.0 in
       record {
-        entries = λ c. entry_kept e.mother.0 c place.mother free.0.0.0;
+        entries = λ c. entry_kept parts old new (first_dim group) t touched e.mother.0 c place.mother free.0.0.0;
         mother = λ x. attr_kept 0 e.mother.0 x (attr_some group.principle asks) place.mother free.0.0.1;
-        daughter = λ argument x known. attr_kept argument e.daughter.0 x known place.daughter free.1;
-        must = must_kept e free.0.1;
+        daughter = λ argument known x. attr_kept argument e.daughter.0 x known place.daughter free.1;
+        must = must_kept parts old new (first_dim group) t touched was is e (λ marks. free.0.1 marks.out);
       }
 
   place_done : IsOfPlaces group.principle → (e : Edge) → IsPlaceOn parts (first_dim group) e → PlaceAsks group.principle group new e.mother.0 e.label.0 → IsPlaceFree t e → IsDoneAt parts group e new
-  place_done of e on asks free d v remains lacks = closed d v (lies d v remains) (inr (took_at group.principle of parts group refl old new e on (place_kept of e on free) asks d v lacks))
+  place_done of e on asks free d v remains lacks = closed d v (lies d v remains) (inr (took_at group.principle of parts group old new e on (place_kept of e on free) asks d v lacks))
 
   node_done : group.principle ≡ principles.Agr → (node : ℕ) → node < nodes parts → IsNodeFree t node → IsNodeDone principles.Agr parts group node new
   node_done agr node within free = (
-    λ v remains lacks. takes (attr_of_node parts group 0 node) v remains (record { node = node; within = within; lacks = inl (refl, λ c there. lacks c (entry_kept node c within free.0 there)) }),
+    λ v remains lacks. takes (attr_of_node parts group 0 node) v remains (record { node = node; within = within; lacks = inl (refl, λ c there. lacks c (entry_kept parts old new (first_dim group) t touched node c within free.0 there)) }),
     λ v remains lacks. takes (entry_decision node) v remains (record { node = node; within = within; lacks = inr (refl, λ x there. lacks x (attr_kept 0 node x known within free.1 there)) }),
   ) where
     known : 0 < attr_arguments group.principle
@@ -147,31 +126,16 @@ label_skipped t group dim mother label set p s known on edges of touched empty o
 
 -- nothing is left at a label
 pub mothers_last : (t : Touched) (group : Group) (dim label : ℕ) (first : List ℕ) (p : Progress) (old : State) (q : Progress) (new : State) → dim ≡ first_dim group → IsOfPlaces group.principle → HasMothers old.parts old.now t dim label first → (IsQuiet p → AreOthersDone t old.parts group old.now) → Sweeps group (AreDone (λ u box. PlaceAsks group.principle group box u label → IsLabelDone old.parts group u label box) first []) p old q new → Sweeps group (AreMothersDone old.parts group label) p old q new
-mothers_last t group dim label first p old q new on of mothers others a = record {
-  goes = a.goes;
-  known = a.known;
-  done = λ quiet u within asks. elim (cases_Bool (has first u)) [
-    | inl there ↦ a.done quiet u there (λ h. false≢true h) asks
-    | inr not ↦
-        (let before = a.goes.quiet quiet in
-        subst (IsLabelDone old.parts group u label) (sym before.1) (λ e is mother_is label_is d v remains lacks.
-        let may = lacks_present group.principle old.parts group old.now e d v lacks remains in
-        let here = subst (λ box. PlaceAsks group.principle group box u label) before.1 asks in
-        let asked = subst (λ m. PlaceAsks group.principle group old.now m e.label.0) (sym mother_is) (subst (PlaceAsks group.principle group old.now u) (sym label_is) here) in
-        let free = mothers.others e (is.0, is.1 ∙ sym on) label_is (λ there. false≢true (sym not ∙ subst (λ m. has first m ≡ true) mother_is there)) may in
-        (others before.0).at_places of e is asked free d v remains lacks))
-  ];
-}
+mothers_last t group dim label first p old q new on of mothers others =
+    turns_end group (λ u box. PlaceAsks group.principle group box u label → IsLabelDone old.parts group u label box) (λ u. u < nodes old.parts) first p old q new
+    (λ still u within out asks e is mother_is label_is d v remains lacks.
+    let may = lacks_present group.principle old.parts group old.now e d v lacks remains in
+    let asked = subst (λ m. PlaceAsks group.principle group old.now m e.label.0) (sym mother_is) (subst (PlaceAsks group.principle group old.now u) (sym label_is) asks) in
+    let free = mothers.others e (is.0, is.1 ∙ sym on) label_is (λ there. out (subst (λ m. has first m ≡ true) mother_is there)) may in
+    (others still).at_places of e is asked free d v remains lacks)
 
 -- nothing is left at the nodes
 pub agr_last : (t : Touched) (group : Group) (first : List ℕ) (p : Progress) (old : State) (q : Progress) (new : State) → group.principle ≡ principles.Agr → HasOwn old.parts t first → (IsQuiet p → AreOthersDone t old.parts group old.now) → Sweeps group (AreDone (IsNodeDone principles.Agr old.parts group) first []) p old q new → Sweeps group (AreNodesDone (nodes old.parts) old.parts group) p old q new
-agr_last t group first p old q new agr own others a = record {
-  goes = a.goes;
-  known = a.known;
-  done = λ quiet node within. subst (λ k. IsNodeDone k old.parts group node new.now) (sym agr) (elim (cases_Bool (has first node)) [
-    | inl there ↦ a.done quiet node there (λ h. false≢true h)
-    | inr not ↦
-        (let before = a.goes.quiet quiet in
-        subst (IsNodeDone principles.Agr old.parts group node) (sym before.1) ((others before.0).at_nodes agr node within (own.others node within (λ there. false≢true (sym not ∙ there)))))
-  ]);
-}
+agr_last t group first p old q new agr own others a =
+    subst (λ k. Sweeps group (λ box. (node : ℕ) → node < nodes old.parts → IsNodeDone k old.parts group node box) p old q new) (sym agr)
+    (turns_end group (IsNodeDone principles.Agr old.parts group) (λ node. node < nodes old.parts) first p old q new (λ still node within out. (others still).at_nodes agr node within (own.others node within out)) a)

@@ -1,6 +1,5 @@
 -- Values one by one.
-use Rattle.std.proofs.Common.{◌≡◌, ℕ, ◌<◌, ◌+◌, ◌↔◌, IsTrue, inl, inr, Bool, true, false, List, sym, ◌∙◌, arith, subst}
-use Rattle.std.proofs.lemmas.Bool.{cases_lt}
+use Rattle.std.proofs.Common.{◌≡◌, ℕ, ◌<◌, ◌+◌, ◌↔◌, IsTrue, Bool, true, false, List, sym, ◌∙◌, subst}
 use Rattle.xdg_problem.specs.declared.parts.Group.{Group}
 use Rattle.xdg_problem.specs.declared.parts.Parts.{Parts}
 use Rattle.xdg_problem.specs.Boxes.{Has}
@@ -10,21 +9,16 @@ use Rattle.xdg_store.specs.States.{State, Known}
 use Rattle.xdg_propcore.specs.Passes.{Progress, Goes}
 use Rattle.xdg_propcore.specs.Sweeps.{Sweeps, TakesInside}
 use Rattle.xdg_propcore.proofs.Sweeping.{group_stays, sweeps_skip, sweeps_taken, takes_now}
+use Rattle.xdg_propcore.proofs.Turns.{below_more}
 use Rattle.xdg_pagree.specs.Places.{NoneLacks, NoneBelow}
-
-pub none_next : (k d : ℕ) (Lacks : List (List Bool) → ℕ → Type 0) (box : List (List Bool)) → NoneBelow k d Lacks box → (Has box d k → Lacks box k → ⊥) → NoneBelow (k + 1) d Lacks box
-none_next k d Lacks box before here v l has lacks = elim (cases_lt v k) [
-  | inl less ↦ before v less has lacks
-  | inr past ↦ (let e : v ≡ k = omega (arith, l, past) in here (subst (Has box d) e has) (subst (Lacks box) e lacks))
-]
-
-pub none_last : (k d : ℕ) (Lacks : List (List Bool) → ℕ → Type 0) (box : List (List Bool)) → ((v : ℕ) → Has box d v → v < k) → NoneBelow k d Lacks box → NoneLacks d Lacks box
-none_last k d Lacks box within none v has lacks = none v (within v has) has lacks
 
 -- ---- one value of a loop
 
 -- D is the decision, and L what is lacked, of the problem's parts; b is the answer of the test
 module _ (group : Group) (D : Parts → ℕ) (L : Parts → List (List Bool) → ℕ → Type 0) (k : ℕ) (b : Bool) (p : Progress) (old : State) (q : Progress) (mid : State) (a : Sweeps group (NoneBelow k (D old.parts) (L old.parts)) p old q mid) (exact : IsTrue b ↔ (Has mid.now (D mid.parts) k × L mid.parts mid.now k)) where
+  abbrev NotLacked : Parts → ℕ → List (List Bool) → Type 0
+  NotLacked parts v box = Has box (D parts) v → L parts box v → ⊥
+
   -- the test at the parts of the beginning
   exact_first : IsTrue b ↔ (Has mid.now (D old.parts) k × L old.parts mid.now k)
   exact_first = subst (λ parts. IsTrue b ↔ (Has mid.now (D parts) k × L parts mid.now k)) a.goes.extends.same exact
@@ -32,7 +26,7 @@ module _ (group : Group) (D : Parts → ℕ) (L : Parts → List (List Bool) →
   -- the value stays
   pub loop_skip : b ≡ false → Sweeps group (NoneBelow (k + 1) (D old.parts) (L old.parts)) p old q mid
   loop_skip fails = sweeps_skip group (NoneBelow k (D old.parts) (L old.parts)) (NoneBelow (k + 1) (D old.parts) (L old.parts)) p old q mid a
-      (λ before. none_next k (D old.parts) (L old.parts) mid.now before (λ has lacks. (let t : b ≡ true = exact_first.1 (has, lacks) in absurd (let e : true ≡ false = sym t ∙ fails in cc))))
+      (λ before. below_more (NotLacked old.parts) k mid.now before (λ has lacks. (let t : b ≡ true = exact_first.1 (has, lacks) in absurd (let e : true ≡ false = sym t ∙ fails in cc))))
 
   -- the value goes
   pub loop_taken : (r : Progress) (new : State) → IsGroup old.parts group → TakesInside old.parts group old.now (D old.parts) (L old.parts) → b ≡ true → ((g : Group) → IsGroup mid.parts g → Takes mid.parts g mid.now (D mid.parts) k → Goes g q mid r new) → Known new → (Has new.now (D mid.parts) k → r.dead ≡ true) → Sweeps group (NoneBelow (k + 1) (D old.parts) (L old.parts)) p old r new
@@ -41,10 +35,10 @@ module _ (group : Group) (D : Parts → ℕ) (L : Parts → List (List Bool) →
       let now = takes_now group p old q mid a.goes a.known (D old.parts) (L old.parts) takes k here.1 in
       let step = goes group (group_stays group p old q mid a.goes a.known is) (subst (λ parts. Takes mid.parts group mid.now (D parts) k) (sym a.goes.extends.same) now) in
       sweeps_taken group (NoneBelow k (D old.parts) (L old.parts)) (NoneBelow (k + 1) (D old.parts) (L old.parts)) p old q mid r new (D old.parts) k a step known (subst (λ parts. Has new.now (D parts) k → r.dead ≡ true) a.goes.extends.same gone)
-      (λ before not. none_next k (D old.parts) (L old.parts) new.now before (λ has lacks. not has))
+      (λ before not. below_more (NotLacked old.parts) k new.now before (λ has lacks. not has))
 
 -- all values were seen
 
 pub loop_end : (group : Group) (D : Parts → ℕ) (L : Parts → List (List Bool) → ℕ → Type 0) (k : ℕ) (p : Progress) (old : State) (q : Progress) (mid : State) → Sweeps group (NoneBelow k (D old.parts) (L old.parts)) p old q mid → ((v : ℕ) → Has mid.now (D mid.parts) v → v < k) → Sweeps group (NoneLacks (D old.parts) (L old.parts)) p old q mid
 loop_end group D L k p old q mid a within = sweeps_skip group (NoneBelow k (D old.parts) (L old.parts)) (NoneLacks (D old.parts) (L old.parts)) p old q mid a
-    (λ none. none_last k (D old.parts) (L old.parts) mid.now (subst (λ parts. (v : ℕ) → Has mid.now (D parts) v → v < k) a.goes.extends.same within) none)
+    (λ none v has lacks. none v (subst (λ parts. (u : ℕ) → Has mid.now (D parts) u → u < k) a.goes.extends.same within v has) has lacks)

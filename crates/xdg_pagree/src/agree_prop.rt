@@ -33,6 +33,5 @@ impl Family for Agree {
         sweep_nodes(store, pass, group, &touched);
     }
 
-    #[tactic(auto, using(crate::proofs::Staying::stays_closed))]
     fn stays() {}
 }

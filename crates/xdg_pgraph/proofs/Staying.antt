@@ -6,10 +6,10 @@ use Rattle.xdg_problem.specs.declared.parts.Principle.{Principle}
 use Rattle.xdg_problem.specs.declared.parts.Principle.TheVariants as principles
 use Rattle.xdg_problem.specs.Arguments.{first_dim}
 use Rattle.xdg_problem.specs.Boxes.{LiesIn}
-use Rattle.xdg_problem.specs.Problems.{IsProblem}
+use Rattle.xdg_problem.specs.Problems.{IsGroup, IsProblem}
 use Rattle.xdg_rules.specs.Rules.{TakesBy, IsClosedFor}
 use Rattle.xdg_propcore.specs.Families.{LosesUnseen, StaysClosed}
-use Rattle.xdg_propcore.proofs.Unseen.{LooksOn, entry_stays as entries_stay}
+use Rattle.xdg_propcore.proofs.Unseen.{LooksOn, lies_unseen}
 use Rattle.xdg_pgraph.specs.Family.{IsOfFamily}
 use Rattle.xdg_pgraph.proofs.Closing.{closed_by_rules}
 use Rattle.xdg_pgraph.proofs.CountsStay.{entry_stays, full_stays, needed_stays}
@@ -21,7 +21,7 @@ looks_first p (inl tree) = ap looks_at_first tree
 looks_first p (inr (inl dag)) = ap looks_at_first dag
 looks_first p (inr (inr valency)) = ap looks_at_first valency
 
-module _ (parts : Parts) (problem : IsProblem parts) (group : Group) (family : IsOfFamily group.principle) (old new : List (List Bool))
+module _ (parts : Parts) (problem : IsProblem parts) (group : Group) (group_is : IsGroup parts group) (family : IsOfFamily group.principle) (old new : List (List Bool))
     (unseen : LosesUnseen parts group old new) where
   inside : LiesIn new old
   inside = unseen.inside
@@ -56,7 +56,7 @@ module _ (parts : Parts) (problem : IsProblem parts) (group : Group) (family : I
       let on : LooksOn group (first_dim group) = inl (looks_first group.principle (inr (inr e)), refl) in
       let may = may_same parts group old new unseen (first_dim group) on in
       let must = must_same parts group old new unseen (first_dim group) on in
-      let entries = entries_stay parts group old new unseen problem (ap looks_at_entries e) in
+      let entries = (lies_unseen parts group old new unseen problem group_is).entries (ap looks_at_entries e) in
       elim rule [
         | inl entry ↦ inl (entry_stays parts group old new d v inside may must entry)
         | inr more ↦ elim more [
@@ -72,4 +72,4 @@ module _ (parts : Parts) (problem : IsProblem parts) (group : Group) (family : I
       (λ d v remains rule. closed d v (inside d v remains) (inr (rule_before group.principle refl family d v rule)))
 
 pub stays_closed : StaysClosed IsOfFamily
-stays_closed parts group old new problem group_is family unseen closed = closed_still parts problem group family old new unseen closed
+stays_closed parts group old new problem group_is family unseen closed = closed_still parts problem group group_is family old new unseen closed

@@ -6,9 +6,7 @@ pub mod Sweeping
 pub mod Present
 pub mod Apart
 pub mod Daughters
-pub mod Keeping
 pub mod Others
 pub mod Closing
-pub mod Staying
 pub mod Swept
 pub mod Reaching

@@ -10,16 +10,14 @@ use Rattle.xdg_problem.specs.declared.parts.Parts.{Parts}
 use Rattle.xdg_problem.specs.declared.parts.Principle.TheVariants as principles
 use Rattle.xdg_problem.specs.Arguments.{first_dim, second_dim}
 use Rattle.xdg_problem.specs.Asking.{IsLinked}
-use Rattle.xdg_problem.specs.Boxes.{Has, IsBox, LiesIn, edge_decision, entry_decision}
+use Rattle.xdg_problem.specs.Boxes.{IsBox, LiesIn}
 use Rattle.xdg_problem.specs.Paths.{IsDaughterByAny}
-use Rattle.xdg_problem.specs.Places.{nodes}
 use Rattle.xdg_problem.specs.Problems.{IsProblem}
 use Rattle.xdg_problem.specs.Vectors.{shape}
 use Rattle.xdg_problem.proofs.Looking.{any_of, any_weaker}
 use Rattle.xdg_problem.proofs.PlaceOrder.{is_place}
-use Rattle.xdg_rules.specs.Rules.{IsClosedFor, IsPlaceOn, TakesBy, may_edges, must_edges}
+use Rattle.xdg_rules.specs.Rules.{IsClosedFor, TakesBy, may_edges}
 use Rattle.xdg_rules.proofs.Among.{linked_among}
-use Rattle.xdg_rules.proofs.Shrinking.{may_exact, must_exact}
 use Rattle.xdg_propcore.specs.Touching.{HasTouched, MarksEdge}
 use Rattle.xdg_propcore.specs.declared.touched.Touched.{Touched}
 use Rattle.xdg_plink.specs.Family.{Reaches}
@@ -27,32 +25,21 @@ use Rattle.xdg_plink.specs.Steps.{TakesAt}
 use Rattle.xdg_plink.specs.Untouched.{AreLinksFree, AreOthersDone, HasJoins, HasLinks, IsFree}
 use Rattle.xdg_plink.specs.Ways.{way_of}
 use Rattle.xdg_plink.specs.declared.near.Near.{Near}
-use Rattle.xdg_plink.proofs.Keeping.{KeepsEntries, KeepsLinks, apart_before, reach_before}
+use Rattle.xdg_rules.proofs.Antitone.{EntriesLie, LinksLie, linking_reach, linking_not_daughter}
 use Rattle.xdg_plink.proofs.Reaching.{is_reach}
 use Rattle.xdg_facts.specs.Rises.{has}
-use Rattle.xdg_propcore.proofs.Losing.{kept_or_lost}
+use Rattle.xdg_propcore.proofs.Losing.{entry_kept, may_kept, must_kept}
 
 module _ (parts : Parts) (old new : List (List Bool)) (dim : ℕ) (t : Touched) (touched : HasTouched parts dim old new t) where
-  edge_kept : (e : Edge) → IsPlaceOn parts dim e → (MarksEdge t e → ⊥) → (x : ℕ) → Has old (edge_decision parts e) x → Has new (edge_decision parts e) x
-  edge_kept e on free x = kept_or_lost old new (edge_decision parts e) x (λ lost. free (touched.edges e x (is_place parts e on.0) on.1 lost))
-
-  may_kept : (e : Edge) → (MarksEdge t e → ⊥) → Contains (may_edges parts old dim) e → Contains (may_edges parts new dim) e
-  may_kept e free c = (let may = (may_exact parts old dim e).0 c in (may_exact parts new dim e).1 (may.0, edge_kept e may.0 free 0 may.1))
-
-  must_kept : IsBox (shape parts) old → IsBox (shape parts) new → (e : Edge) → (MarksEdge t e → ⊥) → Contains (must_edges parts new dim) e → Contains (must_edges parts old dim) e
-  must_kept was is e free c =
-      let must = (must_exact parts new dim e is).0 c in
-      (must_exact parts old dim e was).1 (must.0, λ absent. must.1 (edge_kept e must.0 free 1 absent))
-
   any_kept : (P : Edge → Type 0) → ((e : Edge) → P e → MarksEdge t e → ⊥) → Any P (may_edges parts old dim) → Any P (may_edges parts new dim)
-  any_kept P free a = any_of P (may_edges parts new dim) a.1 (may_kept a.1 (free a.1 a.4) (a.0, a.2, a.3)) a.4
+  any_kept P free a = any_of P (may_edges parts new dim) a.1 (may_kept parts old new dim t touched a.1 (free a.1 a.4) (a.0, a.2, a.3)) a.4
 
   daughter_kept : (u : ℕ) (labels : List ℕ) (v : ℕ) → (has t.mothers u ≡ true → has t.daughters v ≡ true → ⊥) → IsDaughterByAny (may_edges parts old dim) u labels v → IsDaughterByAny (may_edges parts new dim) u labels v
   daughter_kept u labels v free = any_kept (λ e. (e.mother.0 ≡ u) × Contains labels e.label.0 × (e.daughter.0 ≡ v))
       (λ e at marks. free (subst (λ i. has t.mothers i ≡ true) at.0 marks.mother) (subst (λ i. has t.daughters i ≡ true) at.2 marks.daughter))
 
   path_kept : (way : Linking) (u v : ℕ) → ((x : ℕ) → has t.daughters x ≡ true → ⊥) → (labels : List ℕ) → IsLinked way (may_edges parts old dim) u labels v → IsLinked way (may_edges parts new dim) u labels v
-  path_kept way u v free labels = linked_among (may_edges parts old dim) (may_edges parts new dim) (λ e c. may_kept e (λ marks. free e.daughter.0 marks.daughter) c) way u labels v
+  path_kept way u v free labels = linked_among (may_edges parts old dim) (may_edges parts new dim) (λ e c. may_kept parts old new dim t touched e (λ marks. free e.daughter.0 marks.daughter) c) way u labels v
 
   linked_kept : (way : Linking) (u v : ℕ) → AreLinksFree way t u v → (labels : List ℕ) → IsLinked way (may_edges parts old dim) u labels v → IsLinked way (may_edges parts new dim) u labels v
   linked_kept linkings.End u v free labels link = any_kept (λ e. Contains labels e.label.0 × (e.daughter.0 ≡ v)) (λ e at marks. free (subst (λ i. has t.daughters i ≡ true) at.1 marks.daughter)) link
@@ -65,9 +52,6 @@ module _ (parts : Parts) (old new : List (List Bool)) (dim : ℕ) (t : Touched) 
       (λ e there. (there.0, daughter_kept e.mother.0 labels v (λ m d. free.1 d) there.1))
       (any_kept (λ e. (e.daughter.0 ≡ u) × IsDaughterByAny (may_edges parts old dim) e.mother.0 labels v) (λ e at marks. free.0 (subst (λ i. has t.daughters i ≡ true) at.0 marks.daughter)) link)
 
-  entry_kept : (node c : ℕ) → node < nodes parts → (has t.entries node ≡ true → ⊥) → Has old (entry_decision node) c → Has new (entry_decision node) c
-  entry_kept node c within free = kept_or_lost old new (entry_decision node) c (λ lost. free (touched.entries node c within lost))
-
 -- ---- what was closed is done where nothing was lost
 
 module _ (parts : Parts) (group : Group) (problem : IsProblem parts) (old new : List (List Bool)) (lies : LiesIn new old) (closed : IsClosedFor parts group old) (near : Near) (second : Touched) (touched : HasTouched parts (second_dim group) old new second) where
@@ -76,9 +60,9 @@ module _ (parts : Parts) (group : Group) (problem : IsProblem parts) (old new : 
       let (rule, same) = ((is_reach group.principle reaches).at parts group new e d v).0 takes in
       let place = is_place parts e on.0 in
       let kept = links e.mother.0 e.daughter.0 (let most = problem.most in let within = place.mother in omega (arith, within, most)) free in
-      closed d v (lies d v remains) (inr (((is_reach group.principle reaches).takes parts group old d v).1 (reach_before parts group old new (way_of group.principle) d v rule
-      (subst (KeepsEntries parts group old new) (sym same) (λ c. entry_kept parts old new (second_dim group) second touched e.mother.0 c place.mother kept.0))
-      (subst (KeepsLinks parts group old new (way_of group.principle)) (sym same) (linked_kept parts old new (second_dim group) second touched (way_of group.principle) e.mother.0 e.daughter.0 kept.1)))))
+      closed d v (lies d v remains) (inr (((is_reach group.principle reaches).takes parts group old d v).1 (linking_reach parts group old new (way_of group.principle) d v rule
+      (subst (λ (f : Edge). EntriesLie parts group old new f.mother.0) (sym same) (λ c. entry_kept parts old new (second_dim group) second touched e.mother.0 c place.mother kept.0))
+      (subst (LinksLie parts group old new (way_of group.principle)) (sym same) (linked_kept parts old new (second_dim group) second touched (way_of group.principle) e.mother.0 e.daughter.0 kept.1)))))
 
   pub joins_stay : group.principle ≡ principles.LinkingNotDaughter → IsBox (shape parts) old → IsBox (shape parts) new → (first : Touched) → HasTouched parts (first_dim group) old new first → HasJoins near first second → AreOthersDone near parts group new
   joins_stay apart was is first touched_first joins e on free d v remains takes =
@@ -87,8 +71,8 @@ module _ (parts : Parts) (group : Group) (problem : IsProblem parts) (old new : 
       let kept = joins e.mother.0 e.daughter.0 free in
       let mother : rule.place.mother.0 ≡ e.mother.0 = ap (λ (f : Edge). f.mother.0) same in
       let daughter : rule.place.daughter.0 ≡ e.daughter.0 = ap (λ (f : Edge). f.daughter.0) same in
-      closed d v (lies d v remains) (inr (subst (λ p. TakesBy p parts group old d v) (sym apart) (apart_before parts group old new d v rule
-      (subst (KeepsEntries parts group old new) (sym same) (λ c. entry_kept parts old new (second_dim group) second touched e.mother.0 c place.mother kept.0))
+      closed d v (lies d v remains) (inr (subst (λ p. TakesBy p parts group old d v) (sym apart) (linking_not_daughter parts group old new d v rule
+      (subst (λ (f : Edge). EntriesLie parts group old new f.mother.0) (sym same) (λ c. entry_kept parts old new (second_dim group) second touched e.mother.0 c place.mother kept.0))
       (must_kept parts old new (first_dim group) first touched_first was is rule.place (λ marks. kept.1 (subst (λ i. has first.mothers i ≡ true) mother marks.mother) (subst (λ i. has first.daughters i ≡ true) daughter marks.daughter)))
       (must_kept parts old new (second_dim group) second touched was is rule.other (λ marks. kept.2 (subst (λ i. has second.mothers i ≡ true) (sym rule.mother ∙ mother) marks.mother) (subst (λ i. has second.daughters i ≡ true) (sym rule.daughter ∙ daughter) marks.daughter))))))
 

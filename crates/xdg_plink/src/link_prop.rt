@@ -38,6 +38,5 @@ impl Family for Link {
         take_all(store, pass, group, &near, &table);
     }
 
-    #[tactic(auto, using(crate::proofs::Staying::stays_closed))]
     fn stays() {}
 }

@@ -1,8 +1,7 @@
 -- What loops over nodes and labels take, and what the rules take by tables.
 use Rattle.std.proofs.Common.{◌≡◌, ℕ, ◌<◌, ◌≤◌, ◌⊎◌, ◌↔◌, ◌&&◌, get_or, inl, inr, Bool, true, IsTrue, List, [], ◌∷◌, refl, sym, ◌∙◌, ap, subst, arith}
-use Rattle.std.specs.Prelude.{not, Contains, All}
+use Rattle.std.specs.Prelude.{not}
 use Rattle.std.proofs.lemmas.Bool.{and_parts, and_from, not-true, not_from_false, both_ways, false_from_ne_true}
-use Rattle.std.proofs.lemmas.List.Elements.{All-weaker, All-contains_itself}
 use Rattle.xdg_nodeset.specs.Tables.{In}
 use Rattle.xdg_problem.proofs.Walks.{closed_above}
 use Rattle.xdg_problem.specs.declared.analysis.Edge.{Edge}
@@ -17,9 +16,8 @@ use Rattle.xdg_problem.specs.Vectors.{shape}
 use Rattle.xdg_problem.proofs.Edges.{edge_equal}
 use Rattle.xdg_problem.proofs.Looking.{any_of}
 use Rattle.xdg_problem.proofs.PlaceOrder.{is_place}
-use Rattle.xdg_problem.proofs.TreeTests.{above_within}
 use Rattle.xdg_rules.specs.Rules.{IsPlaceOn, ClimbingReach, BarriersReach, may_edges, must_edges}
-use Rattle.xdg_rules.proofs.Shrinking.{may_exact, must_exact}
+use Rattle.xdg_rules.proofs.Shrinking.{may_exact, must_exact, barrier_within}
 use Rattle.xdg_store.specs.States.{State, Known}
 use Rattle.xdg_propcore.specs.Passes.{Progress, Clears}
 use Rattle.xdg_propcore.proofs.Aimed.{ByOne, Passed, passed_member}
@@ -151,13 +149,6 @@ climbing_done group one two table p q old new one_is two_is exact = clears_like 
 pub below_within : (parts : Parts) (box : List (List Bool)) (dim : ℕ) (table : List (List ℕ)) → IsBox (shape parts) box → ((a b : ℕ) → In table a b ↔ Above (edges_of whichs.Must parts box dim) a b) → AreNodes parts table
 below_within parts box dim table is exact a b i = closed_above (must_edges parts box dim) a b (λ x. x < nodes parts) (λ e stands from. (is_place parts e ((must_exact parts box dim e is).0 stands).0.0).daughter) ((exact a b).0 i)
 
-mothers_within : (parts : Parts) (box : List (List Bool)) (dim : ℕ) → IsBox (shape parts) box → All (λ e. e.mother.0 < nodes parts) (must_edges parts box dim)
-mothers_within parts box dim is = All-weaker (Contains (must_edges parts box dim)) (λ e. e.mother.0 < nodes parts) (λ e c. (is_place parts e ((must_exact parts box dim e is).0 c).0.0).mother) (must_edges parts box dim) (All-contains_itself (must_edges parts box dim))
-
-pub barrier_within : (parts : Parts) (box : List (List Bool)) (dim barrier u : ℕ) → IsBox (shape parts) box → u < nodes parts → (barrier ≡ u) ⊎ Above (must_edges parts box dim) barrier u → barrier < nodes parts
-barrier_within parts box dim barrier u is within (inl here) = omega (arith, here, within)
-barrier_within parts box dim barrier u is within (inr over) = above_within (nodes parts) (must_edges parts box dim) barrier u (mothers_within parts box dim is) over
-
 -- the table has the nodes that block a label
 abbrev pub AreBlocking : Parts → List (List Bool) → Group → ℕ → List (List ℕ) → Type 0
 AreBlocking parts box group dim table = (label node : ℕ) → In table label node ↔ ((label < edge_labels parts dim) × (node < nodes parts) × Blocks group box node label)
@@ -182,7 +173,7 @@ barriers_done group one two barred over near p q old new known one_is two_is blo
         rule.barrier,
         (blocks rule.place.label.0 rule.barrier).1 (
           (let b = label_below old.parts rule.place place in let same = ap (edge_labels old.parts) (rule.is.1 ∙ sym two_is) in omega (arith, b, same)),
-          barrier_within old.parts old.now (second_dim group) rule.barrier rule.place.mother.0 known.is_box place.mother rule.above,
+          barrier_within old.parts old.now (second_dim group) rule.barrier rule.place.mother.0 place.mother rule.above,
           rule.blocks,
         ),
         (

@@ -36,6 +36,5 @@ impl Family for Multi {
         take_barriers(store, pass, group);
     }
 
-    #[tactic(auto, using(crate::proofs::Staying::stays_closed))]
     fn stays() {}
 }

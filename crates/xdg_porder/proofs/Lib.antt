@@ -10,5 +10,4 @@ pub mod Settling
 pub mod Testing
 pub mod Closing
 pub mod Ending
-pub mod Staying
 pub mod MaysStay

@@ -39,6 +39,5 @@ impl Family for Order {
         take_projective(store, pass, group);
     }
 
-    #[tactic(auto, using(crate::proofs::Staying::stays_closed))]
     fn stays() {}
 }

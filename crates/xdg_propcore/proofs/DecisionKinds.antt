@@ -14,6 +14,7 @@ use Rattle.xdg_problem.specs.Arguments.{attr_count, no_plan}
 use Rattle.xdg_problem.specs.Boxes.{entry_decision, attr_decision, edge_decision, place_in}
 use Rattle.xdg_problem.specs.Places.{below, nodes, places}
 use Rattle.xdg_problem.specs.Vectors.{attr_sizes}
+use Rattle.xdg_problem.proofs.AttrPlaces.{attr_within}
 use Rattle.xdg_problem.proofs.Counted.{length_attrs_of}
 use Rattle.xdg_problem.proofs.PlaceFound.{place_found}
 use Rattle.xdg_propcore.specs.Kinds.{entry_kind, attr_kind, edge_kind, attr_kinds, decision_kinds, kind_of}
@@ -88,18 +89,6 @@ length_kinds n first (plan ∷ plans) =
     let rest = length_kinds n (suc first) plans in
     omega (arith, a, b, size, other, rest)
 
-attrs_within : (n : ℕ) (plans : List DimPlan) (dim i : ℕ) → dim < length plans → i < n * length (slice_index_or plans dim no_plan).attrs → length (attr_sizes n (take dim plans)) + i < length (attr_sizes n plans)
-attrs_within n [] dim i l m = absurd (omega (arith, l))
-attrs_within n (plan ∷ plans) zero i l m =
-    let both = length-append (flat_map (λ (node : ℕ). map (λ (attr : AttrPlan). length attr.values) plan.attrs) (below n)) (attr_sizes n plans) in
-    let here = length_attrs_of n plan in
-    omega (arith, both, here, m)
-attrs_within n (plan ∷ plans) (suc dim) i l m =
-    let whole = length-append (flat_map (λ (node : ℕ). map (λ (attr : AttrPlan). length attr.values) plan.attrs) (below n)) (attr_sizes n plans) in
-    let front = length-append (flat_map (λ (node : ℕ). map (λ (attr : AttrPlan). length attr.values) plan.attrs) (below n)) (attr_sizes n (take dim plans)) in
-    let rest = attrs_within n plans dim i (omega (arith, l)) m in
-    omega (arith, whole, front, rest)
-
 -- ---- decisions
 
 module _ (parts : Parts) where
@@ -124,7 +113,7 @@ module _ (parts : Parts) where
       let i : ℕ = node * attr_count parts dim + attr in
       let m : i < nodes parts * attr_count parts dim = omega (arith, row, a) in
       let place : ℕ = length (attr_sizes (nodes parts) (take dim parts.dims)) + i in
-      let within = attrs_within (nodes parts) parts.dims dim i d m in
+      let within = attr_within parts dim node attr d v a in
       let long = length_kinds (nodes parts) 0 parts.dims in
       let c = count in
       let at : length parts.candidates + place ≡ length entries + place = omega (arith, c) in

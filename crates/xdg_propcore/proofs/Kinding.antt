@@ -1,5 +1,5 @@
 -- The wake set of a principle use has exactly the kinds at which its tests look.
-use Rattle.std.proofs.Common.{◌≡◌, ◌⊎◌, ℕ, zero, suc, ◌<◌, ◌≤◌, ◌^◌, inl, inr, Bool, true, false, List, [], ◌∷◌, All, length, refl, sym, ap, ◌∙◌, arith, subst}
+use Rattle.std.proofs.Common.{◌≡◌, ◌⊎◌, ◌↔◌, ℕ, zero, suc, ◌<◌, ◌≤◌, ◌^◌, inl, inr, Bool, true, false, List, [], ◌∷◌, All, length, refl, sym, ap, ◌∙◌, arith, subst}
 use Rattle.std.specs.Prelude.{slice_index_or}
 use Rattle.std.specs.Int.{bit_at}
 use lib.Bits.{bit_or}
@@ -12,22 +12,24 @@ use Rattle.xdg_problem.specs.declared.parts.Parts.{Parts}
 use Rattle.xdg_problem.specs.Arguments.{first_dim, second_dim}
 use Rattle.xdg_problem.specs.Problems.{IsGroup, IsProblem}
 use Rattle.xdg_propcore.specs.Kinds.{entry_kind, attr_kind, edge_kind}
-use Rattle.xdg_propcore.specs.UseKinds.{AreSmall, HasKinds, with_kind}
+use Rattle.xdg_propcore.specs.UseKinds.{AreSmall, HasKinds, IsKindFor, with_kind}
 use Rattle.xdg_problem.specs.Principles.{looks_at_entries, looks_at_attrs, looks_at_first, looks_at_second}
 
 -- ---- one kind more
 
-with_has : (wanted : Bool) (k wakes kind : ℕ) → wanted ≡ true → kind ≡ k → bit_at (with_kind wanted (2 ^ k) wakes) kind ≡ 1
-with_has true k wakes kind e is = subst (λ i. bit_at (bit_or wakes (2 ^ k)) i ≡ 1) (sym is) (or_new_bit wakes k)
-with_has false k wakes kind e is = absurd (false≢true e)
-
-with_stays : (wanted : Bool) (k wakes kind : ℕ) → bit_at wakes kind ≡ 1 → bit_at (with_kind wanted (2 ^ k) wakes) kind ≡ 1
-with_stays true k wakes kind h = or_left_bit wakes (2 ^ k) kind h
-with_stays false k wakes kind h = h
-
-with_only : (wanted : Bool) (k wakes kind : ℕ) → bit_at (with_kind wanted (2 ^ k) wakes) kind ≡ 1 → ((wanted ≡ true) × (kind ≡ k)) ⊎ (bit_at wakes kind ≡ 1)
-with_only true k wakes kind h = elim (or_bit wakes k kind h) [ inl old ↦ inr old | inr new ↦ inl (refl, new) ]
-with_only false k wakes kind h = inr h
+with_exact : (wanted : Bool) (k wakes more kind : ℕ) (Rest : Type 0) → more ≡ with_kind wanted (2 ^ k) wakes → (bit_at wakes kind ≡ 1) ↔ Rest
+    → (bit_at more kind ≡ 1) ↔ (((wanted ≡ true) × (kind ≡ k)) ⊎ Rest)
+with_exact true k wakes more kind Rest is rest = (
+  λ h. elim (or_bit wakes k kind (subst (λ n. bit_at n kind ≡ 1) is h)) [ inl old ↦ inr (rest.0 old) | inr new ↦ inl (refl, new) ],
+  λ h. subst (λ n. bit_at n kind ≡ 1) (sym is) (elim h [
+    | inl new ↦ subst (λ i. bit_at (bit_or wakes (2 ^ k)) i ≡ 1) (sym new.1) (or_new_bit wakes k)
+    | inr old ↦ or_left_bit wakes (2 ^ k) kind (rest.1 old)
+  ]),
+)
+with_exact false k wakes more kind Rest is rest = (
+  λ h. inr (rest.0 (subst (λ n. bit_at n kind ≡ 1) is h)),
+  λ h. subst (λ n. bit_at n kind ≡ 1) (sym is) (elim h [ inl new ↦ absurd (false≢true new.0) | inr old ↦ rest.1 old ]),
+)
 
 -- as the code says it
 pub with_it : (wanted looks : Bool) (set k wakes more : ℕ) → wanted ≡ looks → set ≡ 2 ^ k → more ≡ with_kind wanted set wakes → more ≡ with_kind looks (2 ^ k) wakes
@@ -36,36 +38,17 @@ with_it wanted looks set k wakes more same is at = at ∙ ap (λ b. with_kind b 
 -- ---- all of them
 
 module _ (group : Group) (second first attrs all : ℕ) (s : second ≡ with_kind (looks_at_second group.principle) (2 ^ edge_kind (second_dim group)) 0) (f : first ≡ with_kind (looks_at_first group.principle) (2 ^ edge_kind (first_dim group)) second) (a : attrs ≡ with_kind (looks_at_attrs group.principle) (2 ^ attr_kind (first_dim group)) first) (e : all ≡ with_kind (looks_at_entries group.principle) (2 ^ entry_kind) attrs) where
-  abbrev Bit : ℕ → ℕ → Type 0
-  Bit kind wakes = bit_at wakes kind ≡ 1
+  exact : (kind : ℕ) → (bit_at all kind ≡ 1) ↔ IsKindFor group kind
+  exact kind =
+      let none : (bit_at 0 kind ≡ 1) ↔ ⊥ = (λ h. (let z = bit_at-zero kind in omega (arith, z, h)), λ h. absurd h) in
+      let last = with_exact (looks_at_second group.principle) (edge_kind (second_dim group)) 0 second kind ⊥ s none in
+      with_exact (looks_at_entries group.principle) entry_kind attrs all kind _ e
+      (with_exact (looks_at_attrs group.principle) (attr_kind (first_dim group)) first attrs kind _ a
+      (with_exact (looks_at_first group.principle) (edge_kind (first_dim group)) second first kind _ f
+      (λ h. elim (last.0 h) [ inl x ↦ x | inr x ↦ absurd x ], λ x. last.1 (inl x))))
 
   pub has_kinds : HasKinds group all
-  has_kinds = record {
-    each = λ kind k. subst (Bit kind) (sym e) (elim k [
-      | inl x ↦ with_has (looks_at_entries group.principle) entry_kind attrs kind x.0 x.1
-      | inr more ↦ with_stays (looks_at_entries group.principle) entry_kind attrs kind (subst (Bit kind) (sym a) (elim more [
-        | inl x ↦ with_has (looks_at_attrs group.principle) (attr_kind (first_dim group)) first kind x.0 x.1
-        | inr edges ↦ with_stays (looks_at_attrs group.principle) (attr_kind (first_dim group)) first kind (subst (Bit kind) (sym f) (elim edges [
-          | inl x ↦ with_has (looks_at_first group.principle) (edge_kind (first_dim group)) second kind x.0 x.1
-          | inr x ↦ with_stays (looks_at_first group.principle) (edge_kind (first_dim group)) second kind (subst (Bit kind) (sym s)
-              (with_has (looks_at_second group.principle) (edge_kind (second_dim group)) 0 kind x.0 x.1))
-        ]))
-      ]))
-    ]);
-    only = λ kind h. elim (with_only (looks_at_entries group.principle) entry_kind attrs kind (subst (Bit kind) e h)) [
-      | inl x ↦ inl x
-      | inr h1 ↦ elim (with_only (looks_at_attrs group.principle) (attr_kind (first_dim group)) first kind (subst (Bit kind) a h1)) [
-        | inl x ↦ inr (inl x)
-        | inr h2 ↦ elim (with_only (looks_at_first group.principle) (edge_kind (first_dim group)) second kind (subst (Bit kind) f h2)) [
-          | inl x ↦ inr (inr (inl x))
-          | inr h3 ↦ elim (with_only (looks_at_second group.principle) (edge_kind (second_dim group)) 0 kind (subst (Bit kind) s h3)) [
-            | inl x ↦ inr (inr (inr x))
-            | inr h4 ↦ absurd (let z = bit_at-zero kind in omega (arith, z, h4))
-          ]
-        ]
-      ]
-    ];
-  }
+  has_kinds = record { each = λ kind. (exact kind).1; only = λ kind. (exact kind).0 }
 
 -- ---- dimensions
 

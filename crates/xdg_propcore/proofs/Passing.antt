@@ -1,11 +1,10 @@
 -- Steps that take values, part by part.
-use Rattle.std.proofs.Common.{◌≡◌, ◌≢◌, ◌⊎◌, ◌↔◌, ℕ, ◌<◌, ◌^◌, inl, inr, Bool, true, false, List, [], ◌∷◌, length, get_or, ap, sym, ◌∙◌, arith, subst, refl, append-nil}
-use Rattle.std.specs.Int.{bit_at, w64, trailing_zeros}
+use Rattle.std.proofs.Common.{◌≡◌, ◌≢◌, ◌⊎◌, ℕ, ◌<◌, ◌^◌, inl, inr, Bool, true, false, List, [], ◌∷◌, length, get_or, ap, sym, ◌∙◌, arith, subst, refl}
+use Rattle.std.specs.Int.{bit_at}
 use lib.Bits.{bit_or}
 use Rattle.std.proofs.lemmas.Bool.{cases_eq}
-use Rattle.std.proofs.lemmas.Nat.Bits.{bit_at_or, bit_at-lt, bit_at-zero, bit_at-pow_other, bit_at-trailing_zeros, same_from_bits}
+use Rattle.std.proofs.lemmas.Nat.Bits.{bit_at_or, bit_at-zero, bit_at-pow_other}
 use Rattle.xdg_problem.specs.declared.parts.Group.{Group}
-use Rattle.xdg_problem.specs.declared.parts.Parts.{Parts}
 use Rattle.xdg_problem.specs.declared.analysis.Edge.{Edge}
 use Rattle.xdg_problem.specs.Analyses.{IsPlace}
 use Rattle.xdg_problem.specs.Boxes.{Has, IsBox, LiesIn, entry_decision, attr_decision, edge_decision}
@@ -23,32 +22,34 @@ use Rattle.xdg_store.specs.States.{State, Known}
 use Rattle.xdg_store.specs.declared.change.Change.{Change}
 use Rattle.xdg_store.specs.declared.change.Change.TheVariants as changes
 use Rattle.xdg_propcore.specs.Kinds.{kind_of, entry_kind, attr_kind, edge_kind}
-use Rattle.xdg_propcore.specs.Losses.{IsLost, Loses, LosesKind}
-use Rattle.xdg_propcore.specs.Passes.{Progress, Goes, Clears, EachValue, HasNoneClosed, IsQuiet, Answers, noted, untouched}
-use Rattle.xdg_propcore.specs.Steps.{Extends, Keeps, KeepsBoxes, Moves}
-use Rattle.xdg_propcore.specs.Uses.{IsClosedBy, StandsFor, use_at}
-use Rattle.xdg_propcore.specs.declared.moved.Moved.{Moved}
-use Rattle.xdg_propcore.specs.declared.moved.Moved.TheVariants as moves
-use Rattle.xdg_propcore.proofs.Analyses.{keeps_boxes}
+use Rattle.xdg_propcore.specs.Losses.{IsLost, LosesKind}
+use Rattle.xdg_propcore.specs.Passes.{Progress, Goes, Clears, EachValue, HasNoneClosed, IsQuiet, noted}
 use Rattle.xdg_propcore.proofs.DecisionKinds.{kind_of_entry, kind_of_attr, kind_of_edge}
-use Rattle.xdg_propcore.proofs.Settling.{extends_both}
+use Rattle.xdg_propcore.proofs.Settling.{extends_both, extends_none}
 use Rattle.xdg_propcore.proofs.Shrinking.{lies_shrunk, one_removed, removal_extends, shrinks_keeps}
 use Rattle.xdg_facts.proofs.Truths.{either}
 use Rattle.xdg_facts.proofs.Bits.{or_new_bit, or_left_bit}
 
 -- ---- nothing is done
 
-pub goes_none : (group : Group) (p : Progress) (s : State) → Goes group p s p s
-goes_none group p s = record {
-  extends = record { same = refl; more = []; grown = sym (append-nil s.history); inside = λ d v h. h };
+-- nothing is taken, whatever the progress says of boxes that are left
+goes_still : (group : Group) (p q : Progress) (s : State) → q.lost ≡ p.lost → (q.dead ≡ true → (p.dead ≡ true) ⊎ HasNoneClosed s.parts group s.now) → (IsQuiet q → IsQuiet p) → Goes group p s q s
+goes_still group p q s same dead quiet = record {
+  extends = extends_none s;
   turns = refl;
   keeps = λ box is closed lies. lies;
-  before = λ kind h. h;
+  before = λ kind. subst (λ n. bit_at n kind ≡ 1) (sym same);
   each = λ d v l. absurd (l.1 l.0);
-  only = λ kind h. inl h;
-  dead = λ h. inl h;
-  quiet = λ q. (q, refl);
+  only = λ kind h. inl (subst (λ n. bit_at n kind ≡ 1) same h);
+  dead = dead;
+  quiet = λ still. (quiet still, refl);
 }
+
+pub goes_none : (group : Group) (p : Progress) (s : State) → Goes group p s p s
+goes_none group p s = goes_still group p p s refl (λ h. inl h) (λ still. still)
+
+dead_goes : (group : Group) (p : Progress) (s : State) → HasNoneClosed s.parts group s.now → Goes group p s (noted changes.Emptied p 0) s
+dead_goes group p s none = goes_still group p (noted changes.Emptied p 0) s refl (λ h. inr none) (λ still. (let e = still.1 in cc))
 
 -- ---- one part of a step after another
 
@@ -128,18 +129,6 @@ module _ (group : Group) (p : Progress) (old new : State) (around : List (List B
   lost_last all within box box_is closed inside =
       let some = box_is.filled d within in
       in_none box box_is closed inside some.0 (all some.0 (inside d some.0 some.1)) some.1
-
-dead_goes : (group : Group) (p : Progress) (s : State) → HasNoneClosed s.parts group s.now → Goes group p s (noted changes.Emptied p 0) s
-dead_goes group p s none = record {
-  extends = record { same = refl; more = []; grown = sym (append-nil s.history); inside = λ d v h. h };
-  turns = refl;
-  keeps = λ box is closed lies. lies;
-  before = λ kind h. h;
-  each = λ d v l. absurd (l.1 l.0);
-  only = λ kind h. inl h;
-  dead = λ h. inr none;
-  quiet = λ q. (let e = q.1 in cc);
-}
 
 -- values that are taken, from the box or from one around it
 goes_taken : (change : Change) (group : Group) (p : Progress) (old new : State) (around : List (List Bool)) (d kind : ℕ) (Taken : ℕ → Type 0) → IsProblem old.parts → d < length (shape old.parts) → IsGroup old.parts group → kind_of old.parts d ≡ kind → RemovesAll change old new d Taken → LiesIn old.now around → ((v : ℕ) → Taken v → Takes old.parts group around d v) → Goes group p old (noted change p (2 ^ kind)) new
@@ -259,65 +248,3 @@ clears_failed p q s known q_is = record {
   gone = λ z d v aim h. (let e : true ≡ false = ap (λ (y : Progress). y.dead) (sym q_is) ∙ z.1 in cc);
   goes = λ group around is lies takes. subst (λ z. Goes group p s z s) (sym q_is) (dead_goes group p s (λ box box_is closed inside. (rule_laws s.parts known.problem group is).none_left box around box_is (λ d v h. lies d v (inside d v h)) closed (λ d v h. takes d v tt)));
 }
-
--- ---- a whole step
-
--- a store with its turns counted
-abbrev pub turned : State → ℕ → State
-turned s turns = record { parts = s.parts; now = s.now; history = s.history; turns = turns }
-
-some_bit : (n : ℕ) → n ≢ 0 → n < 2 ^ 64 → (kind : ℕ) × (bit_at n kind ≡ 1)
-some_bit n some small = (trailing_zeros w64 n, (bit_at-trailing_zeros w64 n (omega (arith, some)) small).1)
-
-no_bits : (n : ℕ) → ((kind : ℕ) → bit_at n kind ≡ 1 → ⊥) → n ≡ 0
-no_bits n none = same_from_bits n 0 (λ k. (let z = bit_at-zero k in let l = bit_at-lt n k in elim (cases_eq (bit_at n k) 1) [ inl e ↦ absurd (none k e) | inr o ↦ (omega (arith, z, l, o)) ]))
-
-module _ (stands : Parts → ℕ → Type 0) (number turns : ℕ) (group : Group) (old new : State) (p : Progress) (one : (k : ℕ) → stands old.parts k → k ≡ number) (use_is : use_at old.parts number ≡ group) (known_old : Known (turned old turns)) (known : Known new) (goes : Goes group untouched (turned old turns) p new) where
-  pub step_extends : Extends old new
-  step_extends = record { same = goes.extends.same; more = goes.extends.more; grown = goes.extends.grown; inside = goes.extends.inside }
-
-  my_closed : (k : ℕ) → StandsFor stands old.parts k → (box : List (List Bool)) → IsClosedFor old.parts (use_at old.parts k) box → IsClosedFor old.parts group box
-  my_closed k mine box closed = subst (λ g. IsClosedFor old.parts g box) use_is (subst (λ i. IsClosedFor old.parts (use_at old.parts i) box) (one k mine.1) closed)
-
-  not_dead : p.dead ≡ true → HasNoneClosed old.parts group old.now
-  not_dead h = elim (goes.dead h) [ inl e ↦ absurd (let z : false ≡ true = e in cc) | inr none ↦ none ]
-
-  boxes_kept : (moved : Moved) → Answers moved p → KeepsBoxes stands old.parts moved old.now new.now
-  boxes_kept moves.Same a k mine box is closed lies = (λ e. cc, goes.keeps box is (my_closed k mine box closed) lies)
-  boxes_kept (moves.Changed wakes) a k mine box is closed lies = (λ e. cc, goes.keeps box is (my_closed k mine box closed) lies)
-  boxes_kept moves.Dead a k mine box is closed lies = absurd (not_dead a box is (my_closed k mine box closed) lies)
-
-  pub step_keeps : (moved : Moved) → Answers moved p → Keeps stands moved old new
-  step_keeps moved a = keeps_boxes stands moved old new known goes.extends.same (boxes_kept moved a)
-
-  kind_lost : (kind : ℕ) → bit_at p.lost kind ≡ 1 → LosesKind old.parts old.now new.now kind
-  kind_lost kind h = elim (goes.only kind h) [ inl e ↦ absurd (let z : bit_at 0 kind ≡ 1 = e in let y = bit_at-zero kind in omega (arith, z, y)) | inr l ↦ l ]
-
-  kinds_lost : (wakes : ℕ) → wakes ≡ p.lost → p.lost ≢ 0 → p.lost < 2 ^ 64 → Loses old.parts wakes old.now new.now
-  kinds_lost wakes e some small = record {
-    some = (let k = some_bit p.lost some small in (k.0, kind_lost k.0 k.1));
-    each = λ d v l. subst (λ n. bit_at n (kind_of old.parts d) ≡ 1) (sym e) (goes.each d v l);
-    only = λ kind h. kind_lost kind (subst (λ n. bit_at n kind ≡ 1) e h);
-  }
-
-  pub step_moves : (moved : Moved) → Answers moved p → Moves moved old new
-  step_moves moves.Same a = (goes.quiet a).1
-  step_moves (moves.Changed wakes) a = kinds_lost wakes.0 a.0 a.1 a.2
-  step_moves moves.Dead a = tt
-
-  -- where the box is closed at the start nothing is taken
-  none_taken : IsClosedFor old.parts group old.now → (moved : Moved) → Answers moved p → moved ≡ moves.Same
-  none_taken closed moves.Same a = refl
-  none_taken closed (moves.Changed wakes) a = absurd (a.1 (no_bits p.lost (λ kind h. (let l = kind_lost kind h in l.lost.1 (goes.keeps old.now known_old.is_box closed (λ d v k. k) l.decision l.value l.lost.0)))))
-  none_taken closed moves.Dead a = absurd (not_dead a old.now known_old.is_box closed (λ d v k. k))
-
-  closed_then : (IsQuiet p → IsClosedFor old.parts group new.now) → (moved : Moved) → Answers moved p → moved ≡ moves.Same → IsClosedFor old.parts group old.now
-  closed_then closes moves.Same a e = subst (λ box. IsClosedFor old.parts group box) (goes.quiet a).1 (closes a)
-  closed_then closes (moves.Changed wakes) a e = cc
-  closed_then closes moves.Dead a e = cc
-
-  pub step_same : StandsFor stands old.parts number → (IsQuiet p → IsClosedFor old.parts group new.now) → (moved : Moved) → Answers moved p → (moved ≡ moves.Same) ↔ IsClosedBy stands old.parts old.now
-  step_same mine closes moved a = (
-    λ e k here. subst (λ i. IsClosedFor old.parts (use_at old.parts i) old.now) (sym (one k here.1)) (subst (λ g. IsClosedFor old.parts g old.now) (sym use_is) (closed_then closes moved a e)),
-    λ closed. none_taken (my_closed number mine old.now (closed number mine)) moved a,
-  )

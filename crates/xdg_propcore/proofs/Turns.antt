@@ -1,6 +1,6 @@
 -- Parts of a step that are loops: over the first numbers, and over the nodes of a set.
-use Rattle.std.proofs.Common.{◌≡◌, ℕ, ◌<◌, ◌≤◌, ◌+◌, ◌||◌, inl, inr, Bool, true, List, ◌∷◌, sym, arith, subst}
-use Rattle.std.proofs.lemmas.Bool.{cases_eq, cases_lt, ne_eqb}
+use Rattle.std.proofs.Common.{◌≡◌, ℕ, ◌<◌, ◌≤◌, ◌+◌, ◌||◌, inl, inr, Bool, true, List, [], ◌∷◌, sym, ◌∙◌, arith, subst}
+use Rattle.std.proofs.lemmas.Bool.{cases_Bool, cases_eq, cases_lt, false≢true, ne_eqb}
 use Rattle.xdg_problem.specs.declared.parts.Group.{Group}
 use Rattle.xdg_problem.specs.declared.parts.Parts.{Parts}
 use Rattle.xdg_store.specs.States.{State, Known}
@@ -24,7 +24,7 @@ quiet_later group P Done p old q mid held a quiet =
 abbrev pub AreBelow : (ℕ → List (List Bool) → Type 0) → ℕ → List (List Bool) → Type 0
 AreBelow P k box = (i : ℕ) → i < k → P i box
 
-below_more : (P : ℕ → List (List Bool) → Type 0) (k : ℕ) (box : List (List Bool)) → AreBelow P k box → P k box → AreBelow P (k + 1) box
+pub below_more : (P : ℕ → List (List Bool) → Type 0) (k : ℕ) (box : List (List Bool)) → AreBelow P k box → P k box → AreBelow P (k + 1) box
 below_more P k box before here i l = elim (cases_lt i k) [
   | inl less ↦ before i less
   | inr past ↦ (let e : i ≡ k = omega (arith, l, past) in subst (λ j. P j box) (sym e) here)
@@ -70,3 +70,16 @@ module _ (group : Group) (Done : Parts → ℕ → List (List Bool) → Type 0) 
         | inl same ↦ subst (λ k. Done old.parts k box) (sym same) here
         | inr other ↦ before w there (not_left left rest v w is other gone)
       ])
+
+-- behind the loop: at the nodes outside the set it held before
+pub turns_end : (group : Group) (Done : ℕ → List (List Bool) → Type 0) (Q : ℕ → Type 0) (first : List ℕ) (p : Progress) (old : State) (q : Progress) (new : State)
+    → (IsQuiet p → (v : ℕ) → Q v → (has first v ≡ true → ⊥) → Done v old.now) → Sweeps group (AreDone Done first []) p old q new
+    → Sweeps group (λ box. (v : ℕ) → Q v → Done v box) p old q new
+turns_end group Done Q first p old q new others a = record {
+  goes = a.goes;
+  known = a.known;
+  done = λ quiet v asked. elim (cases_Bool (has first v)) [
+    | inl there ↦ a.done quiet v there (λ h. false≢true h)
+    | inr not ↦ (let before = a.goes.quiet quiet in subst (Done v) (sym before.1) (others before.0 v asked (λ there. false≢true (sym not ∙ there))))
+  ];
+}

@@ -17,7 +17,7 @@ use Rattle.xdg_rules.specs.Bounds.{sum_below, candidate_cost, node_cost, edge_co
 use Rattle.xdg_rules.proofs.Agreeing.{says_present, edges_present}
 use Rattle.xdg_rules.proofs.Keeping.{Less, filter_on, less_sum, more_sum}
 use Rattle.xdg_rules.proofs.Least.{least_less, least_single}
-use Rattle.xdg_rules.proofs.Shrinking.{must_less}
+use Rattle.xdg_rules.proofs.Shrinking.{EdgesLie, less_must}
 use Rattle.xdg_rules.proofs.Sizes.{within_sizes, node_within}
 use Rattle.xdg_rules.proofs.Summing.{below_most, below_same, below_first}
 use Rattle.xdg_rules.proofs.Whole.{entry_has, entry_is, not_both, present_must}
@@ -41,17 +41,25 @@ candidate_within parts box problem is node place within remains =
 abbrev must_stand : Parts → List (List Bool) → Edge → Bool
 must_stand parts box e = has box (edge_decision parts e) 0 && not (has box (edge_decision parts e) 1)
 
-module _ (parts : Parts) (costs : CostLists) (small large : List (List Bool)) (problem : IsProblem parts) (is : IsBox (shape parts) small) (lies : LiesIn small large) where
+-- all entries and all edges that the small box has the large one has
+pub record CostsLie (parts : Parts) (small large : List (List Bool)) : Type 0 where
+  pub entries : (node c : ℕ) → node < nodes parts → Has small (entry_decision node) c → Has large (entry_decision node) c
+  pub edges : (dim : ℕ) → EdgesLie parts dim small large
+
+pub costs_lie : (parts : Parts) (small large : List (List Bool)) → LiesIn small large → CostsLie parts small large
+costs_lie parts small large lies = record { entries = λ node c within. lies (entry_decision node) c; edges = λ dim e on. lies (edge_decision parts e) }
+
+module _ (parts : Parts) (costs : CostLists) (small large : List (List Bool)) (problem : IsProblem parts) (is : IsBox (shape parts) small) (lies : CostsLie parts small large) where
   must_more : Less (must_stand parts large) (must_stand parts small) (places parts)
   must_more e c passes =
       (and_parts (e.dim.0 == e.dim.0) (must_stand parts small e)
-      (must_less parts small large is lies e.dim.0 e c (and_from (e.dim.0 == e.dim.0) (must_stand parts large e) (eq-eqb e.dim.0 e.dim.0 refl) passes))).1
+      (less_must parts e.dim.0 small large (lies.edges e.dim.0) is e c (and_from (e.dim.0 == e.dim.0) (must_stand parts large e) (eq-eqb e.dim.0 e.dim.0 refl) passes))).1
 
   node_more : (node : ℕ) → node < nodes parts → node_cost parts costs large node ≤ node_cost parts costs small node
   node_more node within =
       let filled = is.filled (entry_decision node) (node_within parts node problem within) in
       least_less (has small (entry_decision node)) (has large (entry_decision node)) (candidate_cost parts costs node) (length (slice_index_or parts.candidates node []))
-      (λ k there. lies (entry_decision node) k there) filled.0 (candidate_within parts small problem is node filled.0 within filled.1) filled.1
+      (λ k. lies.entries node k within) filled.0 (candidate_within parts small problem is node filled.0 within filled.1) filled.1
 
   -- it costs at least as much
   pub cost_more : least_cost parts costs large ≤ least_cost parts costs small

@@ -17,7 +17,7 @@ use Rattle.xdg_rules.proofs.Counting.{valency_full, valency_needed}
 use Rattle.xdg_rules.proofs.Rooted.{root_found, only_mother}
 use Rattle.xdg_rules.proofs.Failing.{fails_small}
 use Rattle.xdg_rules.proofs.Narrowing.{narrower}
-use Rattle.xdg_rules.proofs.Costing.{cost_more, bound_kept}
+use Rattle.xdg_rules.proofs.Costing.{costs_lie, cost_more, bound_kept}
 
 module _ (parts : Parts) (group : Group) (small large : List (List Bool)) (problem : IsProblem parts) (group_is : IsGroup parts group) (is : IsBox (shape parts) small) (lies : LiesIn small large) where
   for_root : (d v : ℕ) → (TakesForRoot parts group small d v → ⊥) → TakesForRoot parts group large d v → ⊥
@@ -38,8 +38,8 @@ module _ (parts : Parts) (group : Group) (small large : List (List Bool)) (probl
   taken_by principles.Valency same keeps d v has (inr (inl full)) = valency_full parts group small large problem is lies (λ e c there entry. keeps e c there (inl entry)) d v (λ r. keeps d v has (inr (inl r))) full
   taken_by principles.Valency same keeps d v has (inr (inr needed)) = valency_needed parts group small large problem is lies (λ e c there entry. keeps e c there (inl entry)) d v (λ r. keeps d v has (inr (inr r))) needed
   taken_by (principles.Rule formula) same keeps d v has taken = keeps d v has (narrower parts small large is lies (claim formula) false unbound taken)
-  taken_by (principles.Bound costs bound) same keeps d v has (inl reached) = keeps d v has (inl (let more = cost_more parts costs small large problem is lies in omega (arith, reached, more)))
-  taken_by (principles.Bound costs bound) same keeps d v has (inr place) = bound_kept parts costs small large problem is lies bound d v (λ reached. keeps d v has (inl reached)) (λ rule. keeps d v has (inr rule)) has place
+  taken_by (principles.Bound costs bound) same keeps d v has (inl reached) = keeps d v has (inl (let more = cost_more parts costs small large problem is (costs_lie parts small large lies) in omega (arith, reached, more)))
+  taken_by (principles.Bound costs bound) same keeps d v has (inr place) = bound_kept parts costs small large problem is (costs_lie parts small large lies) bound d v (λ reached. keeps d v has (inl reached)) (λ rule. keeps d v has (inr rule)) has place
   taken_by principle same keeps d v has taken = keeps d v has (antitone parts group group_is small large is principle same tt (lies_at principle parts group small large lies) d v taken)
 
   pub monotone : IsClosedFor parts group small → (d v : ℕ) → Takes parts group large d v → Has small d v → ⊥
