@@ -1,7 +1,7 @@
 -- What keeps two edges apart, at one place.
 use Rattle.std.proofs.Common.{◌≡◌, ℕ, ◌<◌, ◌≤◌, ◌+◌, ◌↔◌, inl, inr, Bool, true, IsTrue, List, refl, ap, sym, ◌∙◌, arith, subst}
 use Rattle.std.specs.Prelude.{Contains}
-use Rattle.std.proofs.lemmas.Bool.{cases_lt, false≢true}
+use Rattle.std.proofs.lemmas.Bool.{false≢true}
 use Rattle.xdg_problem.specs.declared.analysis.Edge.{Edge}
 use Rattle.xdg_problem.specs.declared.parts.Group.{Group}
 use Rattle.xdg_problem.specs.declared.parts.Parts.{Parts}
@@ -23,7 +23,8 @@ use Rattle.xdg_propcore.specs.Sweeps.{Sweeps}
 use Rattle.xdg_plink.specs.Steps.{AsksApart, CanPart, IsDoneAt, IsFirstDone, IsSecondDone, MustJoin, TakesAt}
 use Rattle.xdg_graph.specs.Edges.{edge_labels}
 use Rattle.xdg_graph.proofs.Labelled.{label_below, place_between}
-use Rattle.xdg_propcore.proofs.Sweeping.{sweeps_start}
+use Rattle.xdg_propcore.proofs.Sweeping.{sweeps_skip, sweeps_start}
+use Rattle.xdg_propcore.proofs.Turns.{below_more, below_next}
 use Rattle.xdg_problem.proofs.Edges.{edge_equal}
 
 -- a value that says that an edge is present
@@ -118,10 +119,7 @@ pub none_joins_first : (parts : Parts) (box : List (List Bool)) (dim u v : ℕ) 
 none_joins_first parts box dim u v label l = absurd (omega (arith, l))
 
 pub none_joins_next : (parts : Parts) (box : List (List Bool)) (dim u v k : ℕ) → NoneJoins parts box dim u v k → (Must parts box (edge dim u k v) → ⊥) → NoneJoins parts box dim u v (k + 1)
-none_joins_next parts box dim u v k before here label l must = elim (cases_lt label k) [
-  | inl less ↦ before label less must
-  | inr past ↦ (let e : label ≡ k = omega (arith, l, past) in here (subst (λ i. Must parts box (edge dim u i v)) e must))
-]
+none_joins_next parts box dim u v k = below_more (λ label b. Must parts b (edge dim u label v) → ⊥) k box
 
 pub one_joins : (parts : Parts) (box : List (List Bool)) (dim u v label n : ℕ) → label < n → Must parts box (edge dim u label v) → IsTrue true ↔ MustJoin parts box dim u v n
 one_joins parts box dim u v label n l must = (λ t. (label, l, must), λ m. refl)
@@ -157,43 +155,31 @@ module _ (group : Group) (place : Edge) (p : Progress) (old : State) (can : CanP
       other label = edge dim place.mother.0 label place.daughter.0
 
       pub second_turn : (k : ℕ) (q : Progress) (mid : State) (r : Progress) (new : State) → k < edge_labels old.parts dim → Sweeps group (SecondBelow old.parts place dim k) p old q mid → Clears (λ d v. (d ≡ edge_decision mid.parts (other k)) × (v ≡ 0)) q mid r new → Known new → Sweeps group (SecondBelow old.parts place dim (k + 1)) p old r new
-      second_turn k q mid r new l a clears known = record {
-        goes = goes_both group p q r old mid new a.goes goes;
-        known = known;
-        done = λ quiet label m has. elim (cases_lt label k) [
-          | inl less ↦ (let z = goes.quiet quiet in a.done z.0 label less (subst (λ box. Has box (edge_decision old.parts (other label)) 0) z.1 has))
-          | inr past ↦ (let e : label ≡ k = omega (arith, m, past) in clears.gone quiet (edge_decision mid.parts (other k)) 0 (refl, refl) (subst (λ parts. Has new.now (edge_decision parts (other k)) 0) (sym same) (subst (λ i. Has new.now (edge_decision old.parts (other i)) 0) e has)))
-        ];
-      } where
-        same : mid.parts ≡ old.parts
-        same = a.goes.extends.same
+      second_turn k q mid r new l a clears known = below_next group (λ parts label box. Has box (edge_decision parts (other label)) 0 → ⊥) k p old q mid r new a
+          (record { goes = goes; known = known; done = λ quiet. clears.gone quiet (edge_decision mid.parts (other k)) 0 (refl, refl) }) where
+            same : mid.parts ≡ old.parts
+            same = a.goes.extends.same
 
-        takes : Takes old.parts group old.now (edge_decision old.parts (other k)) 0
-        takes = second_takes old.parts group old.now can.0.known.is_box can.1 place can.0.place_is can.0.on dim k at (subst (λ i. k < edge_labels old.parts i) at l) asks must
+            takes : Takes old.parts group old.now (edge_decision old.parts (other k)) 0
+            takes = second_takes old.parts group old.now can.0.known.is_box can.1 place can.0.place_is can.0.on dim k at (subst (λ i. k < edge_labels old.parts i) at l) asks must
 
-        aimed : (d v : ℕ) → (d ≡ edge_decision mid.parts (other k)) × (v ≡ 0) → Takes mid.parts group old.now d v
-        aimed d v aim = subst (λ parts. Takes parts group old.now d v) (sym same)
-            (subst (λ i. Takes old.parts group old.now i v) (sym (aim.0 ∙ ap (λ parts. edge_decision parts (other k)) same))
-            (subst (λ x. Takes old.parts group old.now (edge_decision old.parts (other k)) x) (sym aim.1) takes))
+            aimed : (d v : ℕ) → (d ≡ edge_decision mid.parts (other k)) × (v ≡ 0) → Takes mid.parts group old.now d v
+            aimed d v aim = subst (λ parts. Takes parts group old.now d v) (sym same)
+                (subst (λ i. Takes old.parts group old.now i v) (sym (aim.0 ∙ ap (λ parts. edge_decision parts (other k)) same))
+                (subst (λ x. Takes old.parts group old.now (edge_decision old.parts (other k)) x) (sym aim.1) takes))
 
-        goes : Goes group q mid r new
-        goes = clears.goes group old.now (subst (λ parts. IsGroup parts group) (sym same) can.0.group_is) a.goes.extends.inside aimed
+            goes : Goes group q mid r new
+            goes = clears.goes group old.now (subst (λ parts. IsGroup parts group) (sym same) can.0.group_is) a.goes.extends.inside aimed
 
       pub second_end : (k : ℕ) (q : Progress) (new : State) → edge_labels old.parts dim ≤ k → Sweeps group (SecondBelow old.parts place dim k) p old q new → Sweeps group (IsSecondDone old.parts group place) p old q new
-      second_end k q new all a = record {
-        goes = a.goes;
-        known = a.known;
-        done = λ quiet. second_gone old.parts group new.now (new_box group p q old new a.goes a.known) can.1 place can.0.place_is can.0.on
-            (subst (λ i. (label : ℕ) → label < edge_labels old.parts i → Has new.now (edge_decision old.parts (edge i place.mother.0 label place.daughter.0)) 0 → ⊥) at (λ label l. a.done quiet label (omega (arith, l, all))));
-      }
+      second_end k q new all a = sweeps_skip group (SecondBelow old.parts place dim k) (IsSecondDone old.parts group place) p old q new a
+          (λ done. second_gone old.parts group new.now (new_box group p q old new a.goes a.known) can.1 place can.0.place_is can.0.on
+          (subst (λ i. (label : ℕ) → label < edge_labels old.parts i → Has new.now (edge_decision old.parts (edge i place.mother.0 label place.daughter.0)) 0 → ⊥) at (λ label l. done label (omega (arith, l, all)))))
 
   -- the first part alone
   pub part_first_only : (q : Progress) (new : State) → Sweeps group (IsFirstDone old.parts group place) p old q new → (Must new.parts new.now place → ⊥) → Sweeps group (IsDoneAt old.parts group place) p old q new
-  part_first_only q new a free = record {
-    goes = a.goes;
-    known = a.known;
-    done = λ quiet. done_first old.parts group new.now (new_box group p q old new a.goes a.known) can.1 place can.0.place_is can.0.on (subst (λ parts. Must parts new.now place → ⊥) a.goes.extends.same free) (a.done quiet);
-  }
+  part_first_only q new a free = sweeps_skip group (IsFirstDone old.parts group place) (IsDoneAt old.parts group place) p old q new a
+      (done_first old.parts group new.now (new_box group p q old new a.goes a.known) can.1 place can.0.place_is can.0.on (subst (λ parts. Must parts new.now place → ⊥) a.goes.extends.same free))
 
   -- both parts
   pub part_both : (q : Progress) (mid : State) (r : Progress) (new : State) → Sweeps group (IsFirstDone old.parts group place) p old q mid → Sweeps group (IsSecondDone mid.parts group place) q mid r new → Sweeps group (IsDoneAt old.parts group place) p old r new

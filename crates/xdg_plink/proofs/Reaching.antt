@@ -1,12 +1,11 @@
 -- The linking principles by two cases: those that ask for edges of the second dimension, and the one that keeps edges apart.
-use Rattle.std.proofs.Common.{◌≡◌, ℕ, ◌<◌, ◌⊎◌, ◌↔◌, inl, inr, Bool, true, List, length, refl}
+use Rattle.std.proofs.Common.{◌≡◌, ℕ, ◌<◌, ◌⊎◌, ◌↔◌, inl, inr, Bool, List, length, refl, rules}
 use Rattle.xdg_problem.specs.declared.analysis.Edge.{Edge}
 use Rattle.xdg_problem.specs.declared.parts.Group.{Group}
 use Rattle.xdg_problem.specs.declared.parts.Parts.{Parts}
 use Rattle.xdg_problem.specs.declared.parts.Principle.{Principle}
 use Rattle.xdg_problem.specs.declared.parts.Principle.TheVariants as principles
 use Rattle.xdg_problem.specs.Features.{map_row}
-use Rattle.xdg_problem.specs.Principles.{looks_at_entries, looks_at_first, looks_at_second}
 use Rattle.xdg_rules.specs.Rules.{EachEntry, LinkingReach, TakesBy}
 use Rattle.xdg_plink.specs.Family.{IsLinking, Reaches}
 use Rattle.xdg_plink.specs.Steps.{Asks, TakesAt}
@@ -18,26 +17,14 @@ pub record IsReach (p : Principle) : Type 0 where
       → TakesAt p parts group box place d v ↔ ((rule : LinkingReach parts group box (way_of p) d v) × (rule.place ≡ place))
   pub takes : (parts : Parts) (group : Group) (box : List (List Bool)) (d v : ℕ) → TakesBy p parts group box d v ↔ LinkingReach parts group box (way_of p) d v
   pub asks : (group : Group) (box : List (List Bool)) (u label : ℕ) → Asks p group box u label ↔ EachEntry box u (λ c. 0 < length (map_row group u c label))
-  pub looks : (looks_at_entries p ≡ true) × (looks_at_first p ≡ true) × (looks_at_second p ≡ true)
 
 pub is_reach : (p : Principle) → Reaches p → IsReach p
-is_reach principles.LinkingEnd r = record { at = λ parts group box place d v. (λ t. t, λ t. t); takes = λ parts group box d v. (λ t. t, λ t. t); asks = λ group box u label. (λ a. a, λ a. a); looks = (refl, refl, refl) }
-is_reach principles.LinkingDaughter r = record { at = λ parts group box place d v. (λ t. t, λ t. t); takes = λ parts group box d v. (λ t. t, λ t. t); asks = λ group box u label. (λ a. a, λ a. a); looks = (refl, refl, refl) }
-is_reach principles.LinkingMother r = record { at = λ parts group box place d v. (λ t. t, λ t. t); takes = λ parts group box d v. (λ t. t, λ t. t); asks = λ group box u label. (λ a. a, λ a. a); looks = (refl, refl, refl) }
-is_reach principles.LinkingBelowStart r = record { at = λ parts group box place d v. (λ t. t, λ t. t); takes = λ parts group box d v. (λ t. t, λ t. t); asks = λ group box u label. (λ a. a, λ a. a); looks = (refl, refl, refl) }
-is_reach principles.LinkingAboveStart r = record { at = λ parts group box place d v. (λ t. t, λ t. t); takes = λ parts group box d v. (λ t. t, λ t. t); asks = λ group box u label. (λ a. a, λ a. a); looks = (refl, refl, refl) }
-is_reach principles.LinkingSisters r = record { at = λ parts group box place d v. (λ t. t, λ t. t); takes = λ parts group box d v. (λ t. t, λ t. t); asks = λ group box u label. (λ a. a, λ a. a); looks = (refl, refl, refl) }
-is_reach p r = absurd r
+is_reach principles.LinkingEnd r = record { at = λ parts group box place d v. (λ t. t, λ t. t); takes = λ parts group box d v. (λ t. t, λ t. t); asks = λ group box u label. (λ a. a, λ a. a) }
+is_reach p r = search rules
 
 pub reach_or_apart : (p : Principle) → IsLinking p → Reaches p ⊎ (p ≡ principles.LinkingNotDaughter)
-reach_or_apart principles.LinkingEnd l = inl tt
-reach_or_apart principles.LinkingDaughter l = inl tt
-reach_or_apart principles.LinkingMother l = inl tt
-reach_or_apart principles.LinkingBelowStart l = inl tt
-reach_or_apart principles.LinkingAboveStart l = inl tt
-reach_or_apart principles.LinkingSisters l = inl tt
 reach_or_apart principles.LinkingNotDaughter l = inr refl
-reach_or_apart p l = absurd l
+reach_or_apart p l = inl l
 
 -- one that asks for none keeps them apart
 pub not_reaching : (p : Principle) → IsLinking p → (Reaches p → ⊥) → p ≡ principles.LinkingNotDaughter
