@@ -87,7 +87,8 @@ module _ (parts : Parts) (group : Group) (small large : List (List Bool)) where
   may_apart : (dim u v : ℕ) → Among (may small dim) (may large dim) → (Above (may large dim) u v → ⊥) → Above (may small dim) u v → ⊥
   may_apart dim u v fewer apart above = apart (above_among (may small dim) (may large dim) fewer u v above)
 
-  pub valency_entry : Less (may_be parts small one) (may_be parts large one) (places parts) → Less (must_be parts large one) (must_be parts small one) (places parts) → (d v : ℕ) → ValencyEntry parts group large d v → ValencyEntry parts group small d v
+  pub valency_entry : Less (may_be parts small one) (may_be parts large one) (places parts) → Less (must_be parts large one) (must_be parts small one) (places parts)
+      → (d v : ℕ) → ValencyEntry parts group large d v → ValencyEntry parts group small d v
   valency_entry fewer more d v rule = record {
     node = rule.node;
     within = rule.within;
@@ -162,7 +163,8 @@ module _ (parts : Parts) (group : Group) (small large : List (List Bool)) where
   only_value : (d v : ℕ) → (x : ℕ) × Has small d x → ((x : ℕ) → Has small d x → x ≡ v) → Has small d v
   only_value d v some only = subst (Has small d) (only some.0 some.1) some.1
 
-  pub about_head : IsBox (shape parts) small → ((node : ℕ) → node < nodes parts → attr_of_node parts group 0 node < length (shape parts)) → (d v : ℕ) (rule : AboutHead parts group large d v) → AttrsLie 0 rule.place.mother.0 → AboutHead parts group small d v
+  pub about_head : IsBox (shape parts) small → ((node : ℕ) → node < nodes parts → attr_of_node parts group 0 node < length (shape parts))
+      → (d v : ℕ) (rule : AboutHead parts group large d v) → AttrsLie 0 rule.place.mother.0 → AboutHead parts group small d v
   about_head is decided d v rule attrs =
       let own = attr_of_node parts group 0 rule.place.mother.0 in
       let only : (x : ℕ) → Has small own x → x ≡ rule.own = λ x remains. rule.only x (attrs x remains) in

@@ -55,7 +55,8 @@ EntryLooks p n (Some node) = (looks_at_entries p ≡ true) × (node < n)
 
 -- nor does it look elsewhere than its principle
 abbrev Looks : Principle → Parts → Group → Test → Type 0
-Looks p parts group test = EntryLooks p (nodes parts) (entry_node test) × ((e : Edge) → looks_first (first_dim group) test e ≡ true → looks_at_first p ≡ true) × ((e : Edge) → looks_second (second_dim group) test e ≡ true → looks_at_second p ≡ true)
+Looks p parts group test =
+    EntryLooks p (nodes parts) (entry_node test) × ((e : Edge) → looks_first (first_dim group) test e ≡ true → looks_at_first p ≡ true) × ((e : Edge) → looks_second (second_dim group) test e ≡ true → looks_at_second p ≡ true)
 
 module _ (parts : Parts) (group : Group) where
   abbrev EachOf : (Test → Type 0) → Principle → Type 0
@@ -150,7 +151,8 @@ module _ (parts : Parts) (group : Group) (small large : List (List Bool)) (probl
           decided = record {
             entry = entry.0;
             attrs = λ k d l. decided_small _ (attr_place_within parts _ (within k d l)) (attrs_lie k d l) (failing.decided.attrs k d l);
-            edges = All-weaker (Contains (places parts)) (EdgeDecided small) (λ e c looked. decided_small (edge_decision parts e) (edge_within parts e c) (edge_lies e c looked) (edge_decided e c looked)) (places parts) (All-contains_itself (places parts));
+            edges = All-weaker (Contains (places parts)) (EdgeDecided small) (λ e c looked. decided_small (edge_decision parts e) (edge_within parts e c) (edge_lies e c looked) (edge_decided e c looked))
+                (places parts) (All-contains_itself (places parts));
           };
           fails = λ passes. failing.fails (passes_like (nodes parts) group failing.test _ _ _ _ _ _ entry.1
               (map_alike (λ place. value_in small (length parts.candidates + place)) (λ place. value_in large (length parts.candidates + place)) (test_attrs parts group failing.test)

@@ -34,12 +34,14 @@ module _ (parts : Parts) (group : Group) (small large : List (List Bool)) (probl
   taken_by principles.Dag same keeps d v has (inl cycle) = keeps d v has (inl (no_cycle parts group small large (must_among parts small large is lies (first_dim group)) d v cycle))
   taken_by principles.Dag same keeps d v has (inr (inl root)) = for_root d v (λ r. keeps d v has (inr (inl (root.0, r)))) root.1
   taken_by principles.Dag same keeps d v has (inr (inr label)) = keeps d v has (inr (inr (label.0, one_label parts group small large (must_among parts small large is lies (first_dim group)) d v label.1)))
-  taken_by principles.Valency same keeps d v has (inl entry) = keeps d v has (inl (valency_entry parts group small large (may_less parts small large is lies (first_dim group)) (must_less parts small large is lies (first_dim group)) d v entry))
+  taken_by principles.Valency same keeps d v has (inl entry) = keeps d v has (inl
+      (valency_entry parts group small large (may_less parts small large is lies (first_dim group)) (must_less parts small large is lies (first_dim group)) d v entry))
   taken_by principles.Valency same keeps d v has (inr (inl full)) = valency_full parts group small large problem is lies (λ e c there entry. keeps e c there (inl entry)) d v (λ r. keeps d v has (inr (inl r))) full
   taken_by principles.Valency same keeps d v has (inr (inr needed)) = valency_needed parts group small large problem is lies (λ e c there entry. keeps e c there (inl entry)) d v (λ r. keeps d v has (inr (inr r))) needed
   taken_by (principles.Rule formula) same keeps d v has taken = keeps d v has (narrower parts small large is lies (claim formula) false unbound taken)
   taken_by (principles.Bound costs bound) same keeps d v has (inl reached) = keeps d v has (inl (let more = cost_more parts costs small large problem is (costs_lie parts small large lies) in omega (arith, reached, more)))
-  taken_by (principles.Bound costs bound) same keeps d v has (inr place) = bound_kept parts costs small large problem is (costs_lie parts small large lies) bound d v (λ reached. keeps d v has (inl reached)) (λ rule. keeps d v has (inr rule)) has place
+  taken_by (principles.Bound costs bound) same keeps d v has (inr place) =
+      bound_kept parts costs small large problem is (costs_lie parts small large lies) bound d v (λ reached. keeps d v has (inl reached)) (λ rule. keeps d v has (inr rule)) has place
   taken_by principle same keeps d v has taken = keeps d v has (antitone parts group group_is small large is principle same tt (lies_at principle parts group small large lies) d v taken)
 
   pub monotone : IsClosedFor parts group small → (d v : ℕ) → Takes parts group large d v → Has small d v → ⊥
