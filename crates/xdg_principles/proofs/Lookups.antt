@@ -4,7 +4,8 @@ use Rattle.std.specs.Prelude.{slice_get, option_map}
 use Rattle.std.proofs.lemmas.Option.{slice_get-map}
 use Rattle.xdg_names.specs.Texts.{place_of}
 use Rattle.xdg_types.specs.declared.table.DimType.{DimType}
-use Rattle.xdg_types.specs.Table.{KeepDims, firsts}
+use Rattle.xdg_types.specs.Table.{KeepsDim, KeepDims, firsts}
+use Rattle.xdg_types.proofs.Kept.{keeps_at}
 use Rattle.xdg_principles.specs.declared.lookup.Lookup.{Lookup}
 use Rattle.xdg_problem.specs.declared.forms.Sort.{Sort}
 use Rattle.xdg_problem.specs.declared.forms.Sort.TheVariants as s
@@ -14,14 +15,12 @@ use Rattle.xdg_facts.specs.Membership.{Differ}
 
 -- ---- names differ
 
-differ_here : (sort : Sort) (dim : DimType) → (x : KeepDims (dim ∷ [])) → Differ (firsts (members_in sort (Some dim)))
-differ_here s.Feature dim x = x.0.fields
-differ_here s.Attribute dim x = x.0.attrs
+differ_here : (sort : Sort) (dim : DimType) → KeepsDim dim → Differ (firsts (members_in sort (Some dim)))
+differ_here s.Feature dim keeps = keeps.fields
+differ_here s.Attribute dim keeps = keeps.attrs
 
 pub differ_at : (dims : List DimType) (sort : Sort) (k : ℕ) (dim : DimType) → KeepDims dims → k < length dims → dim ≡ get_or dims k dim → Differ (firsts (members_in sort (Some dim)))
-differ_at [] sort k dim keeps h e = absurd (omega arith)
-differ_at (d ∷ ds) sort zero dim keeps h e = subst (λ x. Differ (firsts (members_in sort (Some x)))) (sym e) (differ_here sort d (keeps.0, tt))
-differ_at (d ∷ ds) sort (suc k) dim keeps h e = differ_at ds sort k dim keeps.1 (omega arith) e
+differ_at dims sort k dim keeps h e = differ_here sort dim (keeps_at dims k dim keeps h e)
 
 -- ---- the place of a label
 

@@ -11,11 +11,11 @@ use Rattle.xdg_names.specs.Texts.{has_text}
 use Rattle.xdg_types.specs.NameFaults.{unknown, repeats, different}
 use Rattle.xdg_ast.specs.Misnamed.{IsUnknown, IsTwice}
 use Rattle.xdg_types.specs.Parts.{Statement, dim_names, used_names, keys}
-use Rattle.xdg_names.proofs.Listing.{Lists, lists_tell, lists_as, lists_both, lists_each}
+use Rattle.xdg_names.proofs.Listing.{Lists, lists_tell, lists_as, lists_both, lists_each, lists_unknown}
 use Rattle.xdg_types.proofs.Listings.{joined_each, nested, regrouped}
 use Rattle.xdg_types.proofs.Optional.{lists_one, lists_option, lists_if}
 use Rattle.xdg_types.proofs.Distinct.{same_known}
-use Rattle.xdg_names.proofs.Texts.{has_among, among_has, not_among, no_text}
+use Rattle.xdg_names.proofs.Texts.{has_among, among_has}
 use Rattle.xdg_types.proofs.NamesAgain.{all_twice}
 use Rattle.xdg_types.proofs.NamesKnown.{all_unknown, unknown_names}
 use Rattle.xdg_principles.specs.Names.{IsUnusedDimension, IsUnknownPrinciple, IsUnknownKey, IsMissing, IsLeftOut, PrincipleNameOffends, once, given_dims, dim_keys, arg_keys, required_keys}
@@ -25,7 +25,7 @@ use Rattle.xdg_problem.specs.declared.parts.Principle.{Principle}
 use Rattle.xdg_problem.specs.Forms.{form_of}
 use Rattle.xdg_problem.specs.Names.{named}
 use Rattle.xdg_principles.specs.Uses.{Use, principle_uses, values}
-use Rattle.xdg_facts.proofs.In.{in_unless, unless_in, in_flat_map, flat_map_in}
+use Rattle.xdg_facts.specs.Membership.{In}
 use Rattle.xdg_ast.specs.Texts.{texts}
 
 -- ---- the keys of a principle
@@ -35,12 +35,10 @@ all_keys form one =
     lists_both (all_unknown causes.WrongParams (dim_keys form) (dim_keys form) (λ t. refl) (keys one.dims)) (all_unknown causes.WrongParams (arg_keys form) (arg_keys form) (λ t. refl) (keys one.args))
 
 all_missing : (at : ℕ) (names : List Name) (wanted : List (List ℕ)) → Lists (flat_map (lacking at names) wanted) (IsMissing wanted names at)
-all_missing at names wanted = record {
-  sound = λ f h. (let k = in_flat_map (lacking at names) wanted f h in
-      let e = in_unless (has_text (texts names) k.0) (fault_at causes.MissingArg at) f k.1.1 in
-      record { key = k.0; asked = k.1.0; missing = not_among (texts names) k.0 e.0; fault = sym e.1 });
-  complete = λ f m. flat_map_in (lacking at names) wanted m.key f m.asked (unless_in (has_text (texts names) m.key) (fault_at causes.MissingArg at) f (no_text (texts names) m.key m.missing) (sym m.fault));
-}
+all_missing at names wanted =
+    lists_as
+    (lists_each (lacking at names) (λ key f. (In (texts names) key → ⊥) × (fault_at causes.MissingArg at ≡ f)) wanted (λ key asked. lists_unknown (texts names) key (fault_at causes.MissingArg at)))
+    (λ f. (λ k. record { key = k.0; asked = k.1.0; missing = k.1.1.0; fault = sym k.1.1.1 }, λ m. (m.key, (m.asked, (m.missing, sym m.fault)))))
 
 all_left_out : (form : Form) (one : Use) → Lists (left_out form one) (λ f. IsMissing (dim_keys form) (keys one.dims) one.name.span.start f ⊎ IsMissing (required_keys form) (keys one.args) one.name.span.start f)
 all_left_out form one = lists_both (all_missing one.name.span.start (keys one.dims) (dim_keys form)) (all_missing one.name.span.start (keys one.args) (required_keys form))
