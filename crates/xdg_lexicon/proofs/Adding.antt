@@ -1,5 +1,5 @@
 -- Entries added one by one, without those that stand there already.
-use Rattle.std.proofs.Common.{◌≡◌, inl, inr, ℕ, ◌+◌, ◌<◌, ◌≤◌, length, get_or, drop, List, [], ◌∷◌, ◌++◌, Option, None, Some, refl, sym, ap, ap₂, ◌∙◌, subst}
+use Rattle.std.proofs.Common.{◌≡◌, inl, inr, ℕ, ◌+◌, ◌<◌, ◌≤◌, length, get_or, drop, List, [], ◌∷◌, ◌++◌, None, Some, refl, sym, ap, ap₂, ◌∙◌, subst}
 use Rattle.std.proofs.lemmas.List.{drop_all}
 use Rattle.xdg_types.specs.Table.{Table}
 use Rattle.xdg_packed.specs.Lexicon.{Entry}
@@ -26,15 +26,12 @@ same_whole table [] [] [] a b = refl
 same_whole table (p ∷ ps) (e ∷ es) (d ∷ ds) a b = ap₂ (λ x xs. x ∷ xs) (some_same (whole table p) e d a.0 b.0) (same_whole table ps es ds a.1 b.1)
 same_whole table _ _ _ a b = absurd (assumption (a, b))
 
-apart : (o : Option Entry) (e : Entry) → o ≡ Some e → o ≡ None → ⊥
-apart o e a b = cc
-
 -- where each is whole, none lacks a feature
 pub none_lacks : (table : Table) (ps : List Partial) (es : List Entry) (p : Partial) → AreWhole table ps es → In ps p → whole table p ≡ None → ⊥
 none_lacks table [] es p a stands none = stands
 none_lacks table (q ∷ ps) [] p a stands none = a
 none_lacks table (q ∷ ps) (e ∷ es) p a stands none = elim stands [
-  | inl is ↦ apart (whole table q) e a.0 (ap (whole table) is ∙ none)
+  | inl is ↦ (let some = a.0 in let lacks = ap (whole table) is ∙ none in cc)
   | inr later ↦ none_lacks table ps es p a.1 later none
 ]
 

@@ -10,6 +10,7 @@ use Rattle.xdg_classes.specs.Bodies.{Pairs, Body, calling, body}
 use Rattle.xdg_check.specs.declared.checked.Class.{Class}
 use Rattle.xdg_check.specs.Checked.{Parts, IsChecked, named_body, named_bodies}
 use Rattle.xdg_check.specs.Counts.{class_texts, kept_at, kept_by}
+use Rattle.xdg_packed.proofs.WordLists.{place_inside}
 use Rattle.xdg_lexicon.specs.Denotes as den
 use Rattle.xdg_lexicon.specs.Denotes.{closed_args, Denotes, IsRanked}
 use Rattle.xdg_lexicon.specs.Partial.{Partial}
@@ -22,11 +23,7 @@ use Rattle.xdg_facts.proofs.In.{in_got, map_in}
 -- ---- classes by name
 
 pub place_within : (cs lent : List Class) (text : List ℕ) (k : ℕ) → lent ≡ cs → Some k ≡ place_of (class_texts cs) text → k < length lent
-place_within cs lent text k same found =
-    let l = (place_of-Some (class_texts cs) text k (sym found)).0 in
-    let long : length (class_texts cs) ≡ length cs = length-map cs (λ (c : Class). c.name) in
-    let lent_long : length lent ≡ length cs = ap length same in
-    omega (arith, l, long, lent_long)
+place_within cs lent text k same found = place_inside (class_texts cs) text k (length lent) (sym found) (ap length same ∙ sym (length-map cs (λ (c : Class). c.name)))
 
 -- the name has this class
 abbrev pub IsClassOf : Parts → List ℕ → Class → Type 0

@@ -1,5 +1,5 @@
 -- A term means one value at most where a type is wanted, and a record says one thing of each dimension.
-use Rattle.std.proofs.Common.{◌≡◌, ◌⊎◌, inl, inr, ℕ, ◌<◌, zero, suc, List, [], length, Option, Some, None, refl, sym, ap, ◌∙◌, subst, arith, codes}
+use Rattle.std.proofs.Common.{◌≡◌, inl, inr, ℕ, ◌<◌, zero, suc, List, [], length, Option, Some, None, refl, sym, ap, ◌∙◌, subst, arith, codes}
 use Rattle.std.specs.Prelude.{Bool, true, false, bytes_eq, ◌&&◌}
 use Rattle.std.proofs.lemmas.Bool.{cases_Bool, true≢false}
 use Rattle.std.proofs.lemmas.List.{ext_get_or}
@@ -88,12 +88,6 @@ mutual
 
 -- ---- records
 
-same_or_not : (a b : List ℕ) → (a ≡ b) ⊎ (a ≡ b → ⊥)
-same_or_not a b = elim (cases_Bool (bytes_eq a b)) [
-  | inl t ↦ inl (same_text a b t)
-  | inr f ↦ inr (λ is. true≢false (sym (is_same a b is) ∙ f))
-]
-
 one_said : (bs : Bindings) (fs : Fields) (pairs : Pairs) (m n : Record) → AreTypes fs → SaysFields bs fs pairs m → SaysFields bs fs pairs n → m ≡ n
 one_said bs fs pairs m n types h k = said_same 0 m n h.0 k.0 (λ key. one_field bs fs (written pairs) key (said_at m key) (said_at n key) types (h.1 key) (k.1 key))
 
@@ -103,7 +97,7 @@ one_record dims bs name pairs p q keeps h k = ext_get_or [] p q (h.count ∙ sym
     let inside : i < length dims = (let long = h.count in omega (arith, within, long)) in
     let at = some_at dims i inside in
     let dim : DimType = at.0 in
-    elim (same_or_not dim.name name) [
-      | inl is ↦ one_said bs (features dim) pairs _ _ (types_of dim.fields (keeps_found dims i dim at.1 keeps).features) (h.said i dim at.1 is) (k.said i dim at.1 is)
-      | inr other ↦ h.unsaid i dim at.1 other ∙ sym (k.unsaid i dim at.1 other)
+    elim (cases_Bool (bytes_eq dim.name name)) [
+      | inl t ↦ let is = same_text dim.name name t in one_said bs (features dim) pairs _ _ (types_of dim.fields (keeps_found dims i dim at.1 keeps).features) (h.said i dim at.1 is) (k.said i dim at.1 is)
+      | inr f ↦ let other : dim.name ≡ name → ⊥ = λ is. true≢false (sym (is_same dim.name name is) ∙ f) in h.unsaid i dim at.1 other ∙ sym (k.unsaid i dim at.1 other)
     ])

@@ -12,6 +12,7 @@ use Rattle.xdg_domain.specs.Values.{EachSaid, IsValue, IsFieldOf}
 use Rattle.xdg_domain.specs.declared.types.Ty.{Ty}
 use Rattle.xdg_domain.specs.declared.values.Value.{Value}
 use Rattle.xdg_domain.proofs.Keyed.{at_head, after_head, unsaid}
+use Rattle.xdg_packed.proofs.Growing.{cut_last}
 use Rattle.xdg_terms.proofs.SaidKeys.{rises_later}
 use Rattle.xdg_lexicon.specs.Made.{entry, IsMade, EndsAt}
 use Rattle.xdg_lexicon.specs.Partial.{Record, IsRecord}
@@ -48,13 +49,10 @@ not_last s rest e key is differs rises below = elim (cases_eq e.0 key) [
 pub none_said : {V : Type 0} (s : List (ℕ × V)) (key : ℕ) → KeysBelow key s → None ≡ said_at s key
 none_said s key below = sym (beyond s key key below (omega arith))
 
-same_last : {V : Type 0} (s rest more : List (ℕ × V)) (e f : ℕ × V) → s ≡ rest ++ e ∷ [] → s ≡ more ++ f ∷ [] → e.0 ≡ f.0
-same_last s rest more e f i j = (let k : e ∷ reverse rest ≡ f ∷ reverse more = sym (reverse-append rest (e ∷ [])) ∙ (ap reverse (sym i ∙ j) ∙ reverse-append more (f ∷ [])) in let l : e ≡ f = cc in ap (λ p. p.0) l)
-
 -- the last is taken
 module _ {V : Type 0} (s rest : List (ℕ × V)) (key : ℕ) (e : ℕ × V) (is : s ≡ rest ++ e ∷ []) (ends : EndsAt s key) (rises : KeysRise 0 s) where
   at_key : e.0 ≡ key
-  at_key = same_last s rest ends.0 e (key, ends.1.0) is ends.1.1
+  at_key = ap (λ p. p.0) (cut_last rest ends.0 e (key, ends.1.0) (sym is ∙ ends.1.1)).1
 
   under : KeysBelow e.0 rest
   under = (below_front 0 rest e (subst (KeysRise 0) is rises)).1

@@ -1,5 +1,5 @@
 -- What a packed lexicon asks of the entries of a grammar: each has a word, and as many records as the others.
-use Rattle.std.proofs.Common.{◌≡◌, ℕ, zero, suc, ◌+◌, List, [], ◌∷◌, length, get_or, All, codes, refl, sym, ap, ◌∙◌, subst, arith}
+use Rattle.std.proofs.Common.{◌≡◌, ℕ, zero, suc, ◌+◌, List, [], ◌∷◌, length, get_or, All, codes, refl, sym, ◌∙◌, subst, arith}
 use Rattle.std.specs.Prelude.{Option, None, Some, MatchOption, slice_get}
 use Rattle.std.proofs.lemmas.List.Elements.{All-nil, All-cons}
 use Rattle.xdg_domain.specs.Defaults.{IsFilledIn, AreFilled}
@@ -14,6 +14,7 @@ use Rattle.xdg_types.specs.declared.table.DimType.{DimType}
 use Rattle.xdg_types.specs.Table.{Table, Typed, typed}
 use Rattle.xdg_packed.specs.Lexicon.{Record, Entry, IsText, IsTextIn, HasWord, AreAsLong}
 use Rattle.xdg_packed.specs.Entries.{IsWhole, IsEntry, AreEntries, IsWordPlace, record_type}
+use Rattle.xdg_facts.proofs.Options.{some_same}
 
 -- ---- a record
 
@@ -28,12 +29,9 @@ filled_at (one ∷ all) place at zero f m same h filled =
     told (said_at m at) (λ x. IsFilledIn one.1 (out-Value x)) (subst (λ n. MatchOption (said_at m n) ⊥ (λ x. IsFilledIn one.1 (out-Value x))) here filled.0)
 filled_at (one ∷ all) place at (suc k) f m same h filled = filled_at all (place + 1) at k f m (omega (arith, same)) h filled.1
 
-same_type : (one f : List ℕ × Shape) → Some one ≡ Some f → one.1 ≡ f.1
-same_type one f h = let same : one ≡ f = cc in ap (λ (x : List ℕ × Shape). x.1) same
-
 field_in : (all : Typed) (k : ℕ) (f : List ℕ × Shape) (x : Value) → slice_get all k ≡ Some f → IsFieldOf (fields_of all) k x → IsIn f.1 (out-Value x)
 field_in [] k f x h is = absurd is
-field_in (one ∷ all) zero f x h is = subst (λ u. IsIn u (out-Value x)) (same_type one f h) is
+field_in (one ∷ all) zero f x h is = subst (λ (g : List ℕ × Shape). IsIn g.1 (out-Value x)) (some_same one f h) is
 field_in (one ∷ all) (suc k) f x h is = field_in all k f x h is
 
 text_said : (l : Value-F Value) → IsIn text l → IsTextIn l
