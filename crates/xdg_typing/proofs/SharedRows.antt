@@ -5,38 +5,28 @@ use Rattle.xdg_base.specs.Faults.{fault_at}
 use Rattle.xdg_base.specs.declared.faults.Cause.TheVariants as causes
 use Rattle.xdg_base.specs.declared.faults.Fault.{Fault}
 use Rattle.xdg_domain.specs.Shapes.{Shape, constants, constants_of, in_a_row}
-use Rattle.xdg_names.specs.Texts.{has_text}
 use Rattle.xdg_types.specs.Written.{Tree, listed, tupled, named, Trees, no_tree, tree_then}
 use Rattle.xdg_types.specs.Meaning.{meaning, domains_meaning, as_domain}
 use Rattle.xdg_types.specs.Kinds.{Site, Split, SharesAt, SharesConstant}
 use Rattle.xdg_typing.specs.KindFaults.{add_texts, has_one, field_faults, shared_in, shared_faults}
 use Rattle.xdg_typing.proofs.KindAmong.{Alike, alike_none, alike_more, has_one_in, in_has_one}
-use Rattle.xdg_names.proofs.Texts.{has_among, among_has}
+use Rattle.xdg_names.proofs.Listing.{Lists, lists_none, lists_as, lists_each, lists_when, lists_known}
 use Rattle.xdg_facts.specs.Membership.{In}
-use Rattle.xdg_facts.proofs.In.{in_append, in_left, in_right, in_when, when_in, in_flat_map, flat_map_in}
+use Rattle.xdg_facts.proofs.In.{in_append, in_left, in_right}
 use Rattle.xdg_types.specs.NameFaults.{repeated}
 
 module _ (names : List ℕ → Shape) where
-  field_sound : (seen earlier : List (List ℕ)) → Alike seen earlier → (at : ℕ) (t : Tree) (f : Fault) → In (field_faults names seen at t) f → SharesAt names earlier at t f
-  field_sound seen earlier alike at (listed cs) f h =
-      let r = in_flat_map (repeated seen) cs f h in
-      let k = in_when (has_text seen r.0.text) (fault_at causes.Twice r.0.span.start) f r.1.1 in
-      (r.0, (r.1.0, (alike.to r.0.text (has_among seen r.0.text k.0), sym k.1)))
-  field_sound seen earlier alike at (named name) f h =
+  all_field : (seen earlier : List (List ℕ)) → Alike seen earlier → (at : ℕ) (t : Tree) → Lists (field_faults names seen at t) (SharesAt names earlier at t)
+  all_field seen earlier alike at (listed cs) =
+      lists_as (lists_each (repeated seen) (λ c f. In seen c.text × (fault_at causes.Twice c.span.start ≡ f)) cs (λ c among. lists_known seen c.text (fault_at causes.Twice c.span.start)))
+      (λ f. (λ k. (k.0, (k.1.0, (alike.to k.0.text k.1.1.0, sym k.1.1.1))), λ h. (h.0, (h.1.0, (alike.from h.0.text h.1.1.0, sym h.1.1.1)))))
+  all_field seen earlier alike at (named name) =
       let cs = constants (as_domain (names name.text)) in
-      let k = in_when (has_one seen cs) (fault_at causes.Twice at) f h in
-      let r = has_one_in seen cs k.0 in
-      (r.0, (r.1.0, (alike.to r.0 r.1.1, sym k.1)))
-  field_sound seen earlier alike at t f h = absurd h
-
-  field_complete : (seen earlier : List (List ℕ)) → Alike seen earlier → (at : ℕ) (t : Tree) (f : Fault) → SharesAt names earlier at t f → In (field_faults names seen at t) f
-  field_complete seen earlier alike at (listed cs) f h =
-      flat_map_in (repeated seen) cs h.0 f h.1.0
-      (when_in (has_text seen h.0.text) (fault_at causes.Twice h.0.span.start) f (among_has seen h.0.text (alike.from h.0.text h.1.1.0)) (sym h.1.1.1))
-  field_complete seen earlier alike at (named name) f h =
-      let cs = constants (as_domain (names name.text)) in
-      when_in (has_one seen cs) (fault_at causes.Twice at) f (in_has_one seen cs h.0 h.1.0 (alike.from h.0 h.1.1.0)) (sym h.1.1.1)
-  field_complete seen earlier alike at t f h = absurd h
+      lists_as (lists_when (has_one seen cs) (fault_at causes.Twice at)) (λ f. (
+        λ k. (let r = has_one_in seen cs k.0 in (r.0, (r.1.0, (alike.to r.0 r.1.1, sym k.1)))),
+        λ h. (in_has_one seen cs h.0 h.1.0 (alike.from h.0 h.1.1.0), sym h.1.1.1),
+      ))
+  all_field seen earlier alike at t = lists_none
 
   -- the constants of these fields
   abbrev row : Trees → List (List ℕ)
@@ -61,7 +51,7 @@ module _ (names : List ℕ → Shape) where
           field = t;
           after = ts;
           parts = refl;
-          shares = subst (λ es. SharesAt names es at t f) (sym (append-nil earlier)) (field_sound seen earlier alike at t f here);
+          shares = subst (λ es. SharesAt names es at t f) (sym (append-nil earlier)) ((all_field seen earlier alike at t).sound f here);
         }
         | inr later ↦ (let r = shared_sound ts (add_texts seen cs) (earlier ++ cs) (alike_more seen earlier cs alike) f later in record {
           before = tree_then at t r.before;
@@ -77,7 +67,7 @@ module _ (names : List ℕ → Shape) where
       → Split before ts at field after → SharesAt names (earlier ++ row before) at field f → In (shared_in names seen ts) f
   shared_complete no_tree ts at field after seen earlier alike f is shares = subst (λ us. In (shared_in names seen us) f) (sym is)
       (in_left (field_faults names seen at field) (shared_in names (add_texts seen (constants (as_domain (meaning names field)))) after) f
-      (field_complete seen earlier alike at field f (subst (λ es. SharesAt names es at field f) (append-nil earlier) shares)))
+      ((all_field seen earlier alike at field).complete f (subst (λ es. SharesAt names es at field f) (append-nil earlier) shares)))
   shared_complete (tree_then here s before) ts at field after seen earlier alike f is shares =
       let cs = constants (as_domain (meaning names s)) in
       subst (λ us. In (shared_in names seen us) f) (sym is.1.0)
