@@ -25,7 +25,7 @@ use Rattle.xdg_build.specs.Places.{IsNumberOf}
 use Rattle.xdg_build.specs.Tables.{number_in}
 use Rattle.xdg_build.specs.Truths.{constants_of, constants_in}
 use Rattle.xdg_terms.proofs.Binding.{all_looked_at}
-use Rattle.xdg_terms.proofs.Formed.{so_many}
+use Rattle.xdg_terms.proofs.Read.{so_many}
 
 -- ---- terms without parameters bound or open
 

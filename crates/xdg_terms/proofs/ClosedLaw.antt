@@ -10,13 +10,13 @@ use Rattle.xdg_ast.specs.declared.terms.ElemKind.{ElemKind, out-ElemKind}
 use Rattle.xdg_ast.specs.declared.terms.ElemKind.TheVariants as e
 use Rattle.xdg_ast.specs.declared.terms.ElemKind.TheOpen.{TermKind-F, ElemKind-F}
 use Rattle.xdg_domain.specs.Shapes.{Shape, tuple, integer, text, set, iset, card, valency, mapping, fields, sizes}
-use Rattle.xdg_terms.specs.Forms.{Term, Card, Bindings, with_open, bound, bound_in, bound_to, bound_or, constant_of, constant_in, number_of, number_in, card_of, card_in, generator_of, generator_in, bracket_of, bracket_in, constants_of, brackets_of, counts_of, pairs_of, braces_in, all_of, then_also, plain_elem, bracketed_elem, counted_elem, keyed_in, keyed_elem}
+use Rattle.xdg_terms.specs.Forms.{Term, Bindings, with_open, bound, bound_in, bound_to, bound_or, constant_of, constant_in, number_of, number_in, card_of, card_in, generator_of, generator_in, bracket_of, bracket_in, constants_of, brackets_of, counts_of, pairs_of, braces_in, all_of, then_also, plain_elem, bracketed_elem, counted_elem, keyed_in, keyed_elem}
 use Rattle.xdg_terms.specs.Offences.{is_some, has_form, has_set_form, OfSeen, OffendsIn}
 use Rattle.xdg_terms.specs.Closed.{closed, closed_by, closing, kind_by, closing_kind, closing_elem}
 use Rattle.xdg_terms.specs.Wanted.{free_in, free_of}
 use Rattle.xdg_terms.specs.Replaced.{IsOpenRight, AreBoundRight}
 use Rattle.xdg_terms.proofs.Right.{HoldsNone, told}
-use Rattle.xdg_terms.proofs.Formed.{plain_is, bracketed_is, counted_is}
+use Rattle.xdg_terms.proofs.Read.{plain_is, bracketed_is, counted_is}
 use Rattle.xdg_terms.proofs.Replacing.{closed_is}
 use Rattle.xdg_terms.proofs.Binding.{no_form, RightIn, right, right_in, all_looked_at}
 
@@ -43,18 +43,6 @@ module _ (bs : Bindings) where
       let x = told (form elem) b.0 in
       ap₂ (λ (y : Spanned ElemKind) (ys : List (Spanned ElemKind)). y ∷ ys) (unkeyed elem (un elem x.0 x.1)) (each_same form un elems b.1)
 
-  plain_unkeyed : (elem : Spanned ElemKind) (x : Name) → plain_elem elem ≡ Some x → keyed_elem elem ≡ None
-  unfolding plain_elem keyed_elem
-  plain_unkeyed elem x h = ap keyed_in (plain_is (out-ElemKind elem.kind) x h)
-
-  bracketed_unkeyed : (n : ℕ) (elem : Spanned ElemKind) (x : List Name) → bracketed_elem n elem ≡ Some x → keyed_elem elem ≡ None
-  unfolding bracketed_elem keyed_elem
-  bracketed_unkeyed n elem x h = ap keyed_in (bracketed_is n (out-ElemKind elem.kind) x h)
-
-  counted_unkeyed : (elem : Spanned ElemKind) (x : Name × Card) → counted_elem elem ≡ Some x → keyed_elem elem ≡ None
-  unfolding counted_elem keyed_elem
-  counted_unkeyed elem x h = ap keyed_in (counted_is (out-ElemKind elem.kind) x h)
-
   -- ---- terms without terms in them stay
 
   module _ (t : Term) (elems : List (Spanned ElemKind)) (is : out-TermKind t.kind ≡ TermKind-F.Braces elems) where
@@ -68,20 +56,20 @@ module _ (bs : Bindings) where
     each form un h = each_same form un elems (sym (ap (λ l. is_some (braces_in form l)) is) ∙ h)
 
     of_set : (s : Shape) → has_set_form s t ≡ true → Stay
-    unfolding constants_of brackets_of generator_of
+    unfolding constants_of brackets_of generator_of plain_elem bracketed_elem keyed_elem
     of_set (tuple ss) h =
         let n = length (sizes ss) in
-        elim (or_cases (is_some (brackets_of n t)) (is_some (generator_of t)) h) [ inl a ↦ each (bracketed_elem n) (bracketed_unkeyed n) a | inr b ↦ not_read generator_in refl b ]
-    of_set s h = each plain_elem plain_unkeyed h
+        elim (or_cases (is_some (brackets_of n t)) (is_some (generator_of t)) h) [ inl a ↦ each (bracketed_elem n) (λ elem x q. ap keyed_in (bracketed_is n (out-ElemKind elem.kind) x q)) a | inr b ↦ not_read generator_in refl b ]
+    of_set s h = each plain_elem (λ elem x q. ap keyed_in (plain_is (out-ElemKind elem.kind) x q)) h
 
     of_form : (s : Shape) → HoldsNone s → has_form s t ≡ true → Stay
-    unfolding constant_of number_of card_of bracket_of counts_of
+    unfolding constant_of number_of card_of bracket_of counts_of counted_elem keyed_elem
     of_form (tuple ss) none h = not_read (bracket_in (length (sizes ss))) refl h
     of_form integer none h = not_read number_in refl h
     of_form (set s) none h = of_set s h
     of_form (iset s) none h = of_set s h
     of_form card none h = not_read card_in refl h
-    of_form (valency key) none h = each counted_elem counted_unkeyed h
+    of_form (valency key) none h = each counted_elem (λ elem x q. ap keyed_in (counted_is (out-ElemKind elem.kind) x q)) h
     of_form (mapping key u) none h = absurd none
     of_form (fields fs) none h = absurd none
     of_form s none h = not_read constant_in refl h

@@ -1,5 +1,5 @@
 -- What is wrong in a term of the wanted form, told of its elements one by one.
-use Rattle.std.proofs.Common.{◌≡◌, ℕ, Bool, true, false, List, [], ◌∷◌, ◌++◌, length, Option, Some, None, refl, sym, ap, ap₂, ◌∙◌, eqb, eq-eqb}
+use Rattle.std.proofs.Common.{◌≡◌, ℕ, true, false, List, [], ◌∷◌, ◌++◌, length, Option, Some, None, refl, sym, ap, ap₂, ◌∙◌, eq-eqb}
 use Rattle.std.specs.List.{flat_map}
 use Rattle.std.proofs.lemmas.Bool.{ne_eqb, true≢false}
 use Rattle.std.proofs.lemmas.List.Folds.{flat_map-map}
@@ -12,17 +12,17 @@ use Rattle.xdg_ast.specs.declared.names.Spanned.{Spanned}
 use Rattle.xdg_ast.specs.declared.terms.TermKind.{TermKind, out-TermKind}
 use Rattle.xdg_ast.specs.declared.terms.TermKind.TheVariants as k
 use Rattle.xdg_ast.specs.declared.terms.ElemKind.{ElemKind, out-ElemKind}
-use Rattle.xdg_ast.specs.declared.terms.ElemKind.TheOpen.{TermKind-F, ElemKind-F}
+use Rattle.xdg_ast.specs.declared.terms.ElemKind.TheOpen.{TermKind-F}
 use Rattle.xdg_ast.specs.declared.terms.GenKind.{GenKind}
 use Rattle.xdg_domain.specs.Shapes as d
 use Rattle.xdg_domain.specs.Shapes.{Shape, Shapes, Fields, sizes, in_a_row, names_of}
 use Rattle.xdg_names.specs.First.{first, earlier}
 use Rattle.xdg_names.proofs.First.{first_append}
-use Rattle.xdg_terms.specs.Forms.{Term, Card, Look, bracket_of, bracket_in, all_of, braces_in, plain_in, plain_elem, bracketed_in, bracketed_elem, counted_in, counted_elem, keyed_in, keyed_elem, constants_of, brackets_of, counts_of, pairs_of, generator_of, generator_in}
+use Rattle.xdg_terms.specs.Forms.{Term, Look, bracket_of, bracket_in, all_of, braces_in, plain_elem, bracketed_elem, counted_elem, keyed_elem, constants_of, brackets_of, counts_of, pairs_of, generator_of, generator_in}
 use Rattle.xdg_terms.specs.Offences.{is_some, gen_names}
 use Rattle.xdg_terms.specs.Faults as spec
 use Rattle.xdg_terms.proofs.Right.{told}
-use Rattle.xdg_terms.proofs.Read.{split, ended}
+use Rattle.xdg_terms.proofs.Read.{plain_is, bracketed_is, counted_is, keyed_is, split, ended}
 
 -- ---- layers
 
@@ -81,28 +81,6 @@ braces_right form parts whole t es is h same =
 -- the first of two parts of a list
 sum_told : (xs ys zs : List Fault) → xs ++ ys ≡ zs → (whole one other : Option Fault) → one ≡ first xs → other ≡ first ys → whole ≡ earlier one other → whole ≡ first zs
 sum_told xs ys zs parts whole one other a b sum = sum ∙ ap₂ earlier a b ∙ sym (first_append xs ys) ∙ ap first parts
-
--- ---- one element
-
-pub plain_is : (l : ElemKind-F ElemKind TermKind) (x : Name) → plain_in l ≡ Some x → l ≡ ElemKind-F.ElemKind::Const x
-plain_is (ElemKind-F.ElemKind::Const name) x h = let e : name ≡ x = cc in ap ElemKind-F.ElemKind::Const e
-plain_is l x h = absurd (cc)
-
-pub so_many : (b : Bool) (names xs : List Name) → (if b then Some names else None) ≡ Some xs → names ≡ xs
-so_many true names xs h = cc
-so_many false names xs h = absurd (cc)
-
-pub bracketed_is : (n : ℕ) (l : ElemKind-F ElemKind TermKind) (x : List Name) → bracketed_in n l ≡ Some x → l ≡ ElemKind-F.ElemKind::Tuple x
-bracketed_is n (ElemKind-F.ElemKind::Tuple names) x h = ap ElemKind-F.ElemKind::Tuple (so_many (eqb (length names) n) names x h)
-bracketed_is n l x h = absurd (cc)
-
-pub counted_is : (l : ElemKind-F ElemKind TermKind) (x : Name × Card) → counted_in l ≡ Some x → l ≡ ElemKind-F.Count x.0 x.1
-counted_is (ElemKind-F.Count name written) x h = let e : (name, written) ≡ x = cc in ap (λ (p : Name × Card). ElemKind-F.Count p.0 p.1) e
-counted_is l x h = absurd (cc)
-
-pub keyed_is : (l : ElemKind-F ElemKind TermKind) (x : Name × Term) → keyed_in l ≡ Some x → l ≡ ElemKind-F.Keyed x.0 x.1
-keyed_is (ElemKind-F.Keyed name t) x h = let e : (name, t) ≡ x = cc in ap (λ (p : Name × Term). ElemKind-F.Keyed p.0 p.1) e
-keyed_is l x h = absurd (cc)
 
 -- ---- all elements
 

@@ -1,13 +1,13 @@
 -- Terms and their elements, as what they are read as.
 use Rattle.std.proofs.Common.{◌≡◌, ◌⊎◌, inl, inr, ℕ, List, [], ◌∷◌, length, Option, Some, None, refl, sym, ap, ap₂, ◌∙◌, subst}
-use Rattle.std.specs.Prelude.{Bool, true, false, ◌==◌, if◌then◌else◌, bytes_eq}
+use Rattle.std.specs.Prelude.{Bool, true, false, ◌==◌, eqb, if◌then◌else◌, bytes_eq}
 use Rattle.std.proofs.lemmas.Bool.{false≢true, eqb-true, eq-eqb, or_cases, or_left, or_right}
 use Rattle.xdg_ast.specs.declared.names.Name.{Name}
 use Rattle.xdg_ast.specs.declared.terms.TermKind.{TermKind, out-TermKind}
 use Rattle.xdg_ast.specs.declared.terms.ElemKind.{ElemKind, out-ElemKind}
 use Rattle.xdg_ast.specs.declared.terms.ElemKind.TheOpen.{TermKind-F, ElemKind-F}
 use Rattle.xdg_domain.specs.Shapes.{Shape, domain, tuple, Shapes}
-use Rattle.xdg_terms.specs.Forms.{Term, then_also, all_of, braces_in, bracket_in, bracket_of, plain_in, plain_elem, bracketed_in, bracketed_elem}
+use Rattle.xdg_terms.specs.Forms.{Term, Card, then_also, all_of, braces_in, bracket_in, bracket_of, plain_in, plain_elem, bracketed_in, bracketed_elem, counted_in, keyed_in}
 use Rattle.xdg_terms.specs.Means.{written_for}
 use Rattle.xdg_terms.specs.Built.{Elem, place_from, tuple_number, names_in, names_of, elems_in, if_named, first_for, some_before, number_in_elem, number_of_elem, listed}
 use Rattle.xdg_facts.proofs.Texts.{same_text}
@@ -16,17 +16,39 @@ use Rattle.xdg_facts.specs.Rises.{has}
 
 -- ---- tuples
 
-so_many : (b : Bool) (wanted : ℕ) (names got : List Name) → (length names == wanted) ≡ b → (if b then Some names else None) ≡ Some got → (names ≡ got) × (length got ≡ wanted)
-so_many true wanted names got e h = let same : names ≡ got = cc in (same, ap length (sym same) ∙ eqb-true (length names) wanted e)
-so_many false wanted names got e h = absurd (cc)
+as_many : (b : Bool) (wanted : ℕ) (names got : List Name) → (length names == wanted) ≡ b → (if b then Some names else None) ≡ Some got → (names ≡ got) × (length got ≡ wanted)
+as_many true wanted names got e h = let same : names ≡ got = cc in (same, ap length (sym same) ∙ eqb-true (length names) wanted e)
+as_many false wanted names got e h = absurd (cc)
 
 bracket_names : (wanted : ℕ) (k : TermKind-F ElemKind TermKind) (names : List Name) → bracket_in wanted k ≡ Some names → (names_in k ≡ names) × (length names ≡ wanted)
-bracket_names wanted (TermKind-F.TermKind::Tuple given) names h = so_many (length given == wanted) wanted given names refl h
+bracket_names wanted (TermKind-F.TermKind::Tuple given) names h = as_many (length given == wanted) wanted given names refl h
 bracket_names wanted k names h = absurd (cc)
 
 pub bracket_read : (wanted : ℕ) (t : Term) (names : List Name) → bracket_of wanted t ≡ Some names → (names_of t ≡ names) × (length names ≡ wanted)
 unfolding bracket_of names_of
 bracket_read wanted t names h = bracket_names wanted (out-TermKind t.kind) names h
+
+-- ---- one element
+
+pub plain_is : (l : ElemKind-F ElemKind TermKind) (x : Name) → plain_in l ≡ Some x → l ≡ ElemKind-F.ElemKind::Const x
+plain_is (ElemKind-F.ElemKind::Const name) x h = let e : name ≡ x = cc in ap ElemKind-F.ElemKind::Const e
+plain_is l x h = absurd (cc)
+
+pub so_many : (b : Bool) (names xs : List Name) → (if b then Some names else None) ≡ Some xs → names ≡ xs
+so_many true names xs h = cc
+so_many false names xs h = absurd (cc)
+
+pub bracketed_is : (n : ℕ) (l : ElemKind-F ElemKind TermKind) (x : List Name) → bracketed_in n l ≡ Some x → l ≡ ElemKind-F.ElemKind::Tuple x
+bracketed_is n (ElemKind-F.ElemKind::Tuple names) x h = ap ElemKind-F.ElemKind::Tuple (so_many (eqb (length names) n) names x h)
+bracketed_is n l x h = absurd (cc)
+
+pub counted_is : (l : ElemKind-F ElemKind TermKind) (x : Name × Card) → counted_in l ≡ Some x → l ≡ ElemKind-F.Count x.0 x.1
+counted_is (ElemKind-F.Count name written) x h = let e : (name, written) ≡ x = cc in ap (λ (p : Name × Card). ElemKind-F.Count p.0 p.1) e
+counted_is l x h = absurd (cc)
+
+pub keyed_is : (l : ElemKind-F ElemKind TermKind) (x : Name × Term) → keyed_in l ≡ Some x → l ≡ ElemKind-F.Keyed x.0 x.1
+keyed_is (ElemKind-F.Keyed name t) x h = let e : (name, t) ≡ x = cc in ap (λ (p : Name × Term). ElemKind-F.Keyed p.0 p.1) e
+keyed_is l x h = absurd (cc)
 
 -- ---- elements
 
@@ -109,24 +131,16 @@ module _ {A : Type 0} (s : Shape) (form : Elem → Option A) (number : A → Opt
         | inr r ↦ inr (numbers_listed elems p.rest n p.others (k.0, (r, k.1.1)))
       ])
 
-plain_number : (cs : List (List ℕ)) (k : ElemKind-F ElemKind TermKind) (name : Name) → plain_in k ≡ Some name → number_in_elem (domain cs) k ≡ place_from 0 cs name.text
-plain_number cs (ElemKind-F.ElemKind::Const given) name h = let same : given ≡ name = cc in ap (λ (z : Name). place_from 0 cs z.text) same
-plain_number cs k name h = absurd (cc)
-
 pub plain_alike : (cs : List (List ℕ)) (elem : Elem) (name : Name) → plain_elem elem ≡ Some name → number_of_elem (domain cs) elem ≡ place_from 0 cs name.text
 unfolding plain_elem number_of_elem
-plain_alike cs elem name h = plain_number cs (out-ElemKind elem.kind) name h
-
-bracketed_number : (ss : Shapes) (wanted : ℕ) (k : ElemKind-F ElemKind TermKind) (names : List Name) → bracketed_in wanted k ≡ Some names → number_in_elem (tuple ss) k ≡ tuple_number (tuple ss) names
-bracketed_number ss wanted (ElemKind-F.ElemKind::Tuple given) names h = ap (tuple_number (tuple ss)) (so_many (length given == wanted) wanted given names refl h).0
-bracketed_number ss wanted k names h = absurd (cc)
+plain_alike cs elem name h = ap (number_in_elem (domain cs)) (plain_is (out-ElemKind elem.kind) name h)
 
 pub bracketed_alike : (ss : Shapes) (wanted : ℕ) (elem : Elem) (names : List Name) → bracketed_elem wanted elem ≡ Some names → number_of_elem (tuple ss) elem ≡ tuple_number (tuple ss) names
 unfolding bracketed_elem number_of_elem
-bracketed_alike ss wanted elem names h = bracketed_number ss wanted (out-ElemKind elem.kind) names h
+bracketed_alike ss wanted elem names h = ap (number_in_elem (tuple ss)) (bracketed_is wanted (out-ElemKind elem.kind) names h)
 
 bracketed_length : (wanted : ℕ) (k : ElemKind-F ElemKind TermKind) (names : List Name) → bracketed_in wanted k ≡ Some names → length names ≡ wanted
-bracketed_length wanted (ElemKind-F.ElemKind::Tuple given) names h = (so_many (length given == wanted) wanted given names refl h).1
+bracketed_length wanted (ElemKind-F.ElemKind::Tuple given) names h = (as_many (length given == wanted) wanted given names refl h).1
 bracketed_length wanted k names h = absurd (cc)
 
 one_long : (wanted : ℕ) (elem : Elem) (names : List Name) → bracketed_elem wanted elem ≡ Some names → length names ≡ wanted

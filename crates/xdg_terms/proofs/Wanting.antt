@@ -12,7 +12,8 @@ use Rattle.xdg_terms.specs.Forms.{Term, keyed_elem, all_of, braces_in, pairs_of}
 use Rattle.xdg_terms.specs.Offences.{is_some, all_told}
 use Rattle.xdg_terms.specs.Faults.{fields_in}
 use Rattle.xdg_terms.specs.Wanted.{Want, params_in, params_under, params_inside, value_params_in, value_params, part_params_in, part_params}
-use Rattle.xdg_terms.proofs.Formed.{keyed_is, told_as, there_is_none, out_braces}
+use Rattle.xdg_terms.proofs.Read.{keyed_is}
+use Rattle.xdg_terms.proofs.Formed.{told_as, there_is_none, out_braces}
 use Rattle.xdg_terms.proofs.Right.{told}
 
 pairs_are : (t : Term) (es : List (Spanned ElemKind)) → t.kind ≡ k.Braces es → pairs_of t ≡ all_of keyed_elem es

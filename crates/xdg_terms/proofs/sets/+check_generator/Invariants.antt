@@ -1,7 +1,7 @@
 use Rattle.std.proofs.Common.{◌≡◌, drop, map}
 use Rattle.xdg_base.specs.declared.faults.Cause.TheVariants as causes
 use Rattle.xdg_domain.specs.Shapes as shapes
-use Rattle.xdg_domain.specs.Shapes.{shape, shapes_of, names_of}
+use Rattle.xdg_domain.specs.Shapes.{shape, shapes_of}
 use Rattle.std.specs.List.{flat_map}
 use Rattle.xdg_names.specs.First.{first, earlier}
 use Rattle.xdg_terms.specs.Offences.{gen_names}

@@ -1,6 +1,6 @@
 use Rattle.std.proofs.Common.{◌≡◌, drop, map}
 use Rattle.xdg_domain.specs.Shapes as shapes
-use Rattle.xdg_domain.specs.Shapes.{shape, shapes_of, names_of}
+use Rattle.xdg_domain.specs.Shapes.{shape, shapes_of}
 use Rattle.xdg_names.specs.Texts.{has_text}
 use Rattle.xdg_terms.proofs.sets.is_in_a_row.Given as goal
 
