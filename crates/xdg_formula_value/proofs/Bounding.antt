@@ -10,6 +10,7 @@ use Rattle.xdg_problem.specs.Claims.{claims_of, claim}
 use Rattle.xdg_problem.specs.Places.{nodes}
 use Rattle.xdg_problem.specs.Truths.{bound, HasTruth}
 use Rattle.xdg_rules.specs.Worths.{Makes}
+use Rattle.xdg_problem.proofs.Bindings.{bound_else}
 use Rattle.xdg_formula_value.specs.Pairs.{Relates, edges_for}
 use Rattle.xdg_graph.specs.Every.{IsEvery}
 use Rattle.xdg_formula_value.specs.Rows.{AreFirst, Bounds, IsRow, Joined, open_in}
@@ -17,7 +18,6 @@ use Rattle.xdg_formula_value.specs.Several.{MakesSeveral}
 use Rattle.xdg_formula_value.specs.declared.pair.Pair.{Pair}
 use Rattle.xdg_formula_value.proofs.Fronts.{item_of, several_more, several_none}
 use Rattle.xdg_formula_value.proofs.Rowed.{open_first}
-use Rattle.xdg_formula_value.proofs.Stood.{bound_else}
 use Rattle.xdg_facts.specs.Rises.{has}
 use Rattle.xdg_nodeset.proofs.TableSets.{none_in}
 

@@ -7,14 +7,14 @@ use Rattle.xdg_problem.specs.Claims.{Claim}
 use Rattle.xdg_problem.specs.Places.{nodes}
 use Rattle.xdg_problem.specs.Truths.{bound, AreNodes}
 use Rattle.xdg_rules.specs.Worths.{Makes}
-use Rattle.xdg_problem.proofs.Bindings.{bound_nodes}
+use Rattle.xdg_problem.proofs.Bindings.{bound_nodes, bound_here, bound_else}
 use Rattle.xdg_formula_value.specs.Lost.{AgreeBut, Finds, HasNode, HasNodes}
 use Rattle.xdg_graph.specs.Every.{IsEvery}
 use Rattle.xdg_formula_value.specs.Rows.{Bounds, IsRowOn, Over}
 use Rattle.xdg_formula_value.proofs.Narrowed.{within_row}
 use Rattle.xdg_formula_value.proofs.Rowed.{over_told}
 use Rattle.xdg_facts.proofs.Rising.{no_member, head_or_tail}
-use Rattle.xdg_formula_value.proofs.Stood.{bound_back, bound_here, bound_else}
+use Rattle.xdg_formula_value.proofs.Stood.{bound_back}
 use Rattle.xdg_facts.specs.Rises.{has}
 use Rattle.xdg_nodeset.proofs.TableSets.{none_in}
 

@@ -1,19 +1,19 @@
 -- Paths that are as they were.
 use Rattle.std.proofs.Common.{◌≡◌, ℕ, ◌+◌, ◌<◌, ◌≤◌, ◌||◌, inl, inr, Bool, true, List, [], Contains, length, get_or, sym, ap, ◌∙◌, arith, subst}
 use Rattle.std.specs.Prelude.{not, ◌&&◌, ◌==◌}
-use Rattle.std.proofs.lemmas.Bool.{and_parts, cases_eq, cases_Bool, eq-eqb, false≢true, or_cases, both_ways, not-true}
+use Rattle.std.proofs.lemmas.Bool.{and_parts, cases_eq, eq-eqb, false≢true, or_cases, both_ways, not-true}
 use Rattle.std.proofs.lemmas.List.{get_or_default}
 use Rattle.xdg_facts.specs.Rises as nodesets
 use Rattle.xdg_problem.specs.declared.analysis.Edge.{Edge}
 use Rattle.xdg_problem.specs.declared.parts.Parts.{Parts}
 use Rattle.xdg_problem.specs.Analyses.{IsPlace}
-use Rattle.xdg_problem.specs.Boxes.{Has, IsBox, LiesIn, May, Must, edge_decision}
+use Rattle.xdg_problem.specs.Boxes.{IsBox, LiesIn, May, Must, edge_decision}
 use Rattle.xdg_problem.specs.Paths.{Above, IsDaughterBy}
 use Rattle.xdg_problem.specs.Problems.{IsProblem}
 use Rattle.xdg_problem.specs.Vectors.{shape}
 use Rattle.xdg_problem.proofs.PlaceOrder.{is_place, place_is}
 use Rattle.xdg_problem.proofs.Walks.{above_edge, above_trans}
-use Rattle.xdg_rules.specs.Rules.{has, may_edges, must_edges}
+use Rattle.xdg_rules.specs.Rules.{may_edges, must_edges}
 use Rattle.xdg_rules.proofs.Shrinking.{may_exact, must_exact}
 use Rattle.xdg_rules.proofs.Sizes.{edge_some}
 use Rattle.xdg_graph.specs.declared.which.Which.{Which}
@@ -23,7 +23,7 @@ use Rattle.xdg_store.specs.Naming.{Names}
 use Rattle.xdg_store.specs.declared.decision.Decision.{Decision}
 use Rattle.xdg_store.specs.declared.decision.Decision.TheVariants as decisions
 use Rattle.xdg_formula_value.specs.Lost.{AllLast, IsEdgeOf, KeepsPath, Lasts, PathsStay}
-use Rattle.xdg_formula_value.proofs.Losing.{lost_edge}
+use Rattle.xdg_formula_value.proofs.Losing.{HasLost, lost_edge, may_since, must_since}
 use Rattle.xdg_formula_value.proofs.Passing.{through}
 
 -- ---- a node less
@@ -122,21 +122,17 @@ module _ (parts : Parts) (problem : IsProblem parts) (old new : List (List Bool)
 
   pub paths_stay : (dim k : ℕ) → length removed ≤ k → KeepPaths parts old new removed dim k → PathsStay parts old new dim
   paths_stay dim k past keep =
-      let kept : (e : Edge) → Contains removed (decisions.Place e) → KeepsPath parts old new dim (decisions.Place e) = λ e among. (let l = among.1 in subst (KeepsPath parts old new dim) among.2 (keep among.0 (decisions.Place e) (omega (arith, l, past)))) in
+      let kept : (e : Edge) (v : ℕ) → HasLost parts old new v e → KeepsPath parts old new dim (decisions.Place e) = λ e v lost.
+      (let among = lost_edge parts problem old new old_is new_is removed all e v lost.0 lost.1 lost.2 in let l = among.1 in subst (KeepsPath parts old new dim) among.2 (keep among.0 (decisions.Place e) (omega (arith, l, past)))) in
       record {
-        must = through (must_edges parts new dim) (must_edges parts old dim) (λ e is.
-            (let now = (must_exact parts new dim e new_is).0 is in elim (cases_Bool (has old (edge_decision parts e) 1)) [
-              | inl there ↦ (kept e (lost_edge parts problem old new old_is new_is removed all e 1 (is_place parts e now.0.0) there now.1) now.0.1).0 now.1
-              | inr gone ↦ above_edge (must_edges parts old dim) e ((must_exact parts old dim e old_is).1 (now.0, λ there. false≢true (sym gone ∙ there)))
-            ]));
-        may = through (may_edges parts old dim) (may_edges parts new dim) (λ e is.
-            (let then = (may_exact parts old dim e).0 is in elim (cases_Bool (has new (edge_decision parts e) 0)) [
-              | inl there ↦ above_edge (may_edges parts new dim) e ((may_exact parts new dim e).1 (then.0, there))
-              | inr gone ↦ (
-                  let isnt : Has new (edge_decision parts e) 0 → ⊥ = λ there. false≢true (sym gone ∙ there) in
-                  (kept e (lost_edge parts problem old new old_is new_is removed all e 0 (is_place parts e then.0.0) then.1 isnt) then.0.1).1 isnt
-                  )
-            ]));
+        must = through (must_edges parts new dim) (must_edges parts old dim) (λ e is. elim (must_since parts old new old_is new_is dim e is) [
+          | inl had ↦ above_edge (must_edges parts old dim) e had
+          | inr lost ↦ (kept e 1 lost (edge_place whichs.Must dim e is).1).0 lost.2
+        ]);
+        may = through (may_edges parts old dim) (may_edges parts new dim) (λ e is. elim (may_since parts old new old_is new_is dim e is) [
+          | inl still ↦ above_edge (may_edges parts new dim) e still
+          | inr lost ↦ (kept e 0 lost ((may_exact parts old dim e).0 is).0.1).1 lost.2
+        ]);
       }
 
 -- ---- one edge

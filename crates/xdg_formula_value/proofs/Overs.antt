@@ -4,12 +4,10 @@ use Rattle.std.specs.Prelude.{not, ◌==◌}
 use Rattle.std.proofs.lemmas.Bool.{cases_Bool, and_parts, and_from, eq-eqb, eqb-true, false≢true, false_from_ne_true, not_from_false, both_ways, not-true}
 use Rattle.xdg_graph.specs.Every.{IsEvery}
 use Rattle.xdg_formula_value.specs.Rows.{Over}
+use Rattle.xdg_facts.proofs.Rising.{contains_of_has}
 use Rattle.xdg_facts.proofs.Truths.{or_here}
 use Rattle.xdg_facts.specs.Rises.{has}
-
-has_some : (s : List ℕ) (v : ℕ) → has s v ≡ true → 0 < length s
-has_some [] v there = absurd (false≢true there)
-has_some (m ∷ s) v there = omega arith
+use Rattle.xdg_nodeset.proofs.TableSets.{none_in}
 
 some_has : (s : List ℕ) → 0 < length s → (v : ℕ) × (has s v ≡ true)
 some_has [] some = absurd (omega (arith, some))
@@ -20,7 +18,7 @@ pub over_each : (n : ℕ) (all set rest : List ℕ) → IsEvery n all → ((v : 
 over_each n all set rest every is = (
   λ none v l. elim (cases_Bool (has set v)) [
     | inl there ↦ there
-    | inr gone ↦ absurd (let some = has_some rest v (is v ∙ and_from (has all v) (not (has set v)) ((every v).1 l) (not_from_false (has set v) gone)) in omega (arith, some, none))
+    | inr gone ↦ absurd (none_in rest v none (is v ∙ and_from (has all v) (not (has set v)) ((every v).1 l) (not_from_false (has set v) gone)))
   ],
   λ each. elim (cases_none (length rest)) [
     | inl none ↦ none
@@ -37,7 +35,7 @@ over_each n all set rest every is = (
 pub over_some : (n : ℕ) (all set rest : List ℕ) → IsEvery n all → ((v : ℕ) → has rest v ≡ (has all v && has set v)) → (0 < length rest) ↔ Over false n (λ v. has set v ≡ true)
 over_some n all set rest every is = (
   λ some. (let found = some_has rest some in let both = and_parts (has all found.0) (has set found.0) (sym (is found.0) ∙ found.1) in (found.0, (every found.0).0 both.0, both.1)),
-  λ some. has_some rest some.0 (is some.0 ∙ and_from (has all some.0) (has set some.0) ((every some.0).1 some.1) some.2),
+  λ some. (let within = (contains_of_has rest some.0 (is some.0 ∙ and_from (has all some.0) (has set some.0) ((every some.0).1 some.1) some.2)).1 in omega (arith, within)),
 )
 
 -- ---- what a number of nodes tells

@@ -12,6 +12,7 @@ use Rattle.xdg_problem.specs.Truths.{bound}
 use Rattle.xdg_problem.specs.Vectors.{shape}
 use Rattle.xdg_graph.specs.declared.which.Which.{Which}
 use Rattle.xdg_graph.specs.Edges.{edges_of, edge_labels}
+use Rattle.xdg_problem.proofs.Bindings.{bound_here, bound_else}
 use Rattle.xdg_formula_value.specs.Pairs.{Along, IsPairOf, Relates}
 use Rattle.xdg_formula_value.specs.Rows.{IsRow}
 use Rattle.xdg_formula_value.specs.declared.pair.Pair.{Pair}
@@ -19,7 +20,6 @@ use Rattle.xdg_formula_value.specs.declared.pair.Pair.TheVariants as pairs
 use Rattle.xdg_formula_value.specs.declared.way.Way.{Way}
 use Rattle.xdg_formula_value.specs.declared.way.Way.TheVariants as ways
 use Rattle.xdg_formula_value.proofs.Edged.{by_is_edge, no_edge}
-use Rattle.xdg_formula_value.proofs.Stood.{bound_here, bound_else}
 use Rattle.xdg_facts.specs.Rises.{has}
 
 module _ (which : Which) (parts : Parts) (box : List (List Bool)) (dim : DimId) (label : LabelId) (is : IsBox (shape parts) box) (node : ℕ) (set : List ℕ) where

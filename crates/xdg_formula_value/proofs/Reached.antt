@@ -14,7 +14,7 @@ use Rattle.xdg_problem.specs.Places.{nodes}
 use Rattle.xdg_problem.specs.Vectors.{shape}
 use Rattle.xdg_problem.proofs.Looking.{any_of}
 use Rattle.xdg_problem.proofs.PlaceOrder.{is_place}
-use Rattle.xdg_problem.proofs.Walks.{above_edge, above_trans, closed_above}
+use Rattle.xdg_problem.proofs.Walks.{above_in, above_trans, closed_above, daughter_above}
 use Rattle.xdg_rules.proofs.Keeping.{strictly_length}
 use Rattle.xdg_graph.specs.declared.which.Which.{Which}
 use Rattle.xdg_graph.specs.Edges.{edges_of}
@@ -53,15 +53,12 @@ module _ (which : Which) (parts : Parts) (box : List (List Bool)) (dim : ℕ) (i
 -- ---- a walk
 
 module _ (edges : List Edge) where
-  daughter_above : (u v : ℕ) → IsDaughter edges u v → Above edges u v
-  daughter_above u v (j, e, within, at, (m, d)) = subst (λ k. Above edges k v) m (subst (Above edges e.mother.0) d (above_edge edges e (j, within, at)))
-
   edge_daughter : (e : Edge) → Contains edges e → IsDaughter edges e.mother.0 e.daughter.0
   edge_daughter e is = any_of (λ f. (f.mother.0 ≡ e.mother.0) × (f.daughter.0 ≡ e.daughter.0)) edges e is (refl, refl)
 
   next_leads : (way : Way) (u v : ℕ) → Along way (IsDaughter edges) u v → Along way (Above edges) u v
-  next_leads ways.Down u v joined = daughter_above u v joined
-  next_leads ways.Up u v joined = daughter_above v u joined
+  next_leads ways.Down u v joined = daughter_above edges u v joined
+  next_leads ways.Up u v joined = daughter_above edges v u joined
 
   leads_on : (way : Way) (u v w : ℕ) → Along way (Above edges) u v → Along way (Above edges) v w → Along way (Above edges) u w
   leads_on ways.Down u v w front back = above_trans edges u v w front back
@@ -97,25 +94,17 @@ module _ (way : Way) (edges : List Edge) (node : ℕ) where
 
 -- the walk is at its end where each node that was reached was taken
 module _ (edges : List Edge) (node : ℕ) (reached : List ℕ) where
-  all_below : ((x : ℕ) → IsDaughter edges node x → has reached x ≡ true) → ((x y : ℕ) → has reached x ≡ true → IsDaughter edges x y → has reached y ≡ true) → (x : ℕ) → Above edges node x → has reached x ≡ true
-  all_below start closed x path = closed_above edges node x (λ y. has reached y ≡ true) (λ e is from. elim from [
+  all_along : (way : Way) → ((x : ℕ) → Along way (IsDaughter edges) node x → has reached x ≡ true) → ((x y : ℕ) → has reached x ≡ true → Along way (IsDaughter edges) x y → has reached y ≡ true) → (x : ℕ) → Along way (Above edges) node x → has reached x ≡ true
+  all_along ways.Down start closed x path = closed_above edges node x (λ y. has reached y ≡ true) (λ e is from. elim from [
     | inl first ↦ start e.daughter.0 (subst (λ k. IsDaughter edges k e.daughter.0) first (edge_daughter edges e is))
     | inr later ↦ closed e.mother.0 e.daughter.0 later (edge_daughter edges e is)
   ]) path
-
-  all_over : ((x : ℕ) → IsDaughter edges x node → has reached x ≡ true) → ((x y : ℕ) → has reached x ≡ true → IsDaughter edges y x → has reached y ≡ true) → (x : ℕ) → Above edges x node → has reached x ≡ true
-  all_over start closed x path = closed_above edges x node (λ y. (y ≡ node) ⊎ (has reached y ≡ true) → has reached x ≡ true) (λ e is from at.
-      (let here : has reached e.mother.0 ≡ true = elim at [
+  all_along ways.Up start closed x path =
+      let here : (e : Edge) → Contains edges e → (e.daughter.0 ≡ node) ⊎ (has reached e.daughter.0 ≡ true) → has reached e.mother.0 ≡ true = λ e is at. elim at [
         | inl end ↦ start e.mother.0 (subst (IsDaughter edges e.mother.0) end (edge_daughter edges e is))
         | inr later ↦ closed e.daughter.0 e.mother.0 later (edge_daughter edges e is)
-      ] in elim from [
-        | inl first ↦ subst (λ k. has reached k ≡ true) first here
-        | inr on ↦ on (inr here)
-      ])) path (inl refl)
-
-  all_along : (way : Way) → ((x : ℕ) → Along way (IsDaughter edges) node x → has reached x ≡ true) → ((x y : ℕ) → has reached x ≡ true → Along way (IsDaughter edges) x y → has reached y ≡ true) → (x : ℕ) → Along way (Above edges) node x → has reached x ≡ true
-  all_along ways.Down start closed x path = all_below start closed x path
-  all_along ways.Up start closed x path = all_over start closed x path
+      ] in
+      above_in (λ u v. (v ≡ node) ⊎ (has reached v ≡ true) → has reached u ≡ true) edges x node here (λ e is before at. before (inr (here e is at))) path (inl refl)
 
 pub walk_end : (way : Way) (edges : List Edge) (node : ℕ) (reached taken left : List ℕ) → Walks way edges node reached taken → ((x : ℕ) → has left x ≡ (has reached x && not (has taken x))) → left ≡ []
     → (x : ℕ) → (has reached x ≡ true) ↔ Along way (Above edges) node x

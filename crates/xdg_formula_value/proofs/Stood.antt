@@ -1,22 +1,9 @@
--- Bindings as tables.
-use Rattle.std.proofs.Common.{◌≡◌, ℕ, inl, inr, Bool, true, false, cond, List, replicate, refl, sym, ◌∙◌, ap}
-use Rattle.std.specs.Prelude.{slice_index, ◌==◌}
-use Rattle.std.proofs.lemmas.Bool.{cases_eq, eq-eqb, false_from_ne_true, eqb-true}
-use Rattle.xdg_problem.specs.Truths.{bound, unbound}
-use Rattle.xdg_formula_value.specs.Rows.{stands}
-use Rattle.xdg_facts.proofs.Numbers.{zeros}
-
--- a table of zeros binds no name
-pub unbound_table : (table : List ℕ) (count : ℕ) → table ≡ replicate count 0 → stands table ≡ unbound
-unbound_table table count is = λ i name. (ap (λ t. slice_index t name) is ∙ zeros count name) i
-
--- ---- a name that is bound
-
-pub bound_here : (b : ℕ → ℕ) (name node other : ℕ) → other ≡ name → bound b name node other ≡ node
-bound_here b name node other same = ap (λ t. cond t node (b other)) (eq-eqb other name same)
-
-pub bound_else : (b : ℕ → ℕ) (name node other : ℕ) → (other ≡ name → ⊥) → bound b name node other ≡ b other
-bound_else b name node other differ = ap (λ t. cond t node (b other)) (false_from_ne_true (other == name) (λ t. differ (eqb-true other name t)))
+-- Names that are bound again, or to what they stand for.
+use Rattle.std.proofs.Common.{◌≡◌, ℕ, inl, inr, Bool, true, false, cond, refl, sym, ◌∙◌, ap}
+use Rattle.std.specs.Prelude.{◌==◌}
+use Rattle.std.proofs.lemmas.Bool.{cases_eq}
+use Rattle.xdg_problem.specs.Truths.{bound}
+use Rattle.xdg_problem.proofs.Bindings.{bound_here, bound_else}
 
 bound_as_is : (b : ℕ → ℕ) (name other : ℕ) → bound b name (b name) other ≡ b other
 bound_as_is b name other = elim (cases_eq other name) [

@@ -7,9 +7,9 @@ use Rattle.xdg_facts.specs.Rises as sets
 use Rattle.xdg_problem.specs.Boxes.{Has, IsOnly}
 use Rattle.xdg_problem.specs.Truths.{bound, HasTruth}
 use Rattle.xdg_rules.specs.Worths.{EachValue}
+use Rattle.xdg_problem.proofs.Bindings.{bound_else, bound_here}
 use Rattle.xdg_formula_value.specs.Rows.{AreFirst, IsRowOn}
 use Rattle.xdg_formula_value.proofs.Rowed.{row_constant, row_like}
-use Rattle.xdg_formula_value.proofs.Stood.{bound_else, bound_here}
 
 -- each value that remains is the one
 pub only_told : (box : List (List Bool)) (d value : ℕ) (truth result : Bool) → truth ≡ true → IsTrue result ↔ IsOnly box d value → IsTrue result ↔ EachValue box d (λ v. HasTruth truth (v ≡ value))

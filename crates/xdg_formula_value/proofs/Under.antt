@@ -13,7 +13,7 @@ use Rattle.xdg_problem.specs.Problems.{IsProblem}
 use Rattle.xdg_problem.specs.Truths.{bound, unbound}
 use Rattle.xdg_problem.specs.Vectors.{shape}
 use Rattle.xdg_rules.specs.Worths.{Makes, RuleFalse}
-use Rattle.xdg_problem.proofs.Bindings.{bound_nodes}
+use Rattle.xdg_problem.proofs.Bindings.{bound_nodes, bound_else}
 use Rattle.xdg_rules.proofs.ClaimLaws.{name_laws}
 use Rattle.xdg_store.specs.Naming.{Names}
 use Rattle.xdg_store.specs.declared.decision.Decision.{Decision}
@@ -21,7 +21,7 @@ use Rattle.xdg_formula_value.specs.Lost.{AgreeBut, AsksIf, Concerns, Finds, Lead
 use Rattle.xdg_formula_value.specs.Rows.{Over}
 use Rattle.xdg_formula_value.proofs.Finding.{NoneMade, finds_no}
 use Rattle.xdg_formula_value.proofs.Formed.{not_makes, every_makes, any_makes}
-use Rattle.xdg_formula_value.proofs.Stood.{bound_back, bound_else}
+use Rattle.xdg_formula_value.proofs.Stood.{bound_back}
 use Rattle.xdg_formula_value.proofs.Unmet.{made_before}
 use Rattle.xdg_facts.proofs.Truths.{or_here, either_true}
 use Rattle.xdg_facts.specs.Rises.{has}

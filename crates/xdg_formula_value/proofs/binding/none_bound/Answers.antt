@@ -1,5 +1,5 @@
 use Rattle.std.proofs.Common.{refl}
-use Rattle.xdg_formula_value.proofs.Stood.{unbound_table}
+use Rattle.xdg_problem.proofs.Bindings.{unbound_table}
 use Rattle.xdg_formula_value.proofs.binding.none_bound.Goals as goal
 
 pub returns : goal.returns
