@@ -1,5 +1,5 @@
 -- Where entries say their words, looked for place by place.
-use Rattle.std.proofs.Common.{◌≡◌, ℕ, ◌<◌, ◌≤◌, ◌+◌, List, length, get_or, slice_get, Option, Some, None, unwrap_or, refl, sym, ap, subst, ◌∙◌, codes, arith, below_more}
+use Rattle.std.proofs.Common.{◌≡◌, ℕ, ◌<◌, ◌≤◌, ◌+◌, List, length, get_or, slice_get, Option, Some, None, refl, sym, ap, subst, ◌∙◌, codes, arith, below_more}
 use Rattle.std.specs.Option.{option_map}
 use Rattle.std.proofs.lemmas.Option.{slice_get-map, slice_get_read, slice_get-get_or, slice_get_within}
 use Rattle.std.proofs.lemmas.List.{length-map}
@@ -7,6 +7,7 @@ use Rattle.xdg_domain.specs.declared.types.Ty.{Ty}
 use Rattle.xdg_domain.specs.Shapes.{Shape, shape, text}
 use Rattle.xdg_types.specs.declared.table.DimType.{DimType}
 use Rattle.xdg_types.specs.Table.{Table, typed}
+use Rattle.xdg_facts.proofs.Options.{some_same}
 use Rattle.xdg_packed.specs.Entries.{IsWordPlace}
 use Rattle.xdg_packed.specs.WordFields.{IsWordField, TellsWordField, IsWordIn, TellsWordIn}
 
@@ -22,14 +23,11 @@ NoWordField fields bound = (field : ℕ) → field < bound → IsWordField (type
 field_at : (fields : List Field) (i : ℕ) (field : Field) → i < length fields → field ≡ get_or fields i field → slice_get (typed fields) i ≡ Some (field.0, shape field.1)
 field_at fields i field within is = slice_get-map (λ (one : Field). (one.0, shape one.1)) fields i ∙ ap (option_map (λ (one : Field). (one.0, shape one.1))) (slice_get_read fields (length fields) i field refl within is)
 
-same_pair : (name : List ℕ) (s : Shape) → ◌≡◌ {A = Option (List ℕ × Shape)} (Some (name, s)) (Some (codes "word", text)) → (name ≡ codes "word") × (s ≡ text)
-same_pair name s is =
-    let pair : Option (List ℕ × Shape) → List ℕ × Shape = λ o. unwrap_or o (name, s) in
-    (ap (λ o. (pair o).0) is, ap (λ o. (pair o).1) is)
-
 pub field_passed : (fields : List Field) (i : ℕ) (field : Field) → i < length fields → field ≡ get_or fields i field → ((field.0 ≡ codes "word") × (shape field.1 ≡ text) → ⊥) → NoWordField fields i → NoWordField fields (i + 1)
 field_passed fields i field within is not before =
-    below_more (λ k. IsWordField (typed fields) k → ⊥) i before (λ word. not (same_pair field.0 (shape field.1) (sym (field_at fields i field within is) ∙ word)))
+    below_more (λ k. IsWordField (typed fields) k → ⊥) i before (λ word.
+    let e = some_same (field.0, shape field.1) (codes "word", text) (sym (field_at fields i field within is) ∙ word) in
+    not (ap (λ (p : List ℕ × Shape). p.0) e, ap (λ (p : List ℕ × Shape). p.1) e))
 
 pub no_field_left : (fields : List Field) (i : ℕ) → length fields ≤ i → NoWordField fields i → (field : ℕ) → IsWordField (typed fields) field → ⊥
 no_field_left fields i past before field word =

@@ -4,13 +4,12 @@ use Rattle.std.specs.List.{range_with_len}
 use Rattle.std.proofs.lemmas.List.{ext_get_or, length-map, get_or-map, map-append, take_more}
 use Rattle.std.proofs.lemmas.List.FromFn.{length-map-range_with_len, get_or-map-range_with_len}
 use Rattle.xdg_base.specs.declared.ids.EntryNo.{EntryNo}
-use Rattle.xdg_packed.specs.Lexicon.{Record, Entry, Lexicon, HasWord, word_of, AreAsLong, width, column, columns, CountsDifferent, CountsRows, IsFirstAlike}
+use Rattle.xdg_packed.specs.Lexicon.{Record, Entry, Lexicon, HasWord, word_of, AreAsLong, width, column, columns, CountsDifferent, CountsRows}
 use Rattle.xdg_packed.specs.Packing.{unpacked, IsPacked}
-use Rattle.xdg_packed.specs.Rows.{IsFirst}
 use Rattle.xdg_packed.specs.Tables.{records, no_table, IsRight}
 use Rattle.xdg_packed.specs.Words.{IsWordIndex}
 use Rattle.xdg_packed.specs.declared.table.Table.{Table}
-use Rattle.xdg_packed.proofs.Firsts.{in_column, column_first, long_shown}
+use Rattle.xdg_packed.proofs.Firsts.{in_column, long_shown}
 use Rattle.xdg_facts.proofs.Lists.{fused, any_default}
 
 -- ---- lists by their places
@@ -23,6 +22,10 @@ all_places f d xs count size each =
     let long = length-map-range_with_len f 0 count in
     ext_get_or d (map f (range_with_len 0 count)) xs (long ∙ size)
     (λ i within. get_or-map-range_with_len f 0 count i i d (omega (arith, within, long)) (from_zero i) ∙ each i (omega (arith, within, long, size)))
+
+-- what a function makes of the first elements, and of one more
+pub map_next : {A B : Type 0} (f : A → B) (xs : List A) (i : ℕ) (x : A) → i < length xs → x ≡ get_or xs i x → map f (take (i + 1) xs) ≡ map f (take i xs) ++ f x ∷ []
+map_next f xs i x within is = ap (map f) (take_more xs i x within ∙ ap (λ y. take i xs ++ y ∷ []) (sym is)) ∙ map-append f (take i xs) (x ∷ [])
 
 -- ---- entries
 
@@ -50,15 +53,8 @@ counts_more (first ∷ tables) rows table here (h, later, counted, rest, sum) co
 pub rows_next : (tables : List Table) (i : ℕ) (table : Table) (rows here sum : ℕ) → i < length tables → table ≡ get_or tables i table → CountsRows (map records (take i tables)) rows → CountsDifferent (records table) here → sum ≡ rows + here
     → CountsRows (map records (take (i + 1) tables)) sum
 rows_next tables i table rows here sum within is counted counts e =
-    let grown : map records (take (i + 1) tables) ≡ map records (take i tables) ++ records table ∷ [] = ap (map records) (take_more tables i table within ∙ ap (λ t. take i tables ++ t ∷ []) (sym is)) ∙ map-append records (take i tables) (table ∷ []) in
-    subst (λ n. CountsRows (map records (take (i + 1) tables)) n) (sym e) (subst (λ ts. CountsRows ts (rows + here)) (sym grown) (counts_more (map records (take i tables)) rows (records table) here counted counts))
-
--- a record of one table more
-pub rows_taken : (tables : List Table) (n i : ℕ) (table : Table) → i < length tables → table ≡ get_or tables i table
-    → map (λ t. get_or (records t) n []) (take (i + 1) tables) ≡ map (λ t. get_or (records t) n []) (take i tables) ++ get_or (records table) n [] ∷ []
-rows_taken tables n i table within is =
-    ap (map (λ t. get_or (records t) n [])) (take_more tables i table within ∙ ap (λ t. take i tables ++ t ∷ []) (sym is))
-    ∙ map-append (λ t. get_or (records t) n []) (take i tables) (table ∷ [])
+    subst (λ n. CountsRows (map records (take (i + 1) tables)) n) (sym e)
+    (subst (λ ts. CountsRows ts (rows + here)) (sym (map_next records tables i table within is)) (counts_more (map records (take i tables)) rows (records table) here counted counts))
 
 -- ---- packed
 
@@ -117,13 +113,9 @@ module _ (entries : List Entry) (tables : List Table) (holds : Holds entries tab
       let count = columns_wide entries tables holds.are in
       omega (arith, same, count, inside)
 
--- the record of an entry, and the first entry with it
+-- the record of an entry
 pub record_is : (entries : List Entry) (dim : ℕ) (table : Table) (n : ℕ) (fields : Record) → HoldsDim entries dim table → n < length entries → fields ≡ get_or (records table) n [] → fields ≡ get_or (get_or entries n []) dim []
 record_is entries dim table n fields holds within own = own ∙ ap (λ t. get_or t n []) holds.are ∙ in_column entries n dim within
-
-pub first_is : (lexicon : Lexicon) (dim : ℕ) (table : Table) (n first : ℕ) → HoldsDim lexicon.entries dim table → n < length lexicon.entries → IsFirst (records table) n first
-    → (first < length lexicon.entries) × IsFirstAlike lexicon dim n first
-first_is lexicon dim table n first holds within own = column_first lexicon dim n first within (subst (λ t. IsFirst t n first) holds.are own)
 
 -- of what is packed
 

@@ -4,7 +4,7 @@ use Rattle.std.specs.Prelude.{Option, bytes_eq, option_map}
 use Rattle.std.specs.List.{range_with_len}
 use Rattle.std.proofs.Math.Bool.{or-false}
 use Rattle.std.proofs.Math.ListN.{get_or-append}
-use Rattle.std.proofs.Math.Seq.{get_or-append_seam, take-suc}
+use Rattle.std.proofs.Math.Seq.{get_or-append_seam}
 use Rattle.std.proofs.lemmas.Bool.{cases_Bool}
 use Rattle.std.proofs.lemmas.List.{append-nil, map-append, length-map, length-append, length-take-le, get_or-map}
 use Rattle.std.proofs.lemmas.List.Elements.{filter-append}
@@ -15,6 +15,7 @@ use Rattle.xdg_names.proofs.Texts.{has_text-append, place_of-Some, place_of-None
 use Rattle.xdg_packed.specs.Lexicon.{Entry, number, places_of, numbers_of, word_of}
 use Rattle.xdg_packed.specs.Words.{IsWordIndex}
 use Rattle.xdg_packed.proofs.Packs.{added_last}
+use Rattle.xdg_packed.proofs.Unpacked.{map_next}
 use Rattle.xdg_domain.proofs.Sorting.{range_more}
 use Rattle.xdg_facts.proofs.Texts.{either_way}
 use Rattle.xdg_facts.proofs.Truths.{agree_in, none_in, none_or}
@@ -163,13 +164,6 @@ module _ (said : List (List ℕ)) (last : List ℕ) where
 
 -- ---- the loop over entries
 
-pub words_more : (dim field : ℕ) (entries : List Entry) (i : ℕ) (entry : Entry) → i < length entries → get_or entries i entry ≡ entry → map (word_of dim field) (take (i + 1) entries) ≡ map (word_of dim field) (take i entries) ++ word_of dim field entry ∷ []
-words_more dim field entries i entry within is =
-    let next : i + 1 ≡ suc i = omega arith in
-    ap (λ k. map (word_of dim field) (take k entries)) next
-    ∙ ap (map (word_of dim field)) (take-suc entries i entry within ∙ ap (λ e. take i entries ++ e ∷ []) is)
-    ∙ map-append (word_of dim field) (take i entries) (entry ∷ [])
-
 pub index_next : (dim field : ℕ) (entries : List Entry) (i : ℕ) (entry held : Entry) (word : List ℕ) (words more : List (List ℕ)) (numbers grown : List (List EntryNo)) → i < length entries
     → entry ≡ get_or entries i entry → held ≡ entry → word ≡ word_of dim field held
     → ((before : List (List ℕ)) → i ≡ length before → IsWordIndex before words numbers → IsWordIndex (before ++ word ∷ []) more grown)
@@ -177,7 +171,7 @@ pub index_next : (dim field : ℕ) (entries : List Entry) (i : ℕ) (entry held 
 index_next dim field entries i entry held word words more numbers grown within is lent told step index =
     let size : i ≡ length (map (word_of dim field) (take i entries)) = sym (length-map (take i entries) (word_of dim field) ∙ length-take-le i entries (omega (arith, within))) in
     subst (λ said. IsWordIndex said more grown)
-    (ap (λ w. map (word_of dim field) (take i entries) ++ w ∷ []) (told ∙ ap (word_of dim field) lent) ∙ sym (words_more dim field entries i entry within (sym is)))
+    (ap (λ w. map (word_of dim field) (take i entries) ++ w ∷ []) (told ∙ ap (word_of dim field) lent) ∙ sym (map_next (word_of dim field) entries i entry within is))
     (step (map (word_of dim field) (take i entries)) size index)
 
 -- as many lists as words, still

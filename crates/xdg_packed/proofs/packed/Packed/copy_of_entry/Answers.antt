@@ -1,7 +1,7 @@
 use Rattle.std.proofs.Common.{◌<◌, ◌++◌, ◌∷◌, [], get_or, map, length, sym, ap, ap₂, subst, ◌∙◌, arith}
 use Rattle.std.proofs.lemmas.List.{take_all}
 use Rattle.xdg_packed.specs.Tables.{records}
-use Rattle.xdg_packed.proofs.Unpacked.{HoldsDim, holds_packed, read_dim, row_back, rows_taken}
+use Rattle.xdg_packed.proofs.Unpacked.{HoldsDim, holds_packed, read_dim, row_back, map_next}
 use Rattle.xdg_packed.proofs.packed.Packed.copy_of_entry.Goals.{After-table-item}
 use Rattle.xdg_packed.proofs.packed.Packed.copy_of_entry.Goals as goal
 
@@ -19,7 +19,7 @@ record-requires-clause-within c = let h = table (goal.at.record-requires-clause-
 pub loop-table-preserved : goal.loop-table-preserved
 loop-table-preserved c =
     c.in_ok-push.ensures.ok ∙ ap₂ (λ made fields. made ++ fields ∷ []) c.loop-table.invariant (c.in_ok-copy_of.ensures ∙ c.record.ensures)
-    ∙ sym (rows_taken c.as_slice-table-items.result.now c.args.number c.loop-table.table-index c.table-item.result c.loop-table-test.true c.table-item.is)
+    ∙ sym (map_next (λ table. get_or (records table) c.args.number []) c.as_slice-table-items.result.now c.loop-table.table-index c.table-item.result c.loop-table-test.true c.table-item.is)
 
 pub returns : goal.returns
 returns c =

@@ -1,5 +1,7 @@
-use Rattle.std.proofs.Common.{arith}
-use Rattle.xdg_packed.proofs.Unpacked.{HoldsDim, holds_packed, read_dim, table_within, first_is}
+use Rattle.std.proofs.Common.{subst, arith}
+use Rattle.xdg_packed.proofs.Unpacked.{HoldsDim, holds_packed, read_dim, table_within}
+use Rattle.xdg_packed.specs.Rows.{IsFirst}
+use Rattle.xdg_packed.proofs.Firsts.{column_first}
 use Rattle.xdg_packed.proofs.packed.Packed.first_alike.Goals.{After-index-as_slice-dim}
 use Rattle.xdg_packed.proofs.packed.Packed.first_alike.Goals as goal
 
@@ -16,5 +18,5 @@ first_alike-requires-clause-within c = let h = table (goal.at.first_alike-requir
 
 pub returns : goal.returns
 returns c =
-    let first = first_is c.args.self.now c.args.dim _ c.args.no.0 _ (table (goal.at.returns c).After-index-as_slice-dim) c.requires.entry c.first_alike.ensures in
+    let first = column_first c.args.self.now c.args.dim c.args.no.0 _ c.requires.entry (subst (λ t. IsFirst t c.args.no.0 c.first_alike.result) (table (goal.at.returns c).After-index-as_slice-dim).are c.first_alike.ensures) in
     record { within = first.0; first = first.1 }
