@@ -5,6 +5,7 @@ use Rattle.std.specs.Int.{bit_at, bit_not, trailing_zeros, w64}
 use Rattle.std.specs.Int.RustNames.{bit_or}
 use lib.Bits.{bit_and}
 use Rattle.std.proofs.lemmas.Bool.{cases_eq, eq-eqb, eqb-true}
+use Rattle.std.proofs.lemmas.Grind.{get_or_default_zero}
 use Rattle.std.proofs.lemmas.List.{length-map, length-set, get_or-map, get_or-set_same, get_or-set_other}
 use Rattle.std.proofs.lemmas.Nat.Bits.{bit_at-trailing_zeros, bit_at-zero, bit_at_set_same, bit_at_set_other, shr_and_one}
 use Rattle.xdg_problem.specs.Places.{below, numbers_from}
@@ -97,15 +98,25 @@ set_other words bit w x l is n =
 pub place_within : (words : List ℕ) (count at : ℕ) → HoldsFlags words count → at < count → at / 64 < length words
 place_within words count at holds within = let r = holds.room in omega (arith, r, within)
 
-module _ (words : List ℕ) (count at w : ℕ) (holds : HoldsFlags words count) (within : at < count) (is : w ≡ get_or words (at / 64) 0) where
+pub within_seen : (words : List ℕ) (count at : ℕ) (flags : List Bool) → flags_of words count ≡ flags → at < length flags → at < count
+within_seen words count at flags seen l = let n = length_flags words count in let v = ap length seen in omega (arith, n, v, l)
+
+-- the words are seen as the flags, and w is the word with the bit
+module _ (words : List ℕ) (count at w : ℕ) (flags : List Bool) (holds : HoldsFlags words count) (seen : flags_of words count ≡ flags) (l : at < length flags) (w_is : w ≡ get_or words (at / 64) w) where
+  within : at < count
+  within = within_seen words count at flags seen l
+
+  is : w ≡ get_or words (at / 64) 0
+  is = w_is ∙ get_or_default_zero words (at / 64) w (place_within words count at holds within)
+
   room : at < 64 * length words
-  room = let r = holds.room in omega (arith, r, within)
+  room = let r = holds.room in let i = within in omega (arith, r, i)
 
   pub woken_holds : HoldsFlags (set words (at / 64) (bit_or w (1 * 2 ^ (at % 64) % 2 ^ 64))) count
   woken_holds = holds_still words (with_bit words at w) count at holds (length-set words (at / 64) (bit_or w (1 * 2 ^ (at % 64) % 2 ^ 64))) within (λ x n. set_other words at w x room is n)
 
-  pub woken_flags : flags_of (set words (at / 64) (bit_or w (1 * 2 ^ (at % 64) % 2 ^ 64))) count ≡ set (flags_of words count) at true
-  woken_flags = flags_set words (with_bit words at w) true count at (set_same words at w room) (λ x n. set_other words at w x room is n)
+  pub woken_flags : flags_of (set words (at / 64) (bit_or w (1 * 2 ^ (at % 64) % 2 ^ 64))) count ≡ set flags at true
+  woken_flags = flags_set words (with_bit words at w) true count at (set_same words at w room) (λ x n. set_other words at w x room is n) ∙ ap (λ z. set z at true) seen
 
   asleep_is : cleared words at ≡ set words (at / 64) (bit_and w (bit_not w64 (1 * 2 ^ (at % 64) % 2 ^ 64)))
   unfolding cleared
@@ -114,8 +125,8 @@ module _ (words : List ℕ) (count at w : ℕ) (holds : HoldsFlags words count) 
   pub asleep_holds : HoldsFlags (set words (at / 64) (bit_and w (bit_not w64 (1 * 2 ^ (at % 64) % 2 ^ 64)))) count
   asleep_holds = subst (λ z. HoldsFlags z count) asleep_is (holds_still words (cleared words at) count at holds (length-cleared words at) within (λ x n. cleared_other words at x room n))
 
-  pub asleep_flags : flags_of (set words (at / 64) (bit_and w (bit_not w64 (1 * 2 ^ (at % 64) % 2 ^ 64)))) count ≡ set (flags_of words count) at false
-  asleep_flags = ap (λ z. flags_of z count) (sym asleep_is) ∙ flags_set words (cleared words at) false count at (cleared_same words at room) (λ x n. cleared_other words at x room n)
+  pub asleep_flags : flags_of (set words (at / 64) (bit_and w (bit_not w64 (1 * 2 ^ (at % 64) % 2 ^ 64)))) count ≡ set flags at false
+  asleep_flags = ap (λ z. flags_of z count) (sym asleep_is) ∙ flags_set words (cleared words at) false count at (cleared_same words at room) (λ x n. cleared_other words at x room n) ∙ ap (λ z. set z at false) seen
 
 -- ---- the first bit that is set
 

@@ -1,15 +1,14 @@
 -- The sizes of a box's decisions.
-use Rattle.std.proofs.Common.{◌≡◌, ℕ, ◌+◌, ◌<◌, ◌⊎◌, inl, inr, zero, suc, Bool, true, false, cond, List, [], ◌∷◌, ◌++◌, length, map, refl, sym, ap, ◌∙◌, arith, subst}
+use Rattle.std.proofs.Common.{◌≡◌, ℕ, ◌+◌, ◌<◌, ◌⊎◌, inl, inr, zero, suc, Bool, true, false, List, [], ◌∷◌, ◌++◌, length, map, refl, ap, ◌∙◌, arith, subst}
 use Rattle.std.specs.Prelude.{Contains, slice_index, slice_index_or}
 use Rattle.std.proofs.lemmas.Bool.{false≢true}
 use Rattle.std.proofs.lemmas.List.{get_or-append-add, length-map}
 use Rattle.xdg_problem.specs.declared.analysis.Edge.{Edge}
 use Rattle.xdg_problem.specs.declared.parts.Parts.{Parts}
-use Rattle.xdg_problem.specs.Places.{nodes, places, same_edge}
+use Rattle.xdg_problem.specs.Places.{nodes, places}
 use Rattle.xdg_problem.specs.Vectors.{attr_sizes, shape}
 use Rattle.xdg_problem.specs.Problems.{IsProblem}
-use Rattle.xdg_problem.proofs.Edges.{same_edge_itself}
-use Rattle.xdg_problem.proofs.Ordered.{contains_cases, contains_none}
+use Rattle.xdg_problem.proofs.PlaceFound.{place_found}
 use Rattle.xdg_problem.proofs.VectorFacts.{length_shape}
 use Rattle.xdg_problem.specs.Boxes.{Has, IsBox, place_in, edge_decision, entry_decision}
 
@@ -23,18 +22,6 @@ pub within_sizes : (box : List (List Bool)) (d v : ℕ) → Has box d v → v < 
 within_sizes [] d v has = absurd (false≢true has)
 within_sizes (row ∷ box) zero v has = row_within row v has
 within_sizes (row ∷ box) (suc d) v has = within_sizes box d v has
-
--- a place among places stands at its number
-place_put : (b : Bool) (n k : ℕ) → (b ≡ false → k < n) → cond b 0 (suc k) < suc n
-place_put true n k h = omega arith
-place_put false n k h = (let l = h refl in omega (arith, l))
-
-pub place_within : (edges : List Edge) (e : Edge) → Contains edges e → place_in edges e < length edges
-place_within [] e c = absurd (contains_none e c)
-place_within (place ∷ edges) e c = place_put (same_edge place e) (length edges) (place_in edges e) (λ other. elim (contains_cases place edges e c) [
-  | inl is ↦ absurd (false≢true (sym other ∙ ap (λ x. same_edge x e) is ∙ same_edge_itself e))
-  | inr later ↦ place_within edges e later
-])
 
 -- each edge place has two values
 twos : (edges : List Edge) (k : ℕ) → k < length edges → slice_index (map (λ (place : Edge). 2) edges) k ≡ 2
@@ -52,10 +39,10 @@ edge_size parts e c =
     ap (λ d. slice_index_or (shape parts) d 0) same
     ∙ get_or-append-add entries (attrs ++ edges) (length attrs + k) 0
     ∙ get_or-append-add attrs edges k 0
-    ∙ twos (places parts) k (place_within (places parts) e c)
+    ∙ twos (places parts) k (place_found (places parts) e c).0
 
 pub edge_within : (parts : Parts) (e : Edge) → Contains (places parts) e → edge_decision parts e < length (shape parts)
-edge_within parts e c = (let long = length_shape parts in let k = place_within (places parts) e c in omega (arith, long, k))
+edge_within parts e c = (let long = length_shape parts in let k = (place_found (places parts) e c).0 in omega (arith, long, k))
 
 pub node_within : (parts : Parts) (node : ℕ) → IsProblem parts → node < nodes parts → entry_decision node < length (shape parts)
 node_within parts node is l = (let long = length_shape parts in let each = is.candidates_each in omega (arith, long, each))

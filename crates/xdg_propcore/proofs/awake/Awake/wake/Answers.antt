@@ -1,27 +1,12 @@
-use Rattle.std.proofs.Common.{◌<◌, ◌/◌, true, length, set, ap, ◌∙◌, arith}
-use Rattle.std.proofs.lemmas.Grind.{get_or_default_zero}
-use Rattle.xdg_propcore.proofs.Flags.{length_flags, place_within, woken_holds, woken_flags}
+use Rattle.std.proofs.Common.{arith}
+use Rattle.xdg_propcore.proofs.Flags.{place_within, within_seen, woken_holds, woken_flags}
 use Rattle.xdg_propcore.proofs.awake.Awake.wake.Goals as goal
 
 pub index_mut-requires : goal.index_mut-requires
-index_mut-requires c =
-    let n = length_flags c.self.inside.words.items c.self.inside.count in
-    let v = ap length c.self.view_is in
-    let p = place_within c.self.inside.words.items c.self.inside.count c.args.at c.self.invariant (omega (arith, n, v, c.requires)) in
-    omega (arith, p)
+index_mut-requires c = (let p = place_within c.self.inside.words.items c.self.inside.count c.args.at c.self.invariant (within_seen c.self.inside.words.items c.self.inside.count c.args.at _ c.self.view_is c.requires) in omega (arith, p))
 
 pub invariant_of-self : goal.invariant_of-self
-invariant_of-self c =
-    let n = length_flags c.self.inside.words.items c.self.inside.count in
-    let v = ap length c.self.view_is in
-    let w : c.args.at < c.self.inside.count = omega (arith, n, v, c.requires) in
-    let p = place_within c.self.inside.words.items c.self.inside.count c.args.at c.self.invariant w in
-    woken_holds c.self.inside.words.items c.self.inside.count c.args.at c.index_mut.result.now c.self.invariant w (c.index_mut.ensures.value ∙ get_or_default_zero c.self.inside.words.items (c.args.at / 64) c.index_mut.result.now p)
+invariant_of-self c = woken_holds c.self.inside.words.items c.self.inside.count c.args.at c.index_mut.result.now _ c.self.invariant c.self.view_is c.requires c.index_mut.ensures.value
 
 pub returns : goal.returns
-returns c =
-    let n = length_flags c.self.inside.words.items c.self.inside.count in
-    let v = ap length c.self.view_is in
-    let w : c.args.at < c.self.inside.count = omega (arith, n, v, c.requires) in
-    let p = place_within c.self.inside.words.items c.self.inside.count c.args.at c.self.invariant w in
-    woken_flags c.self.inside.words.items c.self.inside.count c.args.at c.index_mut.result.now c.self.invariant w (c.index_mut.ensures.value ∙ get_or_default_zero c.self.inside.words.items (c.args.at / 64) c.index_mut.result.now p) ∙ ap (λ z. set z c.args.at true) c.self.view_is
+returns c = woken_flags c.self.inside.words.items c.self.inside.count c.args.at c.index_mut.result.now _ c.self.invariant c.self.view_is c.requires c.index_mut.ensures.value
