@@ -30,22 +30,23 @@ greatest low bound v (n ∷ front) end rises h = elim ((either (n == v) (has (fr
 pub last_small : (ends front : List ℕ) (end : ℕ) → IsNodes ends → ends ≡ front ++ end ∷ [] → end < 128
 last_small ends front end nodes is = nodes_small ends nodes end (subst (λ s. has s end ≡ true) (sym is) (has_next front [] end))
 
+-- what is beside one of some nodes is beside the one that is beside the most
+end_exact : (R : ℕ → ℕ → Type 0) (ends set : List ℕ) (end : ℕ) → has ends end ≡ true → ((v w : ℕ) → has ends w ≡ true → R v w → R v end) → ((v : ℕ) → (has set v ≡ true) ↔ R v end) → (v : ℕ) →
+    (has set v ≡ true) ↔ ((w : ℕ) × (has ends w ≡ true) × R v w)
+end_exact R ends set end among most exact v = (λ h. (end, among, (exact v).0 h), λ (w, there, at). (exact v).1 (most v w there at))
+
 pub left_exact : (ends front set : List ℕ) (end : ℕ) → IsNodes ends → ends ≡ front ++ end ∷ [] → ((v : ℕ) → (has set v ≡ true) ↔ (v ≤ end))
     → (v : ℕ) → (has set v ≡ true) ↔ ((w : ℕ) × (has ends w ≡ true) × (v ≤ w))
-left_exact ends front set end nodes is exact v = (
-  λ h. (end, subst (λ s. has s end ≡ true) (sym is) (has_next front [] end), (exact v).0 h),
-  λ (w, there, l). (exact v).1 (let m = greatest 0 128 w front end (subst (Rises 0 128) is nodes.rises) (subst (λ s. has s w ≡ true) is there) in omega (arith, l, m)),
-)
+left_exact ends front set end nodes is = end_exact (λ v w. v ≤ w) ends set end (subst (λ s. has s end ≡ true) (sym is) (has_next front [] end))
+    (λ v w there l. (let m = greatest 0 128 w front end (subst (Rises 0 128) is nodes.rises) (subst (λ s. has s w ≡ true) is there) in omega (arith, l, m)))
 
 pub right_exact : (ends rest set : List ℕ) (end : ℕ) → IsNodes ends → ends ≡ end ∷ rest → ((v : ℕ) → (has set v ≡ true) ↔ ((end ≤ v) × (v < 128)))
     → (v : ℕ) → (has set v ≡ true) ↔ ((w : ℕ) × (has ends w ≡ true) × ((w ≤ v) × (v < 128)))
-right_exact ends rest set end nodes is exact v = (
-  λ h. (end, head_in ends rest end is, (exact v).0 h),
-  λ (w, there, (l, small)). (exact v).1 (
-      let rises : Rises 0 128 (end ∷ rest) = subst (Rises 0 128) is nodes.rises in
-      let m = least end 128 w (end ∷ rest) (omega arith, rises.1, rises.2) (subst (λ s. has s w ≡ true) is there) in
-      (omega (arith, l, m), small)),
-)
+right_exact ends rest set end nodes is = end_exact (λ v w. (w ≤ v) × (v < 128)) ends set end (head_in ends rest end is) (λ v w there at.
+    let rises : Rises 0 128 (end ∷ rest) = subst (Rises 0 128) is nodes.rises in
+    let m = least end 128 w (end ∷ rest) (omega arith, rises.1, rises.2) (subst (λ s. has s w ≡ true) is there) in
+    let l = at.0 in
+    (omega (arith, l, m), at.1))
 
 pub none_exact : (Q : ℕ → ℕ → Type 0) (ends set : List ℕ) → ends ≡ [] → set ≡ [] → (v : ℕ) → (has set v ≡ true) ↔ ((w : ℕ) × (has ends w ≡ true) × Q v w)
 none_exact Q ends set none empty v = (λ h. absurd (no_member set v empty h), λ (w, there, q). absurd (no_member ends w none there))

@@ -16,13 +16,15 @@ use Rattle.xdg_problem.specs.Places.{edge, nodes, places}
 use Rattle.xdg_problem.specs.Tests.{Test, IsTestOf, looks_at, ordered_daughters, ordered_yields, projective}
 use Rattle.xdg_problem.specs.Vectors.{shape}
 use Rattle.xdg_problem.proofs.PlaceOrder.{is_place}
-use Rattle.xdg_rules.specs.Rules.{may_edges, must_edges, AboutHead, ComesBefore, DaughterOrder, OfHead, FailsTest, IsClosedFor, IsPlaceOn, ProjectivityReach, SaysPresent, TakesBy, TestDecided, TestPasses, has as flag}
+use Rattle.xdg_rules.specs.Rules.{may_edges, must_edges, ComesBefore, FailsTest, IsClosedFor, IsPlaceOn, SaysPresent, TakesBy, TestDecided, TestPasses, has as flag}
 use Rattle.xdg_rules.proofs.Shrinking.{may_exact, must_exact}
 use Rattle.xdg_graph.specs.Edges.{edge_labels}
 use Rattle.xdg_graph.proofs.Labelled.{label_below}
 use Rattle.xdg_porder.specs.Across.{AreNodesDone}
-use Rattle.xdg_porder.specs.Items.{AreMothersDone, IsNodeDone, IsPairDone, MayFollow, MustFollow}
-use Rattle.xdg_porder.proofs.Pairing.{pairs_before}
+use Rattle.xdg_porder.specs.Items.{AreMothersDone, IsNodeDone, IsPairDone, IsWrong, MayFollow, MayStand, MustFollow, MustStand}
+use Rattle.xdg_porder.proofs.Pairing.{head_wrong, pairs_before, wrong_back}
+use Rattle.xdg_propcore.proofs.ByRules.{NoRule, PassesAll, closed_by}
+use Rattle.xdg_problem.proofs.EachTest.{each_tested}
 use Rattle.xdg_propcore.proofs.SeenEdges.{all_seen}
 use Rattle.xdg_porder.proofs.Testing.{all_pairs, daughters_pass}
 use Rattle.xdg_facts.specs.Rises.{has}
@@ -45,40 +47,25 @@ module _ (parts : Parts) (group : Group) (box : List (List Bool)) (is : IsBox (s
   pair_done : (u l m : ℕ) → IsNodeDone parts group u box → ComesBefore (order_of group) l m → IsPairDone parts group u l m box
   pair_done u l m done comes = pairs_before (λ a b. IsPairDone parts group u a b box) (order_of group) l m (all_pairs parts group box is u done) comes
 
-  no_daughter : AreMothersDone parts group (nodes parts) box → (d v : ℕ) → Has box d v → DaughterOrder parts group box d v → ⊥
-  no_daughter done d v remains rule =
-      let place = rule.place in
-      let u = place.mother.0 in
-      let here = done u (is_place parts place rule.is.0).mother in
-      let may = follows place rule.is (said place d v rule.says remains) in
-      let must : MustFollow parts group box u rule.other.label.0 rule.other.daughter.0 = subst (λ k. MustFollow parts group box k rule.other.label.0 rule.other.daughter.0) (sym rule.mother) (must_follow rule.other rule.must) in
-      elim rule.wrong [
-        | inl after ↦ (pair_done u rule.other.label.0 place.label.0 here after.0).0 place.daughter.0 rule.other.daughter.0 (inr may) (inr must) after.1
-        | inr before ↦ (pair_done u place.label.0 rule.other.label.0 here before.0).1 place.daughter.0 rule.other.daughter.0 (inr may) (inr must) before.1
-      ]
+  -- no item stands on the wrong side of one that must be
+  wrong_done : AreMothersDone parts group (nodes parts) box → (u l m v w : ℕ) → u < nodes parts → MayStand parts group box u l v → MustStand parts group box u m w → IsWrong group l m v w → ⊥
+  wrong_done done u l m v w within may must (inl after) = (pair_done u m l (done u within) after.0).0 v w may must after.1
+  wrong_done done u l m v w within may must (inr before) = (pair_done u l m (done u within) before.0).1 v w may must before.1
 
-  no_edge : AreMothersDone parts group (nodes parts) box → (d v : ℕ) → Has box d v → AboutHead parts group box d v → ⊥
-  no_edge done d v remains rule =
+  no_rule : AreMothersDone parts group (nodes parts) box → NoRule parts group box principles.Order
+  no_rule done d v remains (inl rule) =
       let place = rule.place in
-      let u = place.mother.0 in
-      let here = done u (is_place parts place rule.is.0).mother in
-      let may = follows place rule.is (said place d v rule.says remains) in
-      elim rule.offends [
-        | inl after ↦ (pair_done u place.label.0 rule.own here after.0).1 place.daughter.0 u (inr may) (inl (refl, (rule.remains, rule.only))) (let l = after.1 in omega (arith, l))
-        | inr before ↦ (pair_done u rule.own place.label.0 here before.0).0 place.daughter.0 u (inr may) (inl (refl, (rule.remains, rule.only))) (let l = before.1 in omega (arith, l))
-      ]
-
-  no_own : AreMothersDone parts group (nodes parts) box → (d v : ℕ) → Has box d v → OfHead parts group box d v → ⊥
-  no_own done d v remains rule =
+      let must : MustFollow parts group box place.mother.0 rule.other.label.0 rule.other.daughter.0 = subst (λ k. MustFollow parts group box k rule.other.label.0 rule.other.daughter.0)
+      (sym rule.mother) (must_follow rule.other rule.must) in
+      wrong_done done place.mother.0 place.label.0 rule.other.label.0 place.daughter.0 rule.other.daughter.0 (is_place parts place rule.is.0).mother (inr (follows place rule.is (said place d v rule.says remains))) (inr must) rule.wrong
+  no_rule done d v remains (inr (inl rule)) =
       let place = rule.place in
-      let u = place.mother.0 in
+      wrong_done done place.mother.0 place.label.0 rule.own place.daughter.0 place.mother.0 (is_place parts place rule.is.0).mother (inr (follows place rule.is (said place d v rule.says remains))) (inl (refl, (rule.remains, rule.only)))
+      (wrong_back group rule.own place.label.0 place.mother.0 place.daughter.0 (head_wrong group rule.own place rule.offends))
+  no_rule done d v remains (inr (inr rule)) =
+      let place = rule.place in
       let must = must_follow place rule.must in
-      let here = done u must.0.mother in
-      let own = subst (λ i. Has box i v) rule.is remains in
-      elim rule.offends [
-        | inl after ↦ (pair_done u place.label.0 v here after.0).0 u place.daughter.0 (inl (refl, own)) (inr must) (let l = after.1 in omega (arith, l))
-        | inr before ↦ (pair_done u v place.label.0 here before.0).1 u place.daughter.0 (inl (refl, own)) (inr must) (let l = before.1 in omega (arith, l))
-      ]
+      wrong_done done place.mother.0 v place.label.0 place.mother.0 place.daughter.0 must.0.mother (inl (refl, subst (λ i. Has box i v) rule.is remains)) (inr must) (head_wrong group v place rule.offends)
 
   order_passes : AreMothersDone parts group (nodes parts) box → (truth_of group.truths 0 ≡ true → FailsTest parts group box → ⊥) → group.principle ≡ principles.Order → FailsTest parts group box → ⊥
   order_passes done along order failing = fine failing.test (subst (λ p. IsTestOf p group.truths (nodes parts) (label_count parts (first_dim group)) failing.test) order failing.is) failing.decided failing.fails
@@ -89,16 +76,8 @@ module _ (parts : Parts) (group : Group) (box : List (List Bool)) (is : IsBox (s
       fine test test_is decided fails = absurd test_is
 
   pub order_closed : group.principle ≡ principles.Order → AreMothersDone parts group (nodes parts) box → (truth_of group.truths 0 ≡ true → FailsTest parts group box → ⊥) → IsClosedFor parts group box
-  order_closed order done along d v remains takes = elim takes [
-    | inl failing ↦ order_passes done along order failing
-    | inr rule ↦ elim (subst (λ p. TakesBy p parts group box d v) order rule) [
-      | inl daughter ↦ no_daughter done d v remains daughter
-      | inr more ↦ elim more [
-        | inl edge_rule ↦ no_edge done d v remains edge_rule
-        | inr own ↦ no_own done d v remains own
-      ]
-    ]
-  ]
+  order_closed order done along d v remains (inl failing) = order_passes done along order failing
+  order_closed order done along d v remains (inr rule) = no_rule done d v remains (subst (λ p. TakesBy p parts group box d v) order rule)
 
   -- ---- projectivity
 
@@ -130,10 +109,7 @@ module _ (parts : Parts) (group : Group) (box : List (List Bool)) (is : IsBox (s
         subst (λ x. Above (may_edges parts box (first_dim group)) x w) m (crossed e may.0 may.1 w (subst (λ x. IsBetween x e.daughter.0 w) (sym m) (subst (λ x. IsBetween u x w) (sym d) between)))
 
     pub across_closed : group.principle ≡ principles.Projectivity → IsClosedFor parts group box
-    across_closed flat d v remains takes = elim takes [
-      | inl failing ↦ fine failing.test (subst (λ p. IsTestOf p group.truths (nodes parts) (label_count parts (first_dim group)) failing.test) flat failing.is) failing.decided failing.fails
-      | inr rule ↦ (let r : ProjectivityReach parts group box d v = subst (λ p. TakesBy p parts group box d v) flat rule in r.apart (crossed r.place r.is (said r.place d v r.says remains) r.node r.between))
-    ] where
-      fine : (test : Test) → IsTestOf principles.Projectivity group.truths (nodes parts) (label_count parts (first_dim group)) test → TestDecided parts group box test → (TestPasses parts group box test → ⊥) → ⊥
-      fine (projective u v) test_is decided fails = fails (subst (λ es. Asks es u v) (sym (all_seen parts group box (projective u v) (first_dim group) (λ e on. on))) (passes u v))
-      fine test test_is decided fails = absurd test_is
+    across_closed flat = closed_by parts group box (subst (PassesAll parts group box) (sym flat) (each_tested group.truths (nodes parts) (label_count parts (first_dim group))
+        (λ test. TestDecided parts group box test → TestPasses parts group box test) principles.Projectivity
+        (λ u within v also decided. subst (λ es. Asks es u v) (sym (all_seen parts group box (projective u v) (first_dim group) (λ e on. on))) (passes u v))))
+        (subst (NoRule parts group box) (sym flat) (λ d v remains r. r.apart (crossed r.place r.is (said r.place d v r.says remains) r.node r.between)))

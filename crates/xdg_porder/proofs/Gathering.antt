@@ -56,11 +56,11 @@ small_later left rest v is small w h = small w (tail_in left rest v w is h)
 pub same_set : (set of : List ℕ) → set ≡ of → (x : ℕ) → (has set x ≡ true) ↔ (has of x ≡ true)
 same_set set of is x = (λ h. subst (λ s. has s x ≡ true) is h, λ h. subst (λ s. has s x ≡ true) (sym is) h)
 
--- one set more
-pub unions : (Q : ℕ → Type 0) (acc more new : List ℕ) → ((x : ℕ) → (has more x ≡ true) ↔ Q x) → ((x : ℕ) → has new x ≡ (has acc x || has more x)) → (x : ℕ) → (has new x ≡ true) ↔ ((has acc x ≡ true) ⊎ Q x)
-unions Q acc more new exact is x = (
-  λ h. elim ((either (has acc x) (has more x)).0 (sym (is x) ∙ h)) [ inl old ↦ inl old | inr m ↦ inr ((exact x).0 m) ],
-  λ h. is x ∙ (either (has acc x) (has more x)).1 (elim h [ inl old ↦ inl old | inr q ↦ inr ((exact x).1 q) ]),
+-- two sets together
+pub both_exact : (A B : ℕ → Type 0) (one other all : List ℕ) → ((x : ℕ) → (has one x ≡ true) ↔ A x) → ((x : ℕ) → (has other x ≡ true) ↔ B x) → ((x : ℕ) → has all x ≡ (has one x || has other x)) → (x : ℕ) → (has all x ≡ true) ↔ (A x ⊎ B x)
+both_exact A B one other all a b is x = (
+  λ h. elim ((either (has one x) (has other x)).0 (sym (is x) ∙ h)) [ inl here ↦ inl ((a x).0 here) | inr there ↦ inr ((b x).0 there) ],
+  λ h. is x ∙ (either (has one x) (has other x)).1 (elim h [ inl here ↦ inl ((a x).1 here) | inr there ↦ inr ((b x).1 there) ]),
 )
 
 pub some_exact : (set rest : List ℕ) (node : ℕ) → set ≡ node ∷ rest → IsTrue false ↔ ((v : ℕ) → has set v ≡ true → ⊥)

@@ -1,5 +1,5 @@
 -- Nodes of which nothing was lost: there order takes no more than before.
-use Rattle.std.proofs.Common.{◌≡◌, ℕ, ◌<◌, ◌+◌, ◌||◌, inl, inr, Bool, true, false, List, [], ◌∷◌, length, refl, sym, ◌∙◌, ap, subst, arith}
+use Rattle.std.proofs.Common.{◌≡◌, ℕ, ◌<◌, ◌+◌, ◌||◌, inl, inr, Bool, true, List, [], ◌∷◌, refl, sym, ◌∙◌, ap, subst, arith}
 use Rattle.std.proofs.lemmas.Bool.{cases_eq}
 use Rattle.std.proofs.lemmas.List.{length-map}
 use Rattle.xdg_base.specs.declared.ids.LabelId.{LabelId}
@@ -9,6 +9,7 @@ use Rattle.xdg_problem.specs.declared.parts.Principle.TheVariants as principles
 use Rattle.xdg_problem.specs.Arguments.{attr_of, first_dim, order_of}
 use Rattle.xdg_problem.specs.Boxes.{Has, IsBox, LiesIn, edge_decision}
 use Rattle.xdg_problem.specs.Places.{nodes}
+use Rattle.xdg_problem.proofs.AttrPlaces.{attr_dim_within}
 use Rattle.xdg_problem.specs.Problems.{IsGroup, IsProblem}
 use Rattle.xdg_problem.specs.Vectors.{shape}
 use Rattle.xdg_rules.specs.Rules.{ComesBefore, IsClosedFor, attr_of_node}
@@ -19,9 +20,10 @@ use Rattle.xdg_propcore.specs.Touching.{HasTouched}
 use Rattle.xdg_propcore.specs.declared.touched.Touched.{Touched}
 use Rattle.xdg_porder.specs.Items.{AreMothersDone, AreOthersDone, IsAtNode, IsNodeDone, IsWrong, MayStand, MustStand, edge_to, label_at}
 use Rattle.xdg_porder.proofs.Pairing.{at_comes, edge_goes, own_goes}
+use Rattle.xdg_facts.proofs.Truths.{or_true}
 use Rattle.xdg_facts.specs.Rises.{has}
 use Rattle.xdg_propcore.proofs.Losing.{kept_or_lost}
-use Rattle.xdg_problem.specs.Principles.{dim_arguments, attr_arguments}
+use Rattle.xdg_problem.specs.Principles.{attr_arguments}
 
 -- ---- where the box is closed nothing is left
 
@@ -49,12 +51,10 @@ module _ (parts : Parts) (group : Group) (box : List (List Bool)) (problem : IsP
 -- ---- what is lost of a node
 
 module _ (parts : Parts) (group : Group) (group_is : IsGroup parts group) (order : group.principle ≡ principles.Order) (old new : List (List Bool)) (lies : LiesIn new old) (t : Touched) (touched : HasTouched parts (first_dim group) old new t) (u : ℕ) (within : u < nodes parts) (out : has t.mothers u ≡ true → ⊥) (own : has t.attrs u ≡ true → ⊥) where
-  dim_within : first_dim group < length parts.dims
-  dim_within = group_is.dims 0 (record { 0 = 0 }) (let c = group_is.dims_count in let k : 0 < dim_arguments group.principle = subst (λ p. 0 < dim_arguments p) (sym order) (omega arith) in omega (arith, c, k))
-
   own_stays : (x : ℕ) → Has old (attr_of_node parts group 0 u) x → Has new (attr_of_node parts group 0 u) x
   own_stays x = kept_or_lost old new (attr_of_node parts group 0 u) x (λ lost.
-      own (touched.attrs u (attr_of group 0) x dim_within within (group_is.attrs 0 (record { 0 = 0 }) (let c = group_is.attrs_count in let k : 0 < attr_arguments group.principle = subst (λ p. 0 < attr_arguments p) (sym order) (omega arith) in omega (arith, c, k))) lost))
+      (let some : 0 < attr_arguments group.principle = subst (λ p. 0 < attr_arguments p) (sym order) (omega arith) in
+      own (touched.attrs u (attr_of group 0) x (attr_dim_within parts group group_is 0 some) within (group_is.attrs 0 (record { 0 = 0 }) (let c = group_is.attrs_count in omega (arith, c, some))) lost)))
 
   may_before : (label v : ℕ) → MayStand parts group new u label v → MayStand parts group old u label v
   may_before label v (inl (same, may)) = inl (same, lies (attr_of_node parts group 0 u) label may)
@@ -78,10 +78,6 @@ others_stay set t parts group old new problem old_is is order lies touched membe
     (λ h. free (members u ∙ ap (λ b. b || has t.attrs u) h))
     (λ h. free (members u ∙ ap (λ b. has t.mothers u || b) h ∙ or_true (has t.mothers u)))
     (closed_node parts group old problem old_is is order closed u within)
-  where
-    or_true : (b : Bool) → (b || true) ≡ true
-    or_true true = refl
-    or_true false = refl
 
 -- nothing was
 pub others_none : (set : List ℕ) (parts : Parts) (group : Group) (box : List (List Bool)) → IsProblem parts → ((n : ℕ) → n < 128 → has set n ≡ true) → AreOthersDone set parts group box

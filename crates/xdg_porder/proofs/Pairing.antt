@@ -12,7 +12,8 @@ use Rattle.xdg_problem.specs.Arguments.{first_dim, order_of, label_count}
 use Rattle.xdg_problem.specs.Boxes.{Has, Must, edge_decision}
 use Rattle.xdg_problem.specs.Problems.{IsGroup}
 use Rattle.xdg_problem.proofs.PlaceOrder.{place_is}
-use Rattle.xdg_rules.specs.Rules.{ComesBefore, Takes, TakesBy, attr_of_node, must_edges}
+use Rattle.xdg_problem.specs.declared.analysis.Edge.{Edge}
+use Rattle.xdg_rules.specs.Rules.{ComesBefore, HeadOffends, Takes, TakesBy, attr_of_node, must_edges}
 use Rattle.xdg_rules.proofs.Shrinking.{must_exact}
 use Rattle.xdg_store.specs.States.{State, Known}
 use Rattle.xdg_porder.specs.Items.{AreWrong, IsAtNode, IsWrong, MayStand, MustStand, TakesItems, edge_to}
@@ -50,6 +51,21 @@ comes_differ parts group is same l m comes =
     let second = get_or-map (λ (label : LabelId). label.0) group.order j (record { 0 = 0 }) d (omega (arith, within, count)) in
     differ i j (record { 0 = 0 }) less (omega (arith, within, count)) (ap (λ n. record { 0 = n }) (sym first ∙ equal ∙ second))) comes
 
+-- ---- the wrong side
+
+pub wrong_back : (group : Group) (l m v w : ℕ) → IsWrong group l m v w → IsWrong group m l w v
+wrong_back group l m v w (inl after) = inr after
+wrong_back group l m v w (inr before) = inl before
+
+-- under its own label a mother stands beside a daughter as two items do
+pub head_wrong : (group : Group) (x : ℕ) (place : Edge) → HeadOffends group x place → IsWrong group x place.label.0 place.mother.0 place.daughter.0
+head_wrong group x place (inl after) = inl (after.0, (let l = after.1 in omega (arith, l)))
+head_wrong group x place (inr before) = inr (before.0, (let l = before.1 in omega (arith, l)))
+
+wrong_head : (group : Group) (x : ℕ) (place : Edge) → place.mother.0 ≢ place.daughter.0 → IsWrong group x place.label.0 place.mother.0 place.daughter.0 → HeadOffends group x place
+wrong_head group x place apart (inl after) = inl (after.0, (let l = after.1 in omega (arith, l, apart)))
+wrong_head group x place apart (inr before) = inr (before.0, (let l = before.1 in omega (arith, l, apart)))
+
 -- ---- what is taken
 
 module _ (group : Group) (u l m : ℕ) (s : State) (at : IsAtNode group u s) where
@@ -76,10 +92,7 @@ module _ (group : Group) (u l m : ℕ) (s : State) (at : IsAtNode group u s) whe
       place = edge_to group u m w;
       must = must_of m w is must;
       is = refl;
-      offends = elim wrong [
-        | inl after ↦ inl (after.0, (let far = after.1 in let apart = is.differ in omega (arith, far, apart)))
-        | inr before ↦ inr (before.0, (let far = before.1 in let apart = is.differ in omega (arith, far, apart)))
-      ];
+      offends = wrong_head group l (edge_to group u m w) is.differ wrong;
     })))
   ]
 
@@ -93,10 +106,7 @@ module _ (group : Group) (u l m : ℕ) (s : State) (at : IsAtNode group u s) whe
       own = m;
       remains = has;
       only = only;
-      offends = elim wrong [
-        | inl after ↦ inr (after.0, (let far = after.1 in let apart = is.differ in omega (arith, far, apart, here)))
-        | inr before ↦ inl (before.0, (let far = before.1 in let apart = is.differ in omega (arith, far, apart, here)))
-      ];
+      offends = wrong_head group m (edge_to group u l v) is.differ (wrong_back group l m v u (subst (IsWrong group l m v) here wrong));
     })))
     | inr (other_is, must) ↦ takes_by (edge_decision s.parts (edge_to group u l v)) 0 (inl (record {
       place = edge_to group u l v;

@@ -1,13 +1,13 @@
 -- Items that are taken, one by one.
-use Rattle.std.proofs.Common.{◌≡◌, ◌≢◌, ℕ, ◌<◌, ◌==◌, ◌&&◌, inl, inr, Bool, true, false, List, [], ◌∷◌, refl, sym, ap, ◌∙◌, arith, subst}
+use Rattle.std.proofs.Common.{◌≡◌, ◌≢◌, ℕ, ◌<◌, ◌==◌, ◌&&◌, inl, inr, Bool, true, false, List, refl, sym, ap, ◌∙◌, arith, subst}
 use Rattle.std.specs.Prelude.{not}
-use Rattle.std.proofs.lemmas.Bool.{ne_eqb, cases_eq, false≢true, eq-eqb}
+use Rattle.std.proofs.lemmas.Bool.{ne_eqb, false≢true, eq-eqb}
 use Rattle.xdg_nodeset.proofs.TableSets.{both}
 use Rattle.xdg_problem.specs.declared.parts.Group.{Group}
 use Rattle.xdg_problem.specs.declared.parts.Parts.{Parts}
 use Rattle.xdg_problem.specs.Analyses.{IsPlace}
 use Rattle.xdg_problem.specs.Arguments.{first_dim}
-use Rattle.xdg_problem.specs.Boxes.{Has, May, edge_decision}
+use Rattle.xdg_problem.specs.Boxes.{Has, edge_decision}
 use Rattle.xdg_problem.specs.Places.{edge, nodes}
 use Rattle.xdg_problem.specs.Problems.{IsGroup}
 use Rattle.xdg_rules.specs.Rules.{Takes, attr_of_node}
@@ -15,13 +15,12 @@ use Rattle.xdg_store.specs.InRange.{HasValue}
 use Rattle.xdg_store.specs.States.{State, Known}
 use Rattle.xdg_propcore.specs.Passes.{Progress, Clears, Goes}
 use Rattle.xdg_propcore.specs.Sweeps.{Sweeps}
-use Rattle.xdg_propcore.proofs.Passing.{goes_both}
+use Rattle.xdg_propcore.proofs.Aimed.{ByOne}
 use Rattle.xdg_propcore.proofs.Sweeping.{sweeps_start, sweeps_skip, sweeps_both, sweeps_taken}
 use Rattle.xdg_porder.specs.Items.{IsAtNode, IsReady, MayOwn, NoneFollow, NoneStand, TakesEdges, TakesItems, edge_to}
 use Rattle.xdg_graph.specs.Slots.{IsSlot, decision_of}
 use Rattle.xdg_graph.specs.declared.slot.Slot.{Slot}
 use Rattle.xdg_graph.proofs.SlotValues.{slot_below}
-use Rattle.xdg_facts.proofs.Rising.{head_or_tail}
 use Rattle.xdg_facts.specs.Rises.{has}
 
 -- what is ready stays so
@@ -33,44 +32,23 @@ node_later group u Done p old q new at a = ((ready_later group Done p old q new 
 
 -- ---- edges
 
--- of the edges to the nodes of a set those may be no more whose nodes aren't still to come
-abbrev pub EdgesGone : Parts → Group → ℕ → ℕ → List ℕ → List ℕ → List (List Bool) → Type 0
-EdgesGone parts group u label set left box = (v : ℕ) → has set v ≡ true → (has left v ≡ true → ⊥) → May parts box (edge_to group u label v) → ⊥
+-- that the edge to a node is present
+abbrev pub EdgeAt : ℕ → ℕ → ℕ → Parts → ℕ → ℕ → ℕ → Type 0
+EdgeAt dim u label parts v d x = (d ≡ edge_decision parts (edge dim u label v)) × (x ≡ 0)
 
-module _ (group : Group) (u label : ℕ) (set : List ℕ) (p : Progress) (old : State) (ready : IsReady group old) (takes : TakesEdges group u label set old) where
-  pub edges_first : Sweeps group (EdgesGone old.parts group u label set set) p old p old
-  edges_first = sweeps_start group (EdgesGone old.parts group u label set set) p old ready.known (λ v there out. absurd (out there))
+pub edge_place : (group : Group) (u label : ℕ) (set : List ℕ) (old : State) → TakesEdges group u label set old → (dim v : ℕ) (now : Parts) → now ≡ old.parts → dim ≡ first_dim group → has set v ≡ true → IsPlace now (edge dim u label v)
+edge_place group u label set old takes dim v now same on there = subst (λ parts. IsPlace parts (edge dim u label v)) (sym same) (subst (λ d. IsPlace old.parts (edge d u label v)) (sym on) (takes.2 v there).0)
 
-  pub edge_place : (dim v : ℕ) (now : Parts) → now ≡ old.parts → dim ≡ first_dim group → has set v ≡ true → IsPlace now (edge dim u label v)
-  edge_place dim v now same on there = subst (λ parts. IsPlace parts (edge dim u label v)) (sym same) (subst (λ d. IsPlace old.parts (edge d u label v)) (sym on) (takes.2 v there).0)
-
-  pub edges_turn : (left rest : List ℕ) (dim v : ℕ) (q : Progress) (mid : State) (r : Progress) (new : State) → dim ≡ first_dim group → left ≡ v ∷ rest → has set v ≡ true
-      → Sweeps group (EdgesGone old.parts group u label set left) p old q mid → Clears (λ d x. (d ≡ edge_decision mid.parts (edge dim u label v)) × (x ≡ 0)) q mid r new → Known new → Sweeps group (EdgesGone old.parts group u label set rest) p old r new
-  edges_turn left rest dim v q mid r new on is there a clears known = record {
-    goes = goes_both group p q r old mid new a.goes goes;
-    known = known;
-    done = λ quiet w here out may. elim (cases_eq w v) [
-      | inl now ↦ clears.gone quiet (edge_decision mid.parts (edge dim u label v)) 0 (refl, refl) (subst (λ e. Has new.now e 0) (sym (decision_is v)) (subst (λ k. May old.parts new.now (edge_to group u label k)) now may))
-      | inr other ↦ (let z = goes.quiet quiet in a.done z.0 w here (λ h. elim (head_or_tail left rest v w is h) [ inl same ↦ other (sym same) | inr later ↦ out later ]) (subst (λ box. May old.parts box (edge_to group u label w)) z.1 may))
-    ];
-  } where
-    same : mid.parts ≡ old.parts
-    same = a.goes.extends.same
-
-    decision_is : (k : ℕ) → edge_decision mid.parts (edge dim u label k) ≡ edge_decision old.parts (edge_to group u label k)
-    decision_is k = ap (λ parts. edge_decision parts (edge dim u label k)) same ∙ ap (λ d. edge_decision old.parts (edge d u label k)) on
-
-    aimed : (d x : ℕ) → (d ≡ edge_decision mid.parts (edge dim u label v)) × (x ≡ 0) → Takes mid.parts group takes.0 d x
-    aimed d x aim = subst (λ parts. Takes parts group takes.0 d x) (sym same)
-        (subst (λ i. Takes old.parts group takes.0 i x) (sym (aim.0 ∙ decision_is v))
-        (subst (λ y. Takes old.parts group takes.0 (edge_decision old.parts (edge_to group u label v)) y) (sym aim.1) (takes.2 v there).1))
-
-    goes : Goes group q mid r new
-    goes = clears.goes group takes.0 (subst (λ parts. IsGroup parts group) (sym same) ready.group_is) (λ d x h. takes.1 d x (a.goes.extends.inside d x h)) aimed
-
-pub edges_end : (group : Group) (u label : ℕ) (set left : List ℕ) (p : Progress) (old : State) (q : Progress) (new : State) → left ≡ [] → Sweeps group (EdgesGone old.parts group u label set left) p old q new → Sweeps group (NoneFollow old.parts group u label set) p old q new
-edges_end group u label set left p old q new empty a = sweeps_skip group (EdgesGone old.parts group u label set left) (NoneFollow old.parts group u label set) p old q new a
-    (λ gone v there may. gone v there (λ h. false≢true (subst (λ s. has s v ≡ true) empty h)) may)
+pub edges_taken : (group : Group) (u label dim : ℕ) (set : List ℕ) (p q : Progress) (old new : State) → dim ≡ first_dim group → IsReady group old → TakesEdges group u label set old → Known new
+    → Clears (ByOne (λ v. has set v ≡ true) (EdgeAt dim u label old.parts)) p old q new → Sweeps group (NoneFollow old.parts group u label set) p old q new
+edges_taken group u label dim set p q old new on ready takes known c = record {
+  goes = c.goes group takes.0 ready.group_is takes.1 (λ d x (v, there, aim).
+      subst (λ i. Takes old.parts group takes.0 i x) (sym (aim.0 ∙ decision_is v)) (subst (λ y. Takes old.parts group takes.0 (edge_decision old.parts (edge_to group u label v)) y) (sym aim.1) (takes.2 v there).1));
+  known = known;
+  done = λ quiet v there may. c.gone quiet (edge_decision old.parts (edge_to group u label v)) 0 (v, there, (sym (decision_is v), refl)) may;
+} where
+  decision_is : (v : ℕ) → edge_decision old.parts (edge dim u label v) ≡ edge_decision old.parts (edge_to group u label v)
+  decision_is v = ap (λ d. edge_decision old.parts (edge d u label v)) on
 
 -- ---- own labels
 

@@ -1,5 +1,5 @@
 -- Edges that are decided, and labels whose items stand in order.
-use Rattle.std.proofs.Common.{◌≡◌, ℕ, ◌<◌, ◌≤◌, ◌+◌, ◌⊎◌, ◌↔◌, ◌||◌, ◌&&◌, inl, inr, Bool, true, false, IsTrue, List, [], sym, ◌∙◌, arith, subst}
+use Rattle.std.proofs.Common.{◌≡◌, ℕ, ◌<◌, ◌≤◌, ◌+◌, ◌↔◌, ◌||◌, ◌&&◌, inl, inr, Bool, true, false, IsTrue, List, [], sym, ◌∙◌, arith, subst}
 use Rattle.std.specs.Prelude.{not}
 use Rattle.std.proofs.lemmas.Bool.{cases_Bool, cases_lt, false≢true}
 use Rattle.xdg_nodeset.specs.Tables.{In, Meet}
@@ -20,12 +20,6 @@ settled_exact parts group box u label may must free b may_is must_is free_is exa
     | inr out ↦ absurd (exact.0 t v (free_is v ∙ (left_out (has may v) (has must v)).1 ((may_is v).1 (is, here), λ h. false≢true (sym out ∙ h))))
   ],
   λ settled. exact.1 (λ v h. (let two = (left_out (has may v) (has must v)).0 (sym (free_is v) ∙ h) in let (is, here) = (may_is v).0 two.0 in two.1 ((must_is v).1 (is, settled v is here)))),
-)
-
-pub below_exact : (A B : ℕ → Type 0) (items below all : List ℕ) → ((x : ℕ) → (has items x ≡ true) ↔ A x) → ((x : ℕ) → (has below x ≡ true) ↔ B x) → ((x : ℕ) → has all x ≡ (has items x || has below x)) → (x : ℕ) → (has all x ≡ true) ↔ (A x ⊎ B x)
-below_exact A B items below all a b is x = (
-  λ h. elim ((either (has items x) (has below x)).0 (sym (is x) ∙ h)) [ inl i ↦ inl ((a x).0 i) | inr j ↦ inr ((b x).0 j) ],
-  λ h. is x ∙ (either (has items x) (has below x)).1 (elim h [ inl i ↦ inl ((a x).1 i) | inr j ↦ inr ((b x).1 j) ]),
 )
 
 pub below_of : (P : ℕ → Type 0) (table : List (List ℕ)) (follow below : List ℕ) → ((v : ℕ) → (has follow v ≡ true) ↔ P v) → ((x : ℕ) → (has below x ≡ true) ↔ ((v : ℕ) × (has follow v ≡ true) × In table v x)) → (x : ℕ) → (has below x ≡ true) ↔ ((v : ℕ) × P v × In table v x)

@@ -35,20 +35,6 @@ side_wrong group sides.Left i j v w less within reaches = inl (comes group i j l
 side_wrong group sides.Right i j v w less within reaches =
     inr (comes group (length group.order - 1 - j) (length group.order - 1 - i) (omega (arith, less, within)) (omega (arith, less, within)), reaches)
 
--- ---- what is reached
-
-pub left_reached : (side : Side) (ends result : List ℕ) → side ≡ sides.Left → ((v : ℕ) → (has result v ≡ true) ↔ ((w : ℕ) × (has ends w ≡ true) × (v ≤ w))) → ((v : ℕ) → has result v ≡ true → (w : ℕ) × (has ends w ≡ true) × IsReached side v w) × ((v w : ℕ) → v < 128 → has ends w ≡ true → IsReached side v w → has result v ≡ true)
-left_reached side ends result is exact = subst (λ s. ((v : ℕ) → has result v ≡ true → (w : ℕ) × (has ends w ≡ true) × IsReached s v w) × ((v w : ℕ) → v < 128 → has ends w ≡ true → IsReached s v w → has result v ≡ true)) (sym is) (
-  λ v there. (exact v).0 there,
-  λ v w small end far. (exact v).1 (w, end, far),
-)
-
-pub right_reached : (side : Side) (ends result : List ℕ) → side ≡ sides.Right → ((v : ℕ) → (has result v ≡ true) ↔ ((w : ℕ) × (has ends w ≡ true) × ((w ≤ v) × (v < 128)))) → ((v : ℕ) → has result v ≡ true → (w : ℕ) × (has ends w ≡ true) × IsReached side v w) × ((v w : ℕ) → v < 128 → has ends w ≡ true → IsReached side v w → has result v ≡ true)
-right_reached side ends result is exact = subst (λ s. ((v : ℕ) → has result v ≡ true → (w : ℕ) × (has ends w ≡ true) × IsReached s v w) × ((v w : ℕ) → v < 128 → has ends w ≡ true → IsReached s v w → has result v ≡ true)) (sym is) (
-  λ v there. (let (w, end, far) = (exact v).0 there in (w, end, far.0)),
-  λ v w small end far. (exact v).1 (w, end, (far, small)),
-)
-
 -- ---- items that are taken
 
 stand_within : (parts : Parts) (group : Group) (box : List (List Bool)) (u label v : ℕ) → u < nodes parts → MayStand parts group box u label v → v < nodes parts

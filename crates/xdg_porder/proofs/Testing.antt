@@ -17,10 +17,12 @@ use Rattle.xdg_problem.specs.Asking.{IsInItem}
 use Rattle.xdg_problem.specs.Boxes.{Has, IsBox, May, Must, edge_decision}
 use Rattle.xdg_problem.specs.Paths.{Above, IsDaughterBy, edges_on}
 use Rattle.xdg_problem.specs.Places.{edge, nodes, places}
-use Rattle.xdg_problem.specs.Tests.{Test, IsTestOf, looks_at, ordered_daughters, ordered_yields}
+use Rattle.xdg_problem.specs.Tests.{Test, IsTest, IsTestOf, looks_at, ordered_daughters, ordered_yields}
 use Rattle.xdg_problem.specs.Vectors.{shape}
 use Rattle.xdg_problem.proofs.PlaceOrder.{is_place, place_is}
 use Rattle.xdg_rules.specs.Rules.{has, may_edges, FailsTest, IsDecided, IsPlaceOn, TestDecided, TestPasses, attr_of_node, value_in}
+use Rattle.xdg_facts.proofs.Numbers.{below_two}
+use Rattle.xdg_problem.proofs.EachTest.{each_tested}
 use Rattle.xdg_rules.proofs.Shrinking.{may_exact}
 use Rattle.xdg_rules.proofs.Sizes.{edge_some, edge_values}
 use Rattle.xdg_propcore.proofs.SeenEdges.{all_seen, decided_must, only_value, seen, seen_at, value_has}
@@ -76,20 +78,13 @@ module _ (parts : Parts) (group : Group) (box : List (List Bool)) (is : IsBox (s
       own : IsDecided box (own_of u)
       own = decided.attrs 0 0 (omega arith)
 
-      may_stand : (label x : ℕ) → IsInItem (few (ordered_daughters u)) (truth_of group.truths 0 ≡ true) (value_in box (own_of u)) u label x → MayStand parts group box u label x
-      may_stand label x item = elim item [
-        | inl here ↦ inl (here.1, subst (Has box (own_of u)) (sym here.0) (value_has box (own_of u) own))
+      both_stand : (label x : ℕ) → IsInItem (few (ordered_daughters u)) (truth_of group.truths 0 ≡ true) (value_in box (own_of u)) u label x → MayStand parts group box u label x × MustStand parts group box u label x
+      both_stand label x item = elim item [
+        | inl here ↦
+            let has_own = subst (Has box (own_of u)) (sym here.0) (value_has box (own_of u) own) in
+            (inl (here.1, has_own), inl (here.1, (has_own, λ z there. only_value box (own_of u) own z there ∙ sym here.0)))
         | inr more ↦ elim more [
-          | inl follows ↦ inr (stands (ordered_daughters u) u label x decided follows).0
-          | inr below ↦ absurd (false≢true (sym plain ∙ below.0))
-        ]
-      ]
-
-      must_stand : (label x : ℕ) → IsInItem (few (ordered_daughters u)) (truth_of group.truths 0 ≡ true) (value_in box (own_of u)) u label x → MustStand parts group box u label x
-      must_stand label x item = elim item [
-        | inl here ↦ inl (here.1, (subst (Has box (own_of u)) (sym here.0) (value_has box (own_of u) own), λ z there. only_value box (own_of u) own z there ∙ sym here.0))
-        | inr more ↦ elim more [
-          | inl follows ↦ inr (stands (ordered_daughters u) u label x decided follows).1
+          | inl follows ↦ (let both = stands (ordered_daughters u) u label x decided follows in (inr both.0, inr both.1))
           | inr below ↦ absurd (false≢true (sym plain ∙ below.0))
         ]
       ]
@@ -97,10 +92,16 @@ module _ (parts : Parts) (group : Group) (box : List (List Bool)) (is : IsBox (s
       passes : Orders (few (ordered_daughters u)) u
       passes x y xl yl i j d less within first second = elim (cases_lt x y) [
         | inl left ↦ left
-        | inr past ↦ absurd ((all_pairs u done i j d less within).0 y x (may_stand (get_or (order_of group) j d) y second) (must_stand (get_or (order_of group) i d) x first) past)
+        | inr past ↦ absurd ((all_pairs u done i j d less within).0 y x (both_stand (get_or (order_of group) j d) y second).0 (both_stand (get_or (order_of group) i d) x first).1 past)
       ]
 
   -- ---- yields
+
+  -- what holds of each decided test of yields holds of each decided test of an order along yields
+  by_yields : group.principle ≡ principles.Order → truth_of group.truths 0 ≡ true → (Q : Test → Type 0) → ((u : ℕ) → u < nodes parts → TestDecided parts group box (ordered_yields u) → Q (ordered_yields u))
+      → (test : Test) → IsTest parts group test → TestDecided parts group box test → Q test
+  by_yields order along Q each test is = each_tested group.truths (nodes parts) (label_count parts one) (λ t. TestDecided parts group box t → Q t) principles.Order ((λ plain. absurd (false≢true (sym plain ∙ along))), (λ yields. each)) test
+      (subst (λ p. IsTestOf p group.truths (nodes parts) (label_count parts one) test) order is)
 
   module _ (table : List (List ℕ)) (exact : (a b : ℕ) → In table a b ↔ Above (may_edges parts box (first_dim group)) a b) where
     -- the items of a decided node
@@ -152,20 +153,20 @@ module _ (parts : Parts) (group : Group) (box : List (List Bool)) (is : IsBox (s
           | inl here ↦ (
             0,
             here,
-            λ x there. (let s = edge_values parts box is e on.0 x there in elim (cases_lt x 1) [
-              | inl zero_is ↦ omega (arith, zero_is)
-              | inr past ↦ absurd (let k : x ≡ 1 = omega (arith, s, past) in must here (subst (Has box (edge_decision parts e)) k there))
-            ]),
+            λ x there. elim (below_two x (edge_values parts box is e on.0 x there)) [
+              | inl zero_is ↦ zero_is
+              | inr one_is ↦ absurd (must here (subst (Has box (edge_decision parts e)) one_is there))
+            ],
           )
           | inr out ↦ elim (edge_some parts box is e on.0) [
             | inl here ↦ absurd (false≢true (sym out ∙ here))
             | inr there ↦ (
               1,
               there,
-              λ x h. (let s = edge_values parts box is e on.0 x h in elim (cases_lt x 1) [
-                | inl less ↦ absurd (let k : x ≡ 0 = omega (arith, less) in false≢true (sym out ∙ subst (Has box (edge_decision parts e)) k h))
-                | inr past ↦ omega (arith, s, past)
-              ]),
+              λ x h. elim (below_two x (edge_values parts box is e on.0 x h)) [
+                | inl zero_is ↦ absurd (false≢true (sym out ∙ subst (Has box (edge_decision parts e)) zero_is h))
+                | inr one_is ↦ one_is
+              ],
             )
           ]
         ]
@@ -187,7 +188,8 @@ module _ (parts : Parts) (group : Group) (box : List (List Bool)) (is : IsBox (s
     }
 
     pub none_fails : group.principle ≡ principles.Order → truth_of group.truths 0 ≡ true → ((u : ℕ) → u < nodes parts → IsDecided box (own_of u) × IsBrokenAt parts group table box u → ⊥) → FailsTest parts group box → ⊥
-    none_fails order along none failing = yields_fail failing.test (subst (λ p. IsTestOf p group.truths (nodes parts) (label_count parts one) failing.test) order failing.is) failing.decided failing.fails
+    none_fails order along none failing = by_yields order along (λ test. (TestPasses parts group box test → ⊥) → ⊥)
+        (λ u within decided fails. fails (subst (λ es. Orders es u) (sym (yields_seen u)) (orders u within (decided.attrs 0 0 (omega arith))))) failing.test failing.is failing.decided failing.fails
       where
         orders : (u : ℕ) → u < nodes parts → IsDecided box (own_of u) → Orders may u
         orders u within own x y xl yl i j d less jw first second = elim (cases_lt x y) [
@@ -212,17 +214,10 @@ module _ (parts : Parts) (group : Group) (box : List (List Bool)) (is : IsBox (s
               ))
         ]
 
-        yields_fail : (test : Test) → IsTestOf principles.Order group.truths (nodes parts) (label_count parts one) test → TestDecided parts group box test → (TestPasses parts group box test → ⊥) → ⊥
-        yields_fail (ordered_daughters u) test_is decided fails = false≢true (sym test_is.0 ∙ along)
-        yields_fail (ordered_yields u) test_is decided fails = fails (subst (λ es. Orders es u) (sym (yields_seen u)) (orders u test_is.1 (decided.attrs 0 0 (omega arith))))
-        yields_fail test test_is decided fails = absurd test_is
-
   -- where a test of yields fails, the edges are settled
   pub failing_settled : group.principle ≡ principles.Order → truth_of group.truths 0 ≡ true → FailsTest parts group box → AreSettled parts group box
-  failing_settled order along failing = settled failing.test (subst (λ p. IsTestOf p group.truths (nodes parts) (label_count parts one) failing.test) order failing.is) failing.decided
-    where
-      settled : (test : Test) → IsTestOf principles.Order group.truths (nodes parts) (label_count parts one) test → TestDecided parts group box test → AreSettled parts group box
-      settled (ordered_daughters u) test_is decided = absurd (false≢true (sym test_is.0 ∙ along))
-      settled (ordered_yields w) test_is decided = λ u ul label ll v place here. decided_must parts box (edge_to group u label v)
-          (All-contains (λ e. looks_at group (ordered_yields w) e ≡ true → IsDecided box (edge_decision parts e)) (places parts) (edge_to group u label v) decided.edges (place_is parts (edge_to group u label v) place) (eq-eqb one one refl)) here
-      settled test test_is decided = absurd test_is
+  failing_settled order along failing = by_yields order along (λ test. AreSettled parts group box)
+      (λ w within decided u ul label ll v place here. decided_must parts box (edge_to group u label v)
+      (All-contains (λ e. looks_at group (ordered_yields w) e ≡ true → IsDecided box (edge_decision parts e)) (places parts) (edge_to group u label v) decided.edges
+      (place_is parts (edge_to group u label v) place) (eq-eqb one one refl)) here)
+      failing.test failing.is failing.decided
