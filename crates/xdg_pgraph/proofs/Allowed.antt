@@ -1,19 +1,14 @@
 -- The numbers of edges that entries allow.
-use Rattle.std.proofs.Common.{◌≡◌, ℕ, ◌<◌, ◌≤◌, ◌+◌, ◌-◌, ◌⊎◌, ◌↔◌, inl, inr, Bool, false, IsTrue, List, [], length, slice_index_or, refl, sym, ◌∙◌, ap, subst, arith}
-use Prim.Native.Nat.{min, max}
+use Rattle.std.proofs.Common.{◌≡◌, ℕ, ◌<◌, ◌≤◌, ◌+◌, ◌-◌, ◌⊎◌, ◌↔◌, inl, inr, Bool, false, IsTrue, List, [], slice_index_or, refl, sym, ◌∙◌, ap, subst, arith}
 use Rattle.std.specs.Prelude.{Contains, All, ◌==◌}
-use Rattle.std.specs.List.Sorted.{IsStrictlyIncreasing}
-use Rattle.std.proofs.lemmas.Bool.{cases_eq, cases_lt, eq-eqb, eqb-true}
+use Rattle.std.proofs.lemmas.Bool.{eq-eqb, eqb-true}
 use Rattle.std.proofs.lemmas.List.Elements.{All-contains, All-weaker}
-use Rattle.std.proofs.lemmas.List.Kept.{AllPairs-from_increasing}
-use Rattle.std.proofs.Math.Nat.{min-eq_left, min-eq_right, min-le_left, min-le_right, max-eq_left, max-eq_right, le-max_left, le-max_right}
 use Rattle.xdg_problem.specs.declared.parts.Feat.{Feat}
 use Rattle.xdg_problem.specs.declared.parts.Group.{Group}
 use Rattle.xdg_problem.specs.Boxes.{Has, entry_decision}
 use Rattle.xdg_problem.specs.Features.{row}
 use Rattle.xdg_problem.proofs.RowReads.{in_candidates}
 use Rattle.xdg_rules.specs.Rules.{HasNoneWithin, IsGreatest, IsLeast}
-use Rattle.xdg_pgraph.specs.declared.bounds.Allowed.{Allowed}
 use Rattle.xdg_pgraph.specs.declared.bounds.Looked.{Looked}
 use Rattle.xdg_pgraph.specs.declared.bundle.Way.{Way}
 use Rattle.xdg_pgraph.specs.declared.bundle.Way.TheVariants as ways
@@ -32,56 +27,6 @@ numbers_told way group node label place argument candidates numbers argument_is 
     ∙ (ap (λ z. in_candidates candidates place z label) argument_is
     ∙ (ap (λ z. in_candidates z place (argument_of way) label) candidates_are
     ∙ numbers_row way group node label place))
-
--- ---- the first and the last of numbers that rise
-
-module _ (numbers : List ℕ) (rising : IsStrictlyIncreasing numbers) where
-  all_from : (first : ℕ) → ((d : ℕ) → first ≡ slice_index_or numbers 0 d) → All (λ k. first ≤ k) numbers
-  all_from first is k d within = elim (cases_eq k 0) [
-    | inl start ↦ (let e = is d in subst (λ i. first ≤ slice_index_or numbers i d) (sym start) (omega (arith, e)))
-    | inr past ↦ (let l = AllPairs-from_increasing numbers rising 0 k d (omega (arith, past)) within in let e = is d in omega (arith, l, e))
-  ]
-
-  all_to : (last : ℕ) → ((d : ℕ) → last ≡ slice_index_or numbers (length numbers - 1) d) → All (λ k. k < last + 1) numbers
-  all_to last is k d within = elim (cases_eq k (length numbers - 1)) [
-    | inl end ↦ (let e = is d in subst (λ i. slice_index_or numbers i d < last + 1) (sym end) (omega (arith, e)))
-    | inr before ↦ (let l = AllPairs-from_increasing numbers rising k (length numbers - 1) d (omega (arith, before, within)) (omega (arith, within)) in let e = is d in omega (arith, l, e))
-  ]
-
-  module _ (old new : Allowed) (first last : ℕ) (some : 0 < length numbers) (first_is : (d : ℕ) → first ≡ slice_index_or numbers 0 d) (last_is : (d : ℕ) → last ≡ slice_index_or numbers (length numbers - 1) d) (least : new.least ≡ min old.least first) (behind : new.behind ≡ max old.behind (last + 1)) where
-    least_one : (new.least ≡ old.least) ⊎ Contains numbers new.least
-    least_one = elim (cases_lt first old.least) [
-      | inl less ↦ inr (subst (Contains numbers) (sym (least ∙ min-eq_right (omega (arith, less)))) (0, some, sym (first_is first)))
-      | inr past ↦ inl (least ∙ min-eq_left past)
-    ]
-
-    behind_one : (new.behind ≡ old.behind) ⊎ ((k : ℕ) × Contains numbers k × (k + 1 ≡ new.behind))
-    behind_one = elim (cases_lt old.behind (last + 1)) [
-      | inl less ↦ inr (last, (length numbers - 1, omega (arith, some), sym (last_is last)), sym (behind ∙ max-eq_right (omega (arith, less))))
-      | inr past ↦ inl (behind ∙ max-eq_left past)
-    ]
-
-    -- they and their bounds
-    pub widens_row : Widens numbers old new
-    widens_row = record {
-      most = (let l = le-max_left old.behind (last + 1) in omega (arith, l, behind));
-      most_of = All-weaker (λ k. k < last + 1) (λ k. k < new.behind) (λ k x. (let l = le-max_right old.behind (last + 1) in omega (arith, l, behind, x))) numbers (all_to last last_is);
-      most_is = behind_one;
-      least = (let l = min-le_left old.least first in omega (arith, l, least));
-      least_of = All-weaker (λ k. first ≤ k) (λ k. new.least ≤ k) (λ k x. (let l = min-le_right old.least first in omega (arith, l, least, x))) numbers (all_from first first_is);
-      least_is = least_one;
-    }
-
--- no numbers
-pub widens_none : (numbers : List ℕ) (old : Allowed) → length numbers ≤ 0 → Widens numbers old old
-widens_none numbers old none = record {
-  most = omega arith;
-  most_of = λ k d within. absurd (omega (arith, none, within));
-  most_is = inl refl;
-  least = omega arith;
-  least_of = λ k d within. absurd (omega (arith, none, within));
-  least_is = inl refl;
-}
 
 -- ---- entries, one after another
 

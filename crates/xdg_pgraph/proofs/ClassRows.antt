@@ -25,12 +25,6 @@ same_way ways.In ways.In e = refl
 same_way ways.Out ways.In e = absurd (omega (arith, e))
 same_way ways.In ways.Out e = absurd (omega (arith, e))
 
-same_pair : (m n a b : ℕ) → a < 2 → b < 2 → m * 2 + a ≡ n * 2 + b → (m ≡ n) × (a ≡ b)
-same_pair m n a b l k e = (omega (arith, l, k, e), omega (arith, l, k, e))
-
-same_label : (m n a b w : ℕ) → m ≡ n → m * w + a ≡ n * w + b → a ≡ b
-same_label m n a b w same e = (let q = ap (λ z. z * w) same in omega (arith, e, q))
-
 bundle_equal : (a b : Bundle) → a.way ≡ b.way → a.node ≡ b.node → a.label ≡ b.label → a ≡ b
 bundle_equal a b w n l =
     ap (λ way. record { way = way; node = a.node; label = a.label }) w ∙ ap (λ node. record { way = b.way; node = node; label = a.label }) n
@@ -38,9 +32,12 @@ bundle_equal a b w n l =
 
 same_bundle : (labels : ℕ) (a b : Bundle) → a.label < labels → b.label < labels → class_place labels a ≡ class_place labels b → a ≡ b
 same_bundle labels a b l k e =
-    let both = same_pair (a.node * labels + a.label) (b.node * labels + b.label) (argument_of a.way) (argument_of b.way) (few_ways a.way) (few_ways b.way) e in
-    let node = same_row a.node a.label b.node b.label labels l k both.0 in
-    bundle_equal a b (same_way a.way b.way both.1) node (same_label a.node b.node a.label b.label labels node both.0)
+    let few = few_ways a.way in
+    let also = few_ways b.way in
+    let row : a.node * labels + a.label ≡ b.node * labels + b.label = omega (arith, few, also, e) in
+    let node = same_row a.node a.label b.node b.label labels l k row in
+    let before = ap (λ n. n * labels) node in
+    bundle_equal a b (same_way a.way b.way (omega (arith, few, also, e))) node (omega (arith, row, before))
 
 -- ---- one row after another
 

@@ -14,6 +14,7 @@ use Rattle.xdg_propcore.proofs.Passing.{clears_gone, clears_like, clears_more, c
 use Rattle.xdg_pgraph.specs.declared.bundle.Bundle.{Bundle}
 use Rattle.xdg_pgraph.specs.Bounding.{NoneBarred}
 use Rattle.xdg_pgraph.specs.Bundles.{edge_to, numbers_of, Barred, OpenTo}
+use Rattle.xdg_facts.proofs.Rising.{no_member}
 use Rattle.xdg_facts.specs.Rises.{has}
 
 -- ---- entries
@@ -75,13 +76,13 @@ opened_all parts dim bundle others value p q old new = clears_like (ByOne (λ x.
     (λ d v x. record { other = x.0; is = x.1; decision = x.2.0; value_is = x.2.1 })
     (λ d v x. (x.other, x.is, (x.decision, x.value_is)))
 
-module _ (parts : Parts) (dim : ℕ) (bundle : Bundle) (others : List ℕ) (value : ℕ) (p q r : Progress) (old mid new : State) where
+module _ (parts : Parts) (dim : ℕ) (bundle : Bundle) (others : List ℕ) (value : ℕ) (wanted : Bool) (p : Progress) (old : State) where
   -- nothing is open, or it isn't wanted
-  pub wanted_nowhere : (wanted : Bool) → (others ≡ []) ⊎ (wanted ≡ false) → Clears (λ d v. (wanted ≡ true) × OpenTo parts dim bundle others value d v) p old p old
-  wanted_nowhere wanted why = clears_none (λ d v. (wanted ≡ true) × OpenTo parts dim bundle others value d v) p old (λ d v a. elim why [
-    | inl nowhere ↦ false≢true (subst (λ s. has s a.1.other ≡ true) nowhere a.1.is)
+  pub wanted_nowhere : (others ≡ []) ⊎ (wanted ≡ false) → Clears (λ d v. (wanted ≡ true) × OpenTo parts dim bundle others value d v) p old p old
+  wanted_nowhere why = clears_none (λ d v. (wanted ≡ true) × OpenTo parts dim bundle others value d v) p old (λ d v a. elim why [
+    | inl nowhere ↦ no_member others a.1.other nowhere a.1.is
     | inr not ↦ false≢true (sym not ∙ a.0)
   ])
 
-  pub wanted_some : (wanted : Bool) → wanted ≡ true → Clears (OpenTo parts dim bundle others value) p old q mid → Clears (λ d v. (wanted ≡ true) × OpenTo parts dim bundle others value d v) p old q mid
-  wanted_some wanted is = clears_like (OpenTo parts dim bundle others value) (λ d v. (wanted ≡ true) × OpenTo parts dim bundle others value d v) p q old mid (λ d v a. (is, a)) (λ d v a. a.1)
+  pub wanted_some : (q : Progress) (mid : State) → wanted ≡ true → Clears (OpenTo parts dim bundle others value) p old q mid → Clears (λ d v. (wanted ≡ true) × OpenTo parts dim bundle others value d v) p old q mid
+  wanted_some q mid is = clears_like (OpenTo parts dim bundle others value) (λ d v. (wanted ≡ true) × OpenTo parts dim bundle others value d v) p q old mid (λ d v a. (is, a)) (λ d v a. a.1)

@@ -1,7 +1,8 @@
 -- Where the rule of entries of valency takes nothing that remains no decided test of valency fails.
-use Rattle.std.proofs.Common.{◌≡◌, ℕ, ◌<◌, ◌≤◌, ◌+◌, ◌⊎◌, ◌&&◌, inl, inr, Bool, true, List, [], ◌∷◌, length, refl, sym, ◌∙◌, subst, arith}
+use Rattle.std.proofs.Common.{◌≡◌, ℕ, ◌<◌, ◌≤◌, ◌+◌, ◌⊎◌, ◌&&◌, inl, inr, Bool, true, List, length, refl, sym, ◌∙◌, subst, arith}
 use Rattle.std.specs.Prelude.{All, Contains, filter, nat_le, ◌==◌, count_by}
-use Rattle.std.proofs.lemmas.Bool.{and_parts, and_from, eq-eqb, eqb-true, le-leb, false_from_ne_true, cases_lt}
+use Rattle.std.specs.List.{list_any}
+use Rattle.std.proofs.lemmas.Bool.{and_parts, and_from, both_ways, cases_Bool, eqb-true, le-leb, leb-true, false_from_ne_true}
 use Rattle.std.proofs.lemmas.List.Elements.{All-contains}
 use Rattle.xdg_problem.specs.declared.analysis.Edge.{Edge}
 use Rattle.xdg_problem.specs.declared.parts.Group.{Group}
@@ -10,30 +11,34 @@ use Rattle.xdg_problem.specs.Analyses.{IsPlace}
 use Rattle.xdg_problem.specs.Arguments.{first_dim, label_count}
 use Rattle.xdg_problem.specs.Boxes.{Has, entry_decision, edge_decision}
 use Rattle.xdg_problem.specs.Features.{in_row, out_row}
+use Rattle.xdg_problem.specs.Paths.{edges_into, edges_out_of}
 use Rattle.xdg_problem.specs.Places.{nodes, places}
 use Rattle.xdg_problem.specs.Tests.{Test, Counts, looks_at, out_count, in_count}
 use Rattle.xdg_problem.proofs.FilterFacts.{count_of_filter}
-use Rattle.xdg_problem.proofs.Ordered.{contains_head, contains_cases, contains_none}
 use Rattle.xdg_problem.proofs.PlaceOrder.{is_place}
 use Rattle.xdg_rules.specs.Rules.{has, IsDecided, HasNoneWithin, TestDecided, TestPasses, ValencyEntry, may_edges, must_edges, value_in}
-use Rattle.xdg_rules.proofs.Failing.{value_is}
+use Rattle.xdg_propcore.proofs.SeenEdges.{value_has}
+use Rattle.xdg_rules.proofs.Among.{any_passes, list_any_of}
 use Rattle.xdg_rules.proofs.Keeping.{less_length}
 use Rattle.xdg_rules.proofs.Shrinking.{may_be, must_be, must_test}
-use Rattle.xdg_facts.proofs.Lists.{contains_more}
 
 -- a number of a list lies between two others, or none does
 some_within : (xs : List ℕ) (least most : ℕ) → ((k : ℕ) × Contains xs k × (least ≤ k) × (k ≤ most)) ⊎ HasNoneWithin xs least most
-some_within [] least most = inr (λ k c from to. contains_none k c)
-some_within (x ∷ xs) least most = elim (some_within xs least most) [
-  | inl some ↦ inl (some.0, contains_more x xs some.0 some.1, some.2, some.3)
-  | inr none ↦ elim (cases_lt x least) [
-    | inl before ↦ inr (λ k c l m. elim (contains_cases x xs k c) [ inl e ↦ omega (arith, e, l, before) | inr d ↦ none k d l m ])
-    | inr from ↦ elim (cases_lt most x) [
-      | inl past ↦ inr (λ k c l m. elim (contains_cases x xs k c) [ inl e ↦ omega (arith, e, m, past) | inr d ↦ none k d l m ])
-      | inr to ↦ inl (x, contains_head x xs, from, to)
-    ]
-  ]
+some_within xs least most = elim (cases_Bool (list_any (λ k. nat_le least k && nat_le k most) xs)) [
+  | inl some ↦ (
+      let found = any_passes (λ k. nat_le least k && nat_le k most) xs some in
+      let both = and_parts (nat_le least found.0) (nat_le found.0 most) found.2 in
+      inl (found.0, found.1, leb-true least found.0 both.0, leb-true found.0 most both.1))
+  | inr none ↦ inr (λ k c from to. both_ways (list_any (λ k. nat_le least k && nat_le k most) xs) none
+      (list_any_of (λ k. nat_le least k && nat_le k most) xs k c (and_from (nat_le least k) (nat_le k most) (le-leb least k from) (le-leb k most to))))
 ]
+
+-- what the test of a bundle looks at
+looked_parts : (d dim n v m l f k : ℕ) → ((d == dim) && (n == v) && (m == l) && nat_le f k) ≡ true → (d ≡ dim) × (((n == v) && (m == l)) ≡ true)
+looked_parts d dim n v m l f k h = grind arith
+
+looked_from : (d dim n v m l f k : ℕ) → d ≡ dim → ((n == v) && (m == l)) ≡ true → f ≤ k → ((d == dim) && (n == v) && (m == l) && nat_le f k) ≡ true
+looked_from d dim n v m l f k on h order = grind arith
 
 module _ (parts : Parts) (group : Group) (box : List (List Bool)) where
   abbrev dim : ℕ
@@ -85,37 +90,26 @@ module _ (parts : Parts) (group : Group) (box : List (List Bool)) where
       → (HasNoneWithin row (count_by (λ e. (near e == v) && (e.label.0 == l)) (must_edges parts box dim)) (count_by (λ e. (near e == v) && (e.label.0 == l)) (may_edges parts box dim)) → ⊥)
       → Counts (nodes parts) k row (length (filter (λ e. looks_at group test e && has box (edge_decision parts e) 0) (places parts)))
   bundle_counts near far test v l k looks below decided = counts test (λ e. (near e == v) && (e.label.0 == l)) k
-      (λ e h.
-      let a = and_parts ((e.dim.0 == dim) && (near e == v) && (e.label.0 == l)) (nat_le (far e) k) (sym (looks e) ∙ h) in
-      let b = and_parts ((e.dim.0 == dim) && (near e == v)) (e.label.0 == l) a.0 in
-      let d = and_parts (e.dim.0 == dim) (near e == v) b.0 in
-      (eqb-true e.dim.0 dim d.0, and_from (near e == v) (e.label.0 == l) d.1 b.1))
-      (λ e place on h last.
-      let both = and_parts (near e == v) (e.label.0 == l) h in
-      let within = below e place in
-      looks e ∙ and_from ((e.dim.0 == dim) && (near e == v) && (e.label.0 == l)) (nat_le (far e) k)
-      (and_from ((e.dim.0 == dim) && (near e == v)) (e.label.0 == l) (and_from (e.dim.0 == dim) (near e == v) (eq-eqb e.dim.0 dim on) both.0) both.1)
-      (le-leb (far e) k (omega (arith, within, last))))
+      (λ e h. looked_parts e.dim.0 dim (near e) v e.label.0 l (far e) k (sym (looks e) ∙ h))
+      (λ e place on h last. (let within = below e place in looks e ∙ looked_from e.dim.0 dim (near e) v e.label.0 l (far e) k on h (omega (arith, within, last))))
       decided
 
   abbrev KeepsEntries : Type 0
   KeepsEntries = (d c : ℕ) → Has box d c → ValencyEntry parts group box d c → ⊥
 
-  value_has : (d : ℕ) → IsDecided box d → Has box d (value_in box d)
-  value_has d decided = subst (Has box d) (sym (value_is box d decided)) decided.1
+  -- the value of a decided entry is one of those that the rule keeps
+  kept : (v l : ℕ) → v < nodes parts → l < label_count parts dim → IsDecided box (entry_decision v) → KeepsEntries
+      → HasNoneWithin (out_row group v (value_in box (entry_decision v)) l) (edges_out_of (must_edges parts box dim) v l) (edges_out_of (may_edges parts box dim) v l)
+      ⊎ HasNoneWithin (in_row group v (value_in box (entry_decision v)) l) (edges_into (must_edges parts box dim) v l) (edges_into (may_edges parts box dim) v l) → ⊥
+  kept v l within known decided keeps none = keeps (entry_decision v) (value_in box (entry_decision v)) (value_has box (entry_decision v) decided)
+      (record { node = v; within = within; label = l; known = known; is = refl; none = none })
 
-  pub out_passes : (v l k : ℕ) → v < nodes parts → l < label_count parts dim → TestDecided parts group box (out_count v l k) → KeepsEntries
-      → TestPasses parts group box (out_count v l k)
+  pub out_passes : (v l k : ℕ) → v < nodes parts → l < label_count parts dim → TestDecided parts group box (out_count v l k) → KeepsEntries → TestPasses parts group box (out_count v l k)
   out_passes v l k within known decided keeps =
-      let c : ℕ = value_in box (entry_decision v) in
-      bundle_counts (λ e. e.mother.0) (λ e. e.daughter.0) (out_count v l k) v l k (λ e. refl) (λ e place. place.daughter) decided.edges (out_row group v c l)
-      (λ none. keeps (entry_decision v) c (value_has (entry_decision v) decided.entry)
-      (record { node = v; within = within; label = l; known = known; is = refl; none = inl none }))
+      bundle_counts (λ e. e.mother.0) (λ e. e.daughter.0) (out_count v l k) v l k (λ e. refl) (λ e place. place.daughter) decided.edges (out_row group v (value_in box (entry_decision v)) l)
+      (λ none. kept v l within known decided.entry keeps (inl none))
 
-  pub in_passes : (v l k : ℕ) → v < nodes parts → l < label_count parts dim → TestDecided parts group box (in_count v l k) → KeepsEntries
-      → TestPasses parts group box (in_count v l k)
+  pub in_passes : (v l k : ℕ) → v < nodes parts → l < label_count parts dim → TestDecided parts group box (in_count v l k) → KeepsEntries → TestPasses parts group box (in_count v l k)
   in_passes v l k within known decided keeps =
-      let c : ℕ = value_in box (entry_decision v) in
-      bundle_counts (λ e. e.daughter.0) (λ e. e.mother.0) (in_count v l k) v l k (λ e. refl) (λ e place. place.mother) decided.edges (in_row group v c l)
-      (λ none. keeps (entry_decision v) c (value_has (entry_decision v) decided.entry)
-      (record { node = v; within = within; label = l; known = known; is = refl; none = inr none }))
+      bundle_counts (λ e. e.daughter.0) (λ e. e.mother.0) (in_count v l k) v l k (λ e. refl) (λ e place. place.mother) decided.edges (in_row group v (value_in box (entry_decision v)) l)
+      (λ none. kept v l within known decided.entry keeps (inr none))

@@ -1,5 +1,5 @@
 -- The other nodes of the edges of a bundle, and how many there are.
-use Rattle.std.proofs.Common.{◌≡◌, ℕ, ◌<◌, ◌≤◌, ◌↔◌, ◌&&◌, inl, inr, Bool, true, IsTrue, List, length, map, refl, sym, ◌∙◌, ap, subst, arith}
+use Rattle.std.proofs.Common.{◌≡◌, ℕ, ◌<◌, ◌≤◌, ◌↔◌, ◌&&◌, Bool, true, IsTrue, List, length, map, refl, sym, ◌∙◌, ap, subst, arith}
 use Rattle.std.specs.Prelude.{Contains, cond, filter, ◌==◌}
 use Rattle.std.specs.List.{AllByRecursion}
 use Rattle.std.proofs.lemmas.Bool.{and_parts, and_from, eq-eqb, eqb-true}
@@ -29,7 +29,7 @@ use Rattle.xdg_pgraph.specs.Bundles.{edge_to, near_node, far_node, count_of}
 use Rattle.xdg_pgraph.specs.Planes.{IsPlane}
 use Rattle.xdg_graph.specs.Edges.{edge_labels, edges_of}
 use Rattle.xdg_pgraph.proofs.PlaneFacts.{which_place}
-use Rattle.xdg_pgraph.proofs.Rising.{AreRising, rising_alike, nodes_rising, map_contained, map_rising}
+use Rattle.xdg_pgraph.proofs.Rising.{AreRising, rising_same, nodes_rising, map_contained, map_rising}
 use Rattle.xdg_facts.specs.Rises.{has}
 use Rattle.xdg_facts.proofs.Rising.{contains_of_has, contains_has}
 
@@ -54,16 +54,13 @@ edge_told ways.In dim node label e d n l = edge_equal e (edge dim e.mother.0 lab
 -- ---- those of a list of edges
 
 abbrev pub in_bundle : Way → ℕ → ℕ → Edge → Bool
-in_bundle ways.Out node label e = (e.mother.0 == node) && (e.label.0 == label)
-in_bundle ways.In node label e = (e.daughter.0 == node) && (e.label.0 == label)
+in_bundle way node label e = (near_node way e == node) && (e.label.0 == label)
 
 pub in_parts : (way : Way) (node label : ℕ) (e : Edge) → in_bundle way node label e ≡ true → (near_node way e ≡ node) × (e.label.0 ≡ label)
-in_parts ways.Out node label e h = (let both = and_parts (e.mother.0 == node) (e.label.0 == label) h in (eqb-true e.mother.0 node both.0, eqb-true e.label.0 label both.1))
-in_parts ways.In node label e h = (let both = and_parts (e.daughter.0 == node) (e.label.0 == label) h in (eqb-true e.daughter.0 node both.0, eqb-true e.label.0 label both.1))
+in_parts way node label e h = (let both = and_parts (near_node way e == node) (e.label.0 == label) h in (eqb-true (near_node way e) node both.0, eqb-true e.label.0 label both.1))
 
-in_from : (way : Way) (node label : ℕ) (e : Edge) → near_node way e ≡ node → e.label.0 ≡ label → in_bundle way node label e ≡ true
-in_from ways.Out node label e n l = and_from (e.mother.0 == node) (e.label.0 == label) (eq-eqb e.mother.0 node n) (eq-eqb e.label.0 label l)
-in_from ways.In node label e n l = and_from (e.daughter.0 == node) (e.label.0 == label) (eq-eqb e.daughter.0 node n) (eq-eqb e.label.0 label l)
+pub in_from : (way : Way) (node label : ℕ) (e : Edge) → near_node way e ≡ node → e.label.0 ≡ label → in_bundle way node label e ≡ true
+in_from way node label e n l = and_from (near_node way e == node) (e.label.0 == label) (eq-eqb (near_node way e) node n) (eq-eqb e.label.0 label l)
 
 pub counted : (way : Way) (edges : List Edge) (node label : ℕ) → length (filter (in_bundle way node label) edges) ≡ count_of way edges node label
 counted ways.Out edges node label = length-filter (in_bundle ways.Out node label) edges
@@ -71,20 +68,11 @@ counted ways.In edges node label = length-filter (in_bundle ways.In node label) 
 
 -- of two edges of one bundle the later one has the greater other node
 later_far : (way : Way) (dim node label : ℕ) (a b : Edge) → a.dim.0 ≡ dim → b.dim.0 ≡ dim → in_bundle way node label a ≡ true → in_bundle way node label b ≡ true → Before a b → far_node way a < far_node way b
-later_far way dim node label a b da db ia ib before =
-    let pa = in_parts way node label a ia in
-    let pb = in_parts way node label b ib in
-    by way pa.0 pb.0 pa.1 pb.1 before
+later_far way dim node label a b da db ia ib before = by way (in_parts way node label a ia) (in_parts way node label b ib) before
   where
-    by : (w : Way) → near_node w a ≡ node → near_node w b ≡ node → a.label.0 ≡ label → b.label.0 ≡ label → Before a b → far_node w a < far_node w b
-    by ways.Out na nb la lb (inl d) = absurd (omega (arith, d, da, db))
-    by ways.Out na nb la lb (inr (d, inl m)) = absurd (omega (arith, m, na, nb))
-    by ways.Out na nb la lb (inr (d, inr (m, inl l))) = absurd (omega (arith, l, la, lb))
-    by ways.Out na nb la lb (inr (d, inr (m, inr (l, w)))) = w
-    by ways.In na nb la lb (inl d) = absurd (omega (arith, d, da, db))
-    by ways.In na nb la lb (inr (d, inl m)) = m
-    by ways.In na nb la lb (inr (d, inr (m, inl l))) = absurd (omega (arith, l, la, lb))
-    by ways.In na nb la lb (inr (d, inr (m, inr (l, w)))) = absurd (omega (arith, w, na, nb))
+    by : (w : Way) → (near_node w a ≡ node) × (a.label.0 ≡ label) → (near_node w b ≡ node) × (b.label.0 ≡ label) → Before a b → far_node w a < far_node w b
+    by ways.Out na nb before = grind arith
+    by ways.In na nb before = grind arith
 
 module _ (way : Way) (edges : List Edge) (dim node label : ℕ) (ends : List ℕ) (ordered : Ordered Before edges) (on : (e : Edge) → Contains edges e → e.dim.0 ≡ dim) (is : IsNodes ends) (exact : (other : ℕ) → IsTrue (has ends other) ↔ Contains edges (edge_to way dim node label other)) where
   abbrev ys : List Edge
@@ -115,7 +103,7 @@ module _ (way : Way) (edges : List Edge) (dim node label : ℕ) (ends : List ℕ
 
   -- where the set has the other nodes of those edges of a list, it has as many nodes as there are edges
   ends_counted : length ends ≡ count_of way edges node label
-  ends_counted = rising_alike ends (map (far_node way) ys) (nodes_rising ends is) rising there back ∙ length-map ys (far_node way) ∙ counted way edges node label
+  ends_counted = ap length (rising_same ends (map (far_node way) ys) (nodes_rising ends is) rising there back) ∙ length-map ys (far_node way) ∙ counted way edges node label
 
 which_ordered : (which : Which) (parts : Parts) (box : List (List Bool)) (dim : ℕ) → Ordered Before (edges_of which parts box dim)
 which_ordered whichs.May parts box dim = ordered_filter Before (may_be parts box dim) (places parts) (places_ordered parts)

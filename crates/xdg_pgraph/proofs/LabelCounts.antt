@@ -54,70 +54,37 @@ module _ (n first : ℕ) (small : n < 2 ^ 32) (within : first < 32) where
 
 -- ---- edges
 
--- an edge of a dimension leads into a node, and something holds of it
-abbrev pub IsInto : Parts → (Edge → Type 0) → ℕ → ℕ → Edge → Type 0
-IsInto parts P dim w e = IsPlace parts e × (e.dim.0 ≡ dim) × (e.daughter.0 ≡ w) × P e
+-- the edges of a list are those places of a dimension of which something holds
+module _ (edges : List Edge) (parts : Parts) (P : Edge → Type 0) (dim w : ℕ) (labels : Labels) (exact : (e : Edge) → Contains edges e ↔ (IsPlaceOn parts dim e × P e)) (are : AreLabels parts P dim w labels) where
+  those : (l m : ℕ) → LeadsInto parts P dim w l m → Into edges w (edge dim m l w)
+  those l m leads = ((exact (edge dim m l w)).1 ((place_is parts (edge dim m l w) leads.0, refl), leads.1), refl)
 
-module _ (parts : Parts) (P : Edge → Type 0) (dim w : ℕ) (labels : Labels) (are : AreLabels parts P dim w labels) where
-  abbrev Those : Edge → Type 0
-  Those = IsInto parts P dim w
+  this : (e : Edge) → Into edges w e → e ≡ edge dim e.mother.0 e.label.0 w
+  this e i = edge_equal e (edge dim e.mother.0 e.label.0 w) ((exact e).0 i.0).0.1 refl refl i.1
 
-  those : (l m : ℕ) → LeadsInto parts P dim w l m → Those (edge dim m l w)
-  those l m leads = (leads.0, refl, refl, leads.1)
+  leads_in : (e : Edge) → Into edges w e → LeadsInto parts P dim w e.label.0 e.mother.0
+  leads_in e i = (let is = (exact e).0 i.0 in (subst (IsPlace parts) (this e i) (is_place parts e is.0.0), subst P (this e i) is.1))
 
-  this : (e : Edge) → Those e → e ≡ edge dim e.mother.0 e.label.0 w
-  this e i = edge_equal e (edge dim e.mother.0 e.label.0 w) i.1 refl refl i.2
-
-  leads_in : (e : Edge) → Those e → LeadsInto parts P dim w e.label.0 e.mother.0
-  leads_in e i = (subst (IsPlace parts) (this e i) i.0, subst P (this e i) i.3)
-
-  marked : (e : Edge) → Those e → bit_at labels.some e.label.0 ≡ 1
+  marked : (e : Edge) → Into edges w e → bit_at labels.some e.label.0 ≡ 1
   marked e i = (are e.label.0).some.1 (e.mother.0, leads_in e i)
 
-  none_counted : labels.some ≡ 0 → IsCount Those counts.Nothing
-  none_counted none e i = (let here = marked e i in let zero : bit_at labels.some e.label.0 ≡ 0 = ap (λ n. bit_at n e.label.0) none ∙ bit_at-zero e.label.0 in omega (arith, here, zero))
+  unmarked : (bits l : ℕ) → bits ≡ 0 → bit_at bits l ≡ 1 → ⊥
+  unmarked bits l none h = (let zero : bit_at bits l ≡ 0 = ap (λ n. bit_at n l) none ∙ bit_at-zero l in omega (arith, h, zero))
 
-  -- two mothers
-  doubled_counted : (l : ℕ) → bit_at labels.more l ≡ 1 → IsCount Those counts.More
-  doubled_counted l h = (let x = (are l).more.0 h in (edge dim x.0 l w, edge dim x.1 l w, those l x.0 x.3, those l x.1 x.4, λ same. x.2 (ap (λ (e : Edge). e.mother.0) same)))
+  only : (l m : ℕ) → LeadsInto parts P dim w l m → ((k : ℕ) → k ≢ l → bit_at labels.some k ≡ 1 → ⊥) → labels.more ≡ 0 → (f : Edge) → Into edges w f → edge dim m l w ≡ f
+  only l m leads alone none f i =
+      let at : f.label.0 ≡ l = elim (cases_eq f.label.0 l) [ inl same ↦ same | inr other ↦ absurd (alone f.label.0 other (marked f i)) ] in
+      elim (cases_eq m f.mother.0) [
+        | inl same ↦ ap₂ (λ u k. edge dim u k w) same (sym at) ∙ sym (this f i)
+        | inr differ ↦ absurd (unmarked labels.more l none ((are l).more.1 (m, f.mother.0, differ, leads, subst (λ k. LeadsInto parts P dim w k f.mother.0) at (leads_in f i))))
+      ]
 
-  -- two labels
-  labels_counted : (l k : ℕ) → k ≢ l → bit_at labels.some l ≡ 1 → bit_at labels.some k ≡ 1 → IsCount Those counts.More
-  labels_counted l k differ h g =
+  -- two mothers, or two labels, are two edges
+  pub into_counted : (count : Count) → HaveLabels labels count → IsCount (Into edges w) count
+  into_counted counts.Nothing none = λ e i. unmarked labels.some e.label.0 none (marked e i)
+  into_counted counts.One (l, h, alone, none) = (let x = (are l).some.0 h in (edge dim x.0 l w, those l x.0 x.1, only l x.0 x.1 alone none))
+  into_counted counts.More (inl (l, h)) = (let x = (are l).more.0 h in (edge dim x.0 l w, edge dim x.1 l w, those l x.0 x.3, those l x.1 x.4, λ same. x.2 (ap (λ (e : Edge). e.mother.0) same)))
+  into_counted counts.More (inr (l, k, differ, h, g)) =
       let x = (are l).some.0 h in
       let y = (are k).some.0 g in
       (edge dim x.0 l w, edge dim y.0 k w, those l x.0 x.1, those k y.0 y.1, λ same. differ (sym (ap (λ (e : Edge). e.label.0) same)))
-
-  one_counted : (l : ℕ) → bit_at labels.some l ≡ 1 → ((k : ℕ) → k ≢ l → bit_at labels.some k ≡ 1 → ⊥) → labels.more ≡ 0 → IsCount Those counts.One
-  one_counted l h alone none = (let x = (are l).some.0 h in (edge dim x.0 l w, those l x.0 x.1, λ f i. only x.0 x.1 f i)) where
-    only : (m : ℕ) → LeadsInto parts P dim w l m → (f : Edge) → Those f → edge dim m l w ≡ f
-    only m leads f i =
-        let at : f.label.0 ≡ l = elim (cases_eq f.label.0 l) [ inl same ↦ same | inr other ↦ absurd (alone f.label.0 other (marked f i)) ] in
-        elim (cases_eq m f.mother.0) [
-          | inl same ↦ ap₂ (λ u k. edge dim u k w) same (sym at) ∙ sym (this f i)
-          | inr differ ↦ absurd (
-              let two : bit_at labels.more l ≡ 1 = (are l).more.1 (m, f.mother.0, differ, leads, subst (λ k. LeadsInto parts P dim w k f.mother.0) at (leads_in f i)) in
-              let zero : bit_at labels.more l ≡ 0 = ap (λ n. bit_at n l) none ∙ bit_at-zero l in
-              omega (arith, two, zero)
-              )
-        ]
-
-  edges_counted : (count : Count) → HaveLabels labels count → IsCount Those count
-  edges_counted counts.Nothing none = none_counted none
-  edges_counted counts.One one = one_counted one.0 one.1 one.2 one.3
-  edges_counted counts.More (inl twice) = doubled_counted twice.0 twice.1
-  edges_counted counts.More (inr two) = labels_counted two.0 two.1 two.2 two.3 two.4
-
--- ---- edges of a list
-
-counted_like : (P Q : Edge → Type 0) (count : Count) → ((e : Edge) → P e → Q e) → ((e : Edge) → Q e → P e) → IsCount P count → IsCount Q count
-counted_like P Q counts.Nothing to from none = λ e q. none e (from e q)
-counted_like P Q counts.One to from one = (one.0, to one.0 one.1, λ f q. one.2 f (from f q))
-counted_like P Q counts.More to from more = (more.0, more.1, to more.0 more.2, to more.1 more.3, more.4)
-
--- the edges of a list are those places of a dimension of which something holds
-pub into_counted : (edges : List Edge) (parts : Parts) (P : Edge → Type 0) (dim w : ℕ) (labels : Labels) (count : Count) → ((e : Edge) → Contains edges e ↔ (IsPlaceOn parts dim e × P e)) → AreLabels parts P dim w labels → HaveLabels labels count → IsCount (Into edges w) count
-into_counted edges parts P dim w labels count exact are have = counted_like (IsInto parts P dim w) (Into edges w) count
-    (λ e i. ((exact e).1 ((place_is parts e i.0, i.1), i.3), i.2))
-    (λ e x. (let both = (exact e).0 x.0 in (is_place parts e both.0.0, both.0.1, x.1, both.1)))
-    (edges_counted parts P dim w labels are count have)

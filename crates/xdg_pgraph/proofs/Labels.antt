@@ -1,7 +1,8 @@
 -- The rule of labels step by step, and rules together.
-use Rattle.std.proofs.Common.{◌≡◌, ℕ, ◌+◌, ◌<◌, ◌⊎◌, inl, inr, Bool, true, List, sym, ◌∙◌, subst, arith}
+use Rattle.std.proofs.Common.{◌≡◌, ℕ, ◌+◌, ◌<◌, ◌⊎◌, inl, inr, Bool, true, false, List, sym, ◌∙◌, subst, arith}
 use Rattle.std.specs.Prelude.{Contains}
-use Rattle.std.proofs.lemmas.Bool.{cases_eq}
+use Rattle.std.proofs.lemmas.Bool.{cases_eq, false≢true}
+use Rattle.xdg_facts.specs.Rises.{has}
 use Rattle.xdg_problem.specs.declared.analysis.Edge.{Edge}
 use Rattle.xdg_problem.specs.declared.parts.Group.{Group}
 use Rattle.xdg_problem.specs.declared.parts.Parts.{Parts}
@@ -14,29 +15,41 @@ use Rattle.xdg_propcore.specs.Passes.{Progress, Clears, IsQuiet}
 use Rattle.xdg_propcore.proofs.Passing.{clears_like, goes_both, goes_none}
 use Rattle.xdg_pgraph.specs.declared.found.Found.{Found}
 use Rattle.xdg_pgraph.specs.declared.plane.Plane.{Plane}
+use Rattle.xdg_pgraph.specs.Musts.{IsSettled, RunsBut}
 use Rattle.xdg_pgraph.specs.Planes.{IsPlane, IsOnPlane}
-use Rattle.xdg_pgraph.specs.Ruling.{Runs, RunsFor, OneLabelOf, ForRoot, ForOthers, RootIf, LabelIf, ByTree, ByDag}
+use Rattle.xdg_pgraph.specs.Ruling.{Runs, RunsFor, OneLabelOf, ForRoot, ForOthers, OthersIf, RootIf, LabelIf, ByTree, ByDag}
 use Rattle.xdg_pgraph.specs.Seeking.{Aims, Doubled, Finds, FromTo, Joins}
+use Rattle.xdg_pgraph.proofs.Branching.{root_parts, root_whole}
 use Rattle.xdg_pgraph.proofs.Ruled.{other_of, is_other, runs_none, runs_turn, runs_like}
 
--- one rule after another
-pub runs_both : (A B C : List (List Bool) → ℕ → ℕ → Type 0) (group : Group) (p q r : Progress) (old mid new : State) → ((d v : ℕ) → C new.now d v → A new.now d v ⊎ B new.now d v) → Runs A group p old q mid → Runs B group q mid r new → Runs C group p old r new
-runs_both A B C group p q r old mid new each a b = record {
-  goes = goes_both group p q r old mid new a.goes b.goes;
-  done = λ z d v c h.
-      let y = b.goes.quiet z in
-      elim (each d v c) [
-        | inl x ↦ a.done y.0 d v (subst (λ box. A box d v) y.1 x) (subst (λ box. Has box d v) y.1 h)
-        | inr x ↦ b.done z d v x h
-      ];
-}
+-- what a rule takes of a sentence, for a principle use on it
+abbrev pub Rule : Type 1
+Rule = Parts → Group → List (List Bool) → ℕ → ℕ → Type 0
 
-module _ (dim : ℕ) (p q r : Progress) (old mid new : State) where
-  -- two rules together
-  pub run_both : (A B C : Parts → Group → List (List Bool) → ℕ → ℕ → Type 0) → mid.parts ≡ old.parts → ((parts : Parts) (group : Group) (box : List (List Bool)) (d v : ℕ) → A parts group box d v → C parts group box d v) → ((parts : Parts) (group : Group) (box : List (List Bool)) (d v : ℕ) → B parts group box d v → C parts group box d v) → ((parts : Parts) (group : Group) (box : List (List Bool)) (d v : ℕ) → C parts group box d v → A parts group box d v ⊎ B parts group box d v) → RunsFor A dim p old q mid → RunsFor B dim q mid r new → RunsFor C dim p old r new
-  run_both A B C same first second each a b group is on takes = runs_both (A old.parts group) (B old.parts group) (C old.parts group) group p q r old mid new (each old.parts group new.now)
-      (a group is on (λ box d v x. takes box d v (first old.parts group box d v x)))
-      (subst (λ z. Runs (B z group) group q mid r new) same (b group (subst (λ z. IsGroup z group) (sym same) is) on (λ box d v x. subst (λ z. Takes z group box d v) (sym same) (takes box d v (second old.parts group box d v (subst (λ z. B z group box d v) same x))))))
+-- one of two rules
+abbrev pub Either : Rule → Rule → Rule
+Either A B parts group box d v = A parts group box d v ⊎ B parts group box d v
+
+-- one rule after another
+pub run_either : (A B : Rule) (dim : ℕ) (p q r : Progress) (old mid new : State) → mid.parts ≡ old.parts → RunsFor A dim p old q mid → RunsFor B dim q mid r new → RunsFor (Either A B) dim p old r new
+run_either A B dim p q r old mid new same a b group is on takes =
+    let first = a group is on (λ box d v x. takes box d v (inl x)) in
+    let second = subst (λ z. Runs (B z group) group q mid r new) same
+    (b group (subst (λ z. IsGroup z group) (sym same) is) on (λ box d v x. subst (λ z. Takes z group box d v) (sym same) (takes box d v (inr (subst (λ z. B z group box d v) same x))))) in
+    record {
+      goes = goes_both group p q r old mid new first.goes second.goes;
+      done = λ z d v x h.
+          let y = second.goes.quiet z in
+          elim x [
+            | inl here ↦ first.done y.0 d v (subst (λ box. A old.parts group box d v) y.1 here) (subst (λ box. Has box d v) y.1 h)
+            | inr there ↦ second.done z d v there h
+          ];
+    }
+
+-- the same rule, told in another way
+pub run_as : (A B : Rule) (dim : ℕ) (p q : Progress) (old new : State) → ((parts : Parts) (group : Group) (box : List (List Bool)) (d v : ℕ) → A parts group box d v → B parts group box d v) →
+    ((parts : Parts) (group : Group) (box : List (List Bool)) (d v : ℕ) → B parts group box d v → A parts group box d v) → RunsFor A dim p old q new → RunsFor B dim p old q new
+run_as A B dim p q old new to from a group is on takes = runs_like (A old.parts group) (B old.parts group) group p q old new (from old.parts group new.now) (a group is on (λ box d v x. takes box d v (to old.parts group box d v x)))
 
 -- ---- labels
 
@@ -74,14 +87,16 @@ module _ (plane : Plane) (p q r : Progress) (old mid new : State) where
 
   -- the edges out of one node more
   pub label_more : (u : ℕ) → mid.parts ≡ old.parts → RunsFor (OneLabelOf (LabelBelow u)) dim p old q mid → RunsFor (OneLabelOf (λ e. e.mother.0 ≡ u)) dim q mid r new → RunsFor (OneLabelOf (LabelBelow (u + 1))) dim p old r new
-  label_more u same a b = run_both dim p q r old mid new (OneLabelOf (LabelBelow u)) (OneLabelOf (λ e. e.mother.0 ≡ u)) (OneLabelOf (LabelBelow (u + 1))) same
-      (λ parts group box d v x. record { rule = x.rule; of = (let l = x.of in omega (arith, l)) })
-      (λ parts group box d v x. record { rule = x.rule; of = (let l = x.of in omega (arith, l)) })
+  label_more u same a b = run_as (Either (OneLabelOf (LabelBelow u)) (OneLabelOf (λ e. e.mother.0 ≡ u))) (OneLabelOf (LabelBelow (u + 1))) dim p r old new
+      (λ parts group box d v x. elim x [
+        | inl before ↦ record { rule = before.rule; of = (let l = before.of in omega (arith, l)) }
+        | inr here ↦ record { rule = here.rule; of = (let l = here.of in omega (arith, l)) }
+      ])
       (λ parts group box d v x. elim (cases_eq x.rule.place.mother.0 u) [
         | inl here ↦ inr (record { rule = x.rule; of = here })
         | inr other ↦ inl (record { rule = x.rule; of = (let l = x.of in omega (arith, l, other)) })
       ])
-      a b
+      (run_either (OneLabelOf (LabelBelow u)) (OneLabelOf (λ e. e.mother.0 ≡ u)) dim p q r old mid new same a b)
 
   module _ (u w : ℕ) (same : mid.parts ≡ old.parts) where
     abbrev Here : ℕ → ℕ → Type 0
@@ -118,77 +133,44 @@ module _ (plane : Plane) (p q r : Progress) (old mid new : State) where
         (λ d v h. subst (λ z. Takes z group mid.now d v) (sym same) (takes mid.now d v (here_rule group on d v h)))
         (rule_here group on)
 
--- ---- all rules of a tree
-
-abbrev pub TwoRules : Parts → Group → List (List Bool) → ℕ → ℕ → Type 0
-TwoRules parts group box d v = OneMother parts group box d v ⊎ ForRoot parts group box d v
-
-abbrev pub ThreeRules : Parts → Group → List (List Bool) → ℕ → ℕ → Type 0
-ThreeRules parts group box d v = TwoRules parts group box d v ⊎ ForOthers parts group box d v
-
-module _ (dim : ℕ) (a b c e f : Progress) (s t u v w : State) where
-  pub tree_runs : t.parts ≡ s.parts → u.parts ≡ t.parts → v.parts ≡ u.parts → RunsFor OneMother dim a s b t → RunsFor ForRoot dim b t c u → RunsFor ForOthers dim c u e v → RunsFor NoCycle dim e v f w → RunsFor ByTree dim a s f w
-  tree_runs first second third one two three four =
-      let both = run_both dim a b c s t u OneMother ForRoot TwoRules first (λ parts group box d x h. inl h) (λ parts group box d x h. inr h) (λ parts group box d x h. h) one two in
-      let more = run_both dim a c e s u v TwoRules ForOthers ThreeRules (second ∙ first) (λ parts group box d x h. inl h) (λ parts group box d x h. inr h) (λ parts group box d x h. h) both three in
-      run_both dim a e f s v w ThreeRules NoCycle ByTree (third ∙ second ∙ first)
-      (λ parts group box d x h. elim h [
-        | inl h ↦ elim h [
-          | inl m ↦ inl m
-          | inr h ↦ inr (inl (elim h [ inl r ↦ inl r | inr n ↦ inr (inl n) ]))
-        ]
-        | inr h ↦ inr (inl (elim h [ inl o ↦ inr (inr (inl o)) | inr t ↦ inr (inr (inr t)) ]))
-      ])
-      (λ parts group box d x h. inr (inr h))
-      (λ parts group box d x h. elim h [
-        | inl m ↦ inl (inl (inl m))
-        | inr h ↦ elim h [
-          | inl h ↦ inl (elim h [
-            | inl r ↦ inl (inr (inl r))
-            | inr h ↦ elim h [
-              | inl n ↦ inl (inr (inr n))
-              | inr h ↦ inr h
-            ]
-          ])
-          | inr k ↦ inr k
-        ]
-      ])
-      more four
-
--- ---- all rules of a dag
+-- ---- all rules of a tree, and of a dag
 
 -- a rule that is asked for
-pub wanted_runs : (A : Parts → Group → List (List Bool) → ℕ → ℕ → Type 0) (dim : ℕ) (p q : Progress) (s t : State) (wanted : Bool) → wanted ≡ true → RunsFor A dim p s q t → RunsFor (λ parts group box d v. (wanted ≡ true) × A parts group box d v) dim p s q t
+pub wanted_runs : (A : Rule) (dim : ℕ) (p q : Progress) (s t : State) (wanted : Bool) → wanted ≡ true → RunsFor A dim p s q t → RunsFor (λ parts group box d v. (wanted ≡ true) × A parts group box d v) dim p s q t
 wanted_runs A on_dim p q s t wanted is_wanted a group is on takes = runs_like (A s.parts group) (λ box d v. (wanted ≡ true) × A s.parts group box d v) group p q s t (λ d v x. x.1) (a group is on (λ box d v x. takes box d v (is_wanted, x)))
 
-module _ (dim : ℕ) (a b c : Progress) (s t u : State) where
-  pub root_runs : t.parts ≡ s.parts → RunsFor ForRoot dim a s b t → RunsFor ForOthers dim b t c u → RunsFor TakesForRoot dim a s c u
-  root_runs same one two = run_both dim a b c s t u ForRoot ForOthers TakesForRoot same
-      (λ parts group box d x h. elim h [ inl r ↦ inl r | inr n ↦ inr (inl n) ])
-      (λ parts group box d x h. elim h [ inl o ↦ inr (inr (inl o)) | inr k ↦ inr (inr (inr k)) ])
-      (λ parts group box d x h. elim h [
-        | inl r ↦ inl (inl r)
-        | inr h ↦ elim h [
-          | inl n ↦ inl (inr n)
-          | inr h ↦ inr h
-        ]
-      ])
-      one two
+pub root_runs : (dim : ℕ) (a b c : Progress) (s t u : State) → t.parts ≡ s.parts → RunsFor ForRoot dim a s b t → RunsFor ForOthers dim b t c u → RunsFor TakesForRoot dim a s c u
+root_runs dim a b c s t u same one two = run_as (Either ForRoot ForOthers) TakesForRoot dim a c s u root_whole root_parts (run_either ForRoot ForOthers dim a b c s t u same one two)
 
-abbrev pub RootOrLabel : Bool → Bool → Parts → Group → List (List Bool) → ℕ → ℕ → Type 0
-RootOrLabel rooted disjoint parts group box d v = RootIf rooted parts group box d v ⊎ LabelIf disjoint parts group box d v
+pub tree_runs : (dim : ℕ) (a b c e f : Progress) (s t u v w : State) → t.parts ≡ s.parts → u.parts ≡ t.parts → v.parts ≡ u.parts → RunsFor OneMother dim a s b t → RunsFor ForRoot dim b t c u →
+    RunsFor ForOthers dim c u e v → RunsFor NoCycle dim e v f w → RunsFor ByTree dim a s f w
+tree_runs dim a b c e f s t u v w first second third one two three four =
+    run_either OneMother (Either TakesForRoot NoCycle) dim a b f s t w first one
+    (run_either TakesForRoot NoCycle dim b e f t v w (third ∙ second) (root_runs dim b c e t u v second two three) four)
 
 pub dag_runs : (dim : ℕ) (a b c e : Progress) (s t u v : State) (rooted disjoint : Bool) → t.parts ≡ s.parts → u.parts ≡ t.parts → RunsFor (RootIf rooted) dim a s b t → RunsFor (LabelIf disjoint) dim b t c u → RunsFor NoCycle dim c u e v → RunsFor (ByDag rooted disjoint) dim a s e v
-dag_runs dim a b c e s t u v rooted disjoint first second one two three =
-    run_both dim a c e s u v (RootOrLabel rooted disjoint) NoCycle (ByDag rooted disjoint) (second ∙ first)
-    (λ parts group box d x h. inr h)
-    (λ parts group box d x h. inl h)
-    (λ parts group box d x h. elim h [ inl k ↦ inr k | inr h ↦ inl h ])
-    (run_both dim a b c s t u (RootIf rooted) (LabelIf disjoint) (RootOrLabel rooted disjoint) first (λ parts group box d x h. inl h) (λ parts group box d x h. inr h) (λ parts group box d x h. h) one two)
-    three
+dag_runs dim a b c e s t u v rooted disjoint first second one two three = run_as (Either (Either (RootIf rooted) (LabelIf disjoint)) NoCycle) (ByDag rooted disjoint) dim a e s v
+    (λ parts group box d x h. elim h [ inl more ↦ inr more | inr cycle ↦ inl cycle ])
+    (λ parts group box d x h. elim h [ inl cycle ↦ inr cycle | inr more ↦ inl more ])
+    (run_either (Either (RootIf rooted) (LabelIf disjoint)) NoCycle dim a c e s u v (second ∙ first) (run_either (RootIf rooted) (LabelIf disjoint) dim a b c s t u first one two) three)
 
 -- ---- a rule that is left out
 
 -- where something was taken nothing is asked
-pub runs_left : (A : Parts → Group → List (List Bool) → ℕ → ℕ → Type 0) (dim : ℕ) (p : Progress) (s : State) → (IsQuiet p → ⊥) → RunsFor A dim p s p s
+pub runs_left : (A : Rule) (dim : ℕ) (p : Progress) (s : State) → (IsQuiet p → ⊥) → RunsFor A dim p s p s
 runs_left A on_dim p s taken group is on takes = record { goes = goes_none group p s; done = λ quiet. absurd (taken quiet) }
+
+-- ---- the rules that go by the edges that may be, where only some nodes need be looked at
+
+module _ (daughters : List ℕ) (wanted : Bool) (plane : Plane) (p q : Progress) (old new : State) where
+  pub others_unwanted : wanted ≡ false → RunsBut daughters wanted plane.dim.0 p old p old
+  others_unwanted no_wish group is on takes rests = runs_none (OthersIf wanted old.parts group) group p old (λ d v a. false≢true (sym no_wish ∙ a.0))
+
+  pub others_settled : IsPlane old.parts plane → ((w : ℕ) → w < plane.nodes → has daughters w ≡ true → IsSettled old.parts old.now plane.dim.0 w) → RunsBut daughters wanted plane.dim.0 p old p old
+  others_settled plane_is settled group is on takes rests = record {
+    goes = goes_none group p old;
+    done = λ z d v a h. rests (λ box e x b. takes box e x (a.0, b)) (λ w l there. subst (λ k. IsSettled old.parts old.now k w) (sym on) (settled w (let n = plane_is.nodes_is in omega (arith, l, n)) there)) d v h a.1;
+  }
+
+  pub others_run : wanted ≡ true → RunsFor ForOthers plane.dim.0 p old q new → RunsBut daughters wanted plane.dim.0 p old q new
+  others_run wish c group is on takes rests = wanted_runs ForOthers plane.dim.0 p q old new wanted wish c group is on takes

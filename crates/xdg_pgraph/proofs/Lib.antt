@@ -2,7 +2,8 @@ pub mod TreeTests
 pub mod CountTests
 pub mod Closing
 pub mod EdgesStay
-pub mod CountsStay
+pub mod BundlesStay
+pub mod Branching
 pub mod Staying
 pub mod Swept
 pub mod OpenEdges
@@ -26,11 +27,9 @@ pub mod MustsStay
 pub mod Below
 pub mod Told
 pub mod Skipped
-pub mod Needing
 pub mod Sources
 pub mod LabelCounts
 pub mod RootSets
-pub mod Resting
 pub mod Classing
 pub mod ClassRows
 pub mod Keeping

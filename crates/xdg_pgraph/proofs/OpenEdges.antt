@@ -1,21 +1,26 @@
 -- What valency takes of the edges of a bundle.
-use Rattle.std.proofs.Common.{◌≡◌, ℕ, ◌↔◌, ◌&&◌, inl, inr, Bool, true, IsTrue, List, length, sym, ◌∙◌, ap, subst}
+use Rattle.std.proofs.Common.{◌≡◌, ℕ, ◌<◌, ◌⊎◌, ◌↔◌, ◌&&◌, inl, inr, Bool, true, IsTrue, List, length, sym, ◌∙◌, ap, subst}
 use Rattle.std.specs.Prelude.{Contains, not}
 use Rattle.std.proofs.lemmas.Bool.{and_parts, and_from, not-true, not_from_false, false_from_ne_true, both_ways}
 use Rattle.xdg_nodeset.specs.Nodes.{IsNodes}
 use Rattle.xdg_problem.specs.declared.analysis.Edge.{Edge}
 use Rattle.xdg_problem.specs.declared.parts.Group.{Group}
 use Rattle.xdg_problem.specs.Analyses.{IsPlace}
-use Rattle.xdg_problem.specs.Arguments.{first_dim}
+use Rattle.xdg_problem.specs.declared.parts.Principle.TheVariants as principles
+use Rattle.xdg_problem.specs.Arguments.{first_dim, label_count}
 use Rattle.xdg_problem.specs.Boxes.{edge_decision}
+use Rattle.xdg_problem.specs.Places.{nodes}
+use Rattle.xdg_problem.specs.Problems.{IsGroup}
 use Rattle.xdg_problem.proofs.PlaceOrder.{is_place}
 use Rattle.xdg_rules.specs.Rules.{IsGreatest, IsLeast, may_edges, must_edges}
-use Rattle.xdg_store.specs.States.{State}
+use Rattle.xdg_store.specs.States.{State, Known}
 use Rattle.xdg_propcore.specs.Passes.{Progress, Clears}
+use Rattle.xdg_propcore.specs.Sweeps.{Sweeps}
 use Rattle.xdg_propcore.proofs.Passing.{clears_both}
 use Rattle.xdg_pgraph.specs.declared.bundle.Bundle.{Bundle}
 use Rattle.xdg_graph.specs.declared.which.Which.TheVariants as whichs
-use Rattle.xdg_pgraph.specs.Bundles.{edge_to, far_node, numbers_of, count_of, OpenTo, EdgeAt, FullAt, NeededAt, IsOpen}
+use Rattle.xdg_pgraph.specs.Bundles.{edge_to, far_node, numbers_of, count_of, Barred, OpenTo, EdgeAt, IsBundleDone, IsOpen}
+use Rattle.xdg_pgraph.proofs.Bundled.{bundle_swept}
 use Rattle.xdg_pgraph.proofs.PlaneFacts.{which_place}
 use Rattle.xdg_pgraph.proofs.Ends.{TellsEnds, which_counted, near_is, label_is, edge_told}
 use Rattle.xdg_facts.specs.Rises.{has}
@@ -51,48 +56,40 @@ module _ (bundle : Bundle) (s : State) (group : Group) (dim : ℕ) (on : dim ≡
   here : (e : Edge) → IsOpen bundle.way s.parts s.now (first_dim group) bundle.node bundle.label e → OpenEdge e
   here e = subst (λ k. IsOpen bundle.way s.parts s.now k bundle.node bundle.label e) (sym on)
 
-  module _ (full needed : Bool) (must_nodes : IsNodes must) (may_nodes : IsNodes may) (greatest : IsTrue full ↔ IsGreatest s.now bundle.node (numbers_of bundle.way group bundle.node bundle.label) (length must)) (least : IsTrue needed ↔ IsLeast s.now bundle.node (numbers_of bundle.way group bundle.node bundle.label) (length may)) where
-    must_count : length must ≡ count_of bundle.way (must_edges s.parts s.now (first_dim group)) bundle.node bundle.label
-    must_count = which_counted whichs.Must bundle.way s.parts s.now dim bundle.node bundle.label must must_nodes must_is ∙ ap (λ k. count_of bundle.way (must_edges s.parts s.now k) bundle.node bundle.label) on
+  module _ (full needed : Bool) (least most : ℕ) (must_nodes : IsNodes must) (may_nodes : IsNodes may) (least_is : least ≡ length must) (most_is : most ≡ length may)
+      (greatest : IsTrue full ↔ IsGreatest s.now bundle.node (numbers_of bundle.way group bundle.node bundle.label) least)
+      (lowest : IsTrue needed ↔ IsLeast s.now bundle.node (numbers_of bundle.way group bundle.node bundle.label) most) where
+    must_count : least ≡ count_of bundle.way (must_edges s.parts s.now (first_dim group)) bundle.node bundle.label
+    must_count = least_is ∙ which_counted whichs.Must bundle.way s.parts s.now dim bundle.node bundle.label must must_nodes must_is ∙ ap (λ k. count_of bundle.way (must_edges s.parts s.now k) bundle.node bundle.label) on
 
-    may_count : length may ≡ count_of bundle.way (may_edges s.parts s.now (first_dim group)) bundle.node bundle.label
-    may_count = which_counted whichs.May bundle.way s.parts s.now dim bundle.node bundle.label may may_nodes may_is ∙ ap (λ k. count_of bundle.way (may_edges s.parts s.now k) bundle.node bundle.label) on
+    may_count : most ≡ count_of bundle.way (may_edges s.parts s.now (first_dim group)) bundle.node bundle.label
+    may_count = most_is ∙ which_counted whichs.May bundle.way s.parts s.now dim bundle.node bundle.label may may_nodes may_is ∙ ap (λ k. count_of bundle.way (may_edges s.parts s.now k) bundle.node bundle.label) on
 
     abbrev ToOpen : ℕ → ℕ → ℕ → Type 0
     ToOpen value d v = OpenTo s.parts dim bundle open_ones value d v
 
-    full_from : (d v : ℕ) → (full ≡ true) × ToOpen 0 d v → FullAt bundle.way s.parts group s.now bundle.node bundle.label d v
-    full_from d v a = record {
-      place = this a.1.other;
-      is = subst (λ k. IsOpen bundle.way s.parts s.now k bundle.node bundle.label (this a.1.other)) on (open_edge a.1.other a.1.is);
-      says = (a.1.decision, a.1.value_is);
-      full = subst (IsGreatest s.now bundle.node (numbers_of bundle.way group bundle.node bundle.label)) must_count (greatest.0 a.0);
-    }
+    -- a value of the edge to an open node, and of an open edge
+    open_from : (value d v : ℕ) (a : ToOpen value d v) → IsOpen bundle.way s.parts s.now (first_dim group) bundle.node bundle.label (this a.other)
+    open_from value d v a = subst (λ k. IsOpen bundle.way s.parts s.now k bundle.node bundle.label (this a.other)) on (open_edge a.other a.is)
 
-    full_to : (d v : ℕ) → FullAt bundle.way s.parts group s.now bundle.node bundle.label d v → (full ≡ true) × ToOpen 0 d v
-    full_to d v f = (
-      greatest.1 (subst (IsGreatest s.now bundle.node (numbers_of bundle.way group bundle.node bundle.label)) (sym must_count) f.full),
-      record { other = far_node bundle.way f.place; is = open_of f.place (here f.place f.is); decision = f.says.0 ∙ ap (edge_decision s.parts) (same_edge f.place (here f.place f.is)); value_is = f.says.1 },
-    )
+    open_to : (value d v : ℕ) (e : Edge) → IsOpen bundle.way s.parts s.now (first_dim group) bundle.node bundle.label e → (d ≡ edge_decision s.parts e) × (v ≡ value) → ToOpen value d v
+    open_to value d v e is says = record { other = far_node bundle.way e; is = open_of e (here e is); decision = says.0 ∙ ap (edge_decision s.parts) (same_edge e (here e is)); value_is = says.1 }
 
-    needed_from : (d v : ℕ) → (needed ≡ true) × ToOpen 1 d v → NeededAt bundle.way s.parts group s.now bundle.node bundle.label d v
-    needed_from d v a = record {
-      place = this a.1.other;
-      is = subst (λ k. IsOpen bundle.way s.parts s.now k bundle.node bundle.label (this a.1.other)) on (open_edge a.1.other a.1.is);
-      says = (a.1.decision, a.1.value_is);
-      needed = subst (IsLeast s.now bundle.node (numbers_of bundle.way group bundle.node bundle.label)) may_count (least.0 a.0);
-    }
+    edge_from : (d v : ℕ) → ((full ≡ true) × ToOpen 0 d v) ⊎ ((needed ≡ true) × ToOpen 1 d v) → EdgeAt bundle.way s.parts group s.now bundle.node bundle.label d v
+    edge_from d v (inl (wanted, a)) = inl (record { place = this a.other; is = open_from 0 d v a; says = (a.decision, a.value_is); full = rw (← must_count) (greatest.0 wanted) })
+    edge_from d v (inr (wanted, a)) = inr (record { place = this a.other; is = open_from 1 d v a; says = (a.decision, a.value_is); needed = rw (← may_count) (lowest.0 wanted) })
 
-    needed_to : (d v : ℕ) → NeededAt bundle.way s.parts group s.now bundle.node bundle.label d v → (needed ≡ true) × ToOpen 1 d v
-    needed_to d v f = (
-      least.1 (subst (IsLeast s.now bundle.node (numbers_of bundle.way group bundle.node bundle.label)) (sym may_count) f.needed),
-      record { other = far_node bundle.way f.place; is = open_of f.place (here f.place f.is); decision = f.says.0 ∙ ap (edge_decision s.parts) (same_edge f.place (here f.place f.is)); value_is = f.says.1 },
-    )
+    edge_to_open : (d v : ℕ) → EdgeAt bundle.way s.parts group s.now bundle.node bundle.label d v → ((full ≡ true) × ToOpen 0 d v) ⊎ ((needed ≡ true) × ToOpen 1 d v)
+    edge_to_open d v (inl f) = inl (greatest.1 (rw must_count f.full), open_to 0 d v f.place f.is f.says)
+    edge_to_open d v (inr f) = inr (lowest.1 (rw may_count f.needed), open_to 1 d v f.place f.is f.says)
 
-    pub edges_clear : (p q r : Progress) (mid new : State) → Clears (λ d v. (full ≡ true) × OpenTo s.parts dim bundle open_ones 0 d v) p s q mid → Clears (λ d v. (needed ≡ true) × OpenTo mid.parts dim bundle open_ones 1 d v) q mid r new → Clears (EdgeAt bundle.way s.parts group s.now bundle.node bundle.label) p s r new
-    edges_clear p q r mid new a b = clears_both (λ d v. (full ≡ true) × ToOpen 0 d v) (λ d v. (needed ≡ true) × ToOpen 1 d v) (EdgeAt bundle.way s.parts group s.now bundle.node bundle.label) p q r s mid new
-        (λ d v x. inl (full_from d v x))
-        (λ d v x. inr (needed_from d v x))
-        (λ d v x. elim x [ inl f ↦ inl (full_to d v f) | inr n ↦ inr (needed_to d v n) ])
-        a
-        (subst (λ parts. Clears (λ d v. (needed ≡ true) × OpenTo parts dim bundle open_ones 1 d v) q mid r new) a.same b)
+    -- what valency takes at the bundle
+    pub bundle_taken : IsGroup s.parts group → group.principle ≡ principles.Valency → Known s → bundle.node < nodes s.parts → bundle.label < label_count s.parts dim → (p q r t : Progress) (mid late new : State)
+        → Clears (λ d v. (full ≡ true) × OpenTo s.parts dim bundle open_ones 0 d v) p s q mid → Clears (λ d v. (needed ≡ true) × OpenTo mid.parts dim bundle open_ones 1 d v) q mid r late
+        → Known new → Clears (Barred late.parts group bundle least most) r late t new → Sweeps group (IsBundleDone bundle.way s.parts group bundle.node bundle.label) p s t new
+    bundle_taken is principle known within label_known p q r t mid late new a b known_new c =
+        bundle_swept bundle group p r t s late new is principle known within (subst (λ k. bundle.label < label_count s.parts k) on label_known) least most must_count may_count known_new
+        (clears_both (λ d v. (full ≡ true) × ToOpen 0 d v) (λ d v. (needed ≡ true) × ToOpen 1 d v) (EdgeAt bundle.way s.parts group s.now bundle.node bundle.label) p q r s mid late
+        (λ d v x. edge_from d v (inl x)) (λ d v x. edge_from d v (inr x)) edge_to_open a
+        (subst (λ parts. Clears (λ d v. (needed ≡ true) × OpenTo parts dim bundle open_ones 1 d v) q mid r late) a.same b))
+        c

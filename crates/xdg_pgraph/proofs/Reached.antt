@@ -20,7 +20,7 @@ use Rattle.xdg_pgraph.specs.Ruling.{RunsFor}
 use Rattle.xdg_pgraph.specs.Seeking.{Aims, Backs, BacksInto, FromTo}
 use Rattle.xdg_propcore.proofs.Passing.{clears_none}
 use Rattle.xdg_pgraph.proofs.RuledRoots.{all_cleared}
-use Rattle.xdg_pgraph.proofs.Taken.{aims_all, aims_may}
+use Rattle.xdg_pgraph.proofs.Taken.{aims_all}
 
 -- what is cleared by a table of paths is what the rule takes
 pub cycles_run : (plane : Plane) (p q : Progress) (old new : State) (far : List (List ℕ)) → IsPlane old.parts plane → ((a b : ℕ) → In far a b ↔ Above (must_edges old.parts old.now plane.dim.0) a b) → Clears (Aims old.parts plane.dim.0 founds.More (Backs far)) p old q new → RunsFor NoCycle plane.dim.0 p old q new
@@ -54,7 +54,7 @@ module _ (plane : Plane) (far : List (List ℕ)) (v : ℕ) (parts : Parts) (box 
 pub back_all : (plane : Plane) (far : List (List ℕ)) (v : ℕ) (p q : Progress) (old new : State) (mothers below back : List ℕ)
     → ((x : ℕ) → IsTrue (has mothers x) ↔ IsDaughter (may_edges old.parts old.now plane.dim.0) x v) → below ≡ get_or far v [] → ((x : ℕ) → has back x ≡ (has mothers x && has below x))
     → Clears (ByOne (λ x. has back x ≡ true) (λ x. Aims old.parts plane.dim.0 founds.More (FromTo x v))) p old q new → Clears (Aims old.parts plane.dim.0 founds.More (BacksInto far v)) p old q new
-back_all plane far v p q old new mothers below back exact below_is met = aims_may old.parts plane.dim.0 founds.More (λ x. has back x ≡ true) (λ x. FromTo x v) (BacksInto far v)
+back_all plane far v p q old new mothers below back exact below_is met = aims_all old.parts plane.dim.0 founds.More (λ x. has back x ≡ true) (λ x. FromTo x v) (BacksInto far v)
     (λ x e on there from. (from.1, subst (λ k. In far e.daughter.0 k) (sym from.0) (subst (λ k. In far k x) (sym from.1) (back_far plane far v old.parts old.now mothers below back exact below_is met x there))))
     p q old new
     (λ e may on b. (e.mother.0, back_has plane far v old.parts old.now mothers below back exact below_is met e may b, (refl, b.0)))
@@ -70,4 +70,4 @@ pub backs_all : (plane : Plane) (far : List (List ℕ)) (k : ℕ) (p q : Progres
 backs_all plane far k p q old new plane_is all = aims_all old.parts plane.dim.0 founds.More (λ x. x < k) (λ x. BacksInto far x) (Backs far)
     (λ x e on less b. b.1)
     p q old new
-    (λ e on b. (e.daughter.0, (let l = ((plane_is.exact e).0 on).daughter in omega (arith, l, all)), (refl, b)))
+    (λ e may on b. (e.daughter.0, (let l = ((plane_is.exact e).0 on).daughter in omega (arith, l, all)), (refl, b)))

@@ -1,8 +1,7 @@
 -- Rising lists of numbers.
-use Rattle.std.proofs.Common.{◌≡◌, ℕ, ◌<◌, ◌≤◌, inl, inr, List, [], ◌∷◌, length, map, ◌+◌, sym, arith}
+use Rattle.std.proofs.Common.{◌≡◌, ℕ, ◌<◌, ◌≤◌, inl, inr, List, [], ◌∷◌, map, ◌+◌, refl, sym, ap₂, arith}
 use Rattle.std.specs.Prelude.{Contains}
 use Rattle.std.specs.List.{AllByRecursion}
-use Rattle.std.proofs.lemmas.Bool.{cases_eq}
 use Rattle.xdg_nodeset.specs.Nodes.{IsNodes}
 use Rattle.xdg_problem.proofs.Ordered.{Ordered, each_contained, each_weaker, each_both, each_map, contains_head, contains_cases, contains_none}
 use Rattle.xdg_facts.proofs.Lists.{contains_more}
@@ -11,37 +10,24 @@ use Rattle.xdg_facts.specs.Rises.{Rises}
 abbrev pub AreRising : List ℕ → Type 0
 AreRising xs = Ordered (λ a b. a < b) xs
 
--- a rising list of numbers that are all in another has no more of them
-pub rising_fewer : (s t : List ℕ) → AreRising s → AreRising t → ((n : ℕ) → Contains s n → Contains t n) → length s ≤ length t
-rising_fewer [] t so to within = omega arith
-rising_fewer (x ∷ s) [] so to within = absurd (contains_none x (within x (contains_head x s)))
-rising_fewer (x ∷ s) (y ∷ t) so to within = elim (cases_eq x y) [
-  | inl same ↦ (
-      let rest = rising_fewer s t so.1 to.1 (λ n c. elim (contains_cases y t n (within n (contains_more x s n c))) [
-        | inl e ↦ absurd (let l = each_contained (λ m. x < m) s n so.0 c in omega (arith, l, e, same))
-        | inr later ↦ later
-      ]) in
-      omega (arith, rest)
-      )
-  | inr other ↦ (
-      let above : y < x = elim (contains_cases y t x (within x (contains_head x s))) [
-        | inl e ↦ absurd (other (sym e))
-        | inr later ↦ each_contained (λ m. y < m) t x to.0 later
-      ] in
-      let rest = rising_fewer (x ∷ s) t so to.1 (λ n c. elim (contains_cases y t n (within n c)) [
-        | inl e ↦ absurd (elim (contains_cases x s n c) [
-          | inl f ↦ omega (arith, e, f, above)
-          | inr more ↦ (let l = each_contained (λ m. x < m) s n so.0 more in omega (arith, l, e, above))
-        ])
-        | inr later ↦ later
-      ]) in
-      omega (arith, rest)
-      )
-]
+-- rising lists of the same numbers are the same
+pub rising_same : (s t : List ℕ) → AreRising s → AreRising t → ((n : ℕ) → Contains s n → Contains t n) → ((n : ℕ) → Contains t n → Contains s n) → s ≡ t
+rising_same [] [] so to there back = refl
+rising_same [] (y ∷ t) so to there back = absurd (contains_none y (back y (contains_head y t)))
+rising_same (x ∷ s) [] so to there back = absurd (contains_none x (there x (contains_head x s)))
+rising_same (x ∷ s) (y ∷ t) so to there back = ap₂ (λ n ns. n ∷ ns) same (rising_same s t so.1 to.1 (rest x y s t same so.0 there) (rest y x t s (sym same) to.0 back))
+  where
+    first : (x y : ℕ) (s t : List ℕ) → AllByRecursion (λ m. y < m) t → Contains (y ∷ t) x → y ≤ x
+    first x y s t above c = elim (contains_cases y t x c) [ inl e ↦ omega (arith, e) | inr later ↦ (let l = each_contained (λ m. y < m) t x above later in omega (arith, l)) ]
 
--- rising lists of the same numbers are equally long
-pub rising_alike : (s t : List ℕ) → AreRising s → AreRising t → ((n : ℕ) → Contains s n → Contains t n) → ((n : ℕ) → Contains t n → Contains s n) → length s ≡ length t
-rising_alike s t so to there back = (let a = rising_fewer s t so to there in let b = rising_fewer t s to so back in omega (arith, a, b))
+    same : x ≡ y
+    same = (let l = first x y s t to.0 (there x (contains_head x s)) in let m = first y x t s so.0 (back y (contains_head y t)) in omega (arith, l, m))
+
+    rest : (x y : ℕ) (s t : List ℕ) → x ≡ y → AllByRecursion (λ m. x < m) s → ((n : ℕ) → Contains (x ∷ s) n → Contains (y ∷ t) n) → (n : ℕ) → Contains s n → Contains t n
+    rest x y s t e above within n c = elim (contains_cases y t n (within n (contains_more x s n c))) [
+      | inl f ↦ absurd (let l = each_contained (λ m. x < m) s n above c in omega (arith, l, e, f))
+      | inr later ↦ later
+    ]
 
 -- ---- sets of nodes
 

@@ -1,5 +1,5 @@
 -- The nodes into which no edge leads, as a set.
-use Rattle.std.proofs.Common.{◌≡◌, ℕ, ◌+◌, ◌<◌, ◌≤◌, ◌↔◌, ◌&&◌, inl, inr, not, IsTrue, List, [], ◌∷◌, length, sym, ◌∙◌, ap, subst, arith}
+use Rattle.std.proofs.Common.{◌≡◌, ℕ, ◌+◌, ◌<◌, ◌≤◌, ◌↔◌, ◌&&◌, not, IsTrue, List, [], ◌∷◌, length, sym, ◌∙◌, ap, arith}
 use Rattle.std.specs.Prelude.{Contains, nat_lt}
 use Rattle.std.proofs.lemmas.Bool.{both_ways, false_from_ne_true, lt-ltb, ltb-true, not-true, not_from_false}
 use Rattle.std.proofs.lemmas.List.{nil_from_length}
@@ -10,20 +10,12 @@ use Rattle.xdg_nodeset.proofs.TableSets.{both}
 use Rattle.xdg_problem.specs.declared.analysis.Edge.{Edge}
 use Rattle.xdg_problem.specs.Paths.{roots}
 use Rattle.xdg_problem.specs.Places.{below}
-use Rattle.xdg_problem.proofs.Ordered.{contains_cases, contains_filter, contains_head, contains_none, contains_numbers, each_contained, numbers_ordered, numbers_within, ordered_filter}
+use Rattle.xdg_problem.proofs.Ordered.{contains_filter, contains_numbers, each_contained, numbers_ordered, numbers_within, ordered_filter}
 use Rattle.xdg_rules.proofs.Among.{free_root, is_root, root_contained, root_free}
 use Rattle.xdg_pgraph.specs.declared.entered.Roots.TheVariants as rootss
 use Rattle.xdg_pgraph.specs.Entering.{Enters}
 use Rattle.xdg_pgraph.specs.Seeking.{RootsAre}
-use Rattle.xdg_pgraph.proofs.Rising.{nodes_rising, rising_alike}
-
-one_item : (xs : List ℕ) (v : ℕ) → length xs ≡ 1 → Contains xs v → xs ≡ v ∷ []
-one_item [] v one c = absurd (contains_none v c)
-one_item (x ∷ []) v one c = elim (contains_cases x [] v c) [
-  | inl same ↦ ap (λ k. k ∷ []) same
-  | inr more ↦ absurd (contains_none v more)
-]
-one_item (x ∷ y ∷ xs) v one c = absurd (omega (arith, one))
+use Rattle.xdg_pgraph.proofs.Rising.{nodes_rising, rising_same}
 
 module _ (edges : List Edge) (n : ℕ) (all some set : List ℕ) (whole : (k : ℕ) → has all k ≡ nat_lt k n) (free : (k : ℕ) → has set k ≡ (has all k && not (has some k))) (is : IsNodes set) (t : (k : ℕ) → IsTrue (has some k) ↔ Enters (Contains edges) k) where
   set_root : (v : ℕ) → Contains set v → Contains (roots n edges) v
@@ -41,17 +33,14 @@ module _ (edges : List Edge) (n : ℕ) (all some set : List ℕ) (whole : (k : �
       let out = false_from_ne_true (has some v) (λ h. (let s = (t v).0 h in root_free edges v r.1 s.0 s.1 s.2)) in
       contains_of_has set v (free v ∙ (both (has all v) (not (has some v))).1 (whole v ∙ lt-ltb v n l, not_from_false (has some v) out))
 
-  counted : length set ≡ length (roots n edges)
-  counted = rising_alike set (roots n edges) (nodes_rising set is) (ordered_filter (λ i j. i < j) (is_root edges) (below n) (numbers_ordered 0 n)) set_root root_set
+  same : set ≡ roots n edges
+  same = rising_same set (roots n edges) (nodes_rising set is) (ordered_filter (λ i j. i < j) (is_root edges) (below n) (numbers_ordered 0 n)) set_root root_set
 
   pub no_roots : set ≡ [] → RootsAre (roots n edges) rootss.Nothing
-  no_roots none = nil_from_length (roots n edges) (sym counted ∙ ap length none)
+  no_roots none = sym same ∙ none
 
   pub one_root : (v : ℕ) (rest : List ℕ) → set ≡ v ∷ rest → length set ≤ 1 → RootsAre (roots n edges) (rootss.One v)
-  one_root v rest first few =
-      let same = counted in
-      let one = ap length first in
-      one_item (roots n edges) v (omega (arith, same, one, few)) (set_root v (subst (λ xs. Contains xs v) (sym first) (contains_head v rest)))
+  one_root v rest first few = sym same ∙ first ∙ ap (λ xs. v ∷ xs) (nil_from_length rest (let e = ap length first in omega (arith, e, few)))
 
   pub more_roots : 1 < length set → RootsAre (roots n edges) rootss.More
-  more_roots two = (let same = counted in omega (arith, same, two))
+  more_roots two = (let e = ap length same in omega (arith, e, two))

@@ -1,9 +1,10 @@
 -- Searches for edges, step by step.
 use Rattle.std.proofs.Common.{◌≡◌, ◌≢◌, ℕ, ◌+◌, ◌<◌, ◌≤◌, ◌⊎◌, ◌↔◌, ◌==◌, inl, inr, Bool, true, IsTrue, List, [], ◌∷◌, length, refl, sym, ◌∙◌, ap, subst, arith}
 use Rattle.std.specs.Prelude.{Contains}
-use Rattle.std.proofs.lemmas.Bool.{eq-eqb, eqb-true, false≢true}
+use Rattle.std.proofs.lemmas.Bool.{eq-eqb}
 use Rattle.std.proofs.lemmas.List.{nil_from_length}
-use Rattle.xdg_facts.proofs.Truths.{either_true, or_false, or_here}
+use Rattle.xdg_facts.proofs.Rising.{head_in, head_or_tail, no_member}
+use Rattle.xdg_facts.proofs.Truths.{either_true, or_here}
 use Rattle.xdg_nodeset.specs.Nodes.{IsNodes}
 use Rattle.xdg_problem.specs.declared.analysis.Edge.{Edge}
 use Rattle.xdg_problem.specs.declared.parts.Parts.{Parts}
@@ -28,30 +29,11 @@ FirstLabels P l = Below (λ e. e.label.0) P l
 found_all : (P : Edge → Type 0) (l : ℕ) (found : Found) → ((e : Edge) → P e → e.label.0 < l) → Finds (FirstLabels P l) found → Finds P found
 found_all P l found all = finds_like (FirstLabels P l) P found (λ e j. j.0) (λ e j. (j, all e j))
 
-module _ (edges : List Edge) (dim u v : ℕ) (on : (e : Edge) → Contains edges e → e.dim.0 ≡ dim) (l : ℕ) (found : Found) (so_far : Finds (FirstLabels (Joins edges u v) l) found) where
-  abbrev First : ℕ → Edge → Type 0
-  First = FirstLabels (Joins edges u v)
-
-  -- one label more
-  label_cases : (e : Edge) → First (l + 1) e → First l e ⊎ (edge dim u l v ≡ e)
-  label_cases e j = elim (below_cases (λ f. f.label.0) (Joins edges u v) l e j) [
-    | inl before ↦ inl before
-    | inr (here, k) ↦ inr (sym (edge_equal e (edge dim u l v) (on e here.0) here.1.0 k here.1.1))
-  ]
-
-  joined_hit : Contains edges (edge dim u l v) → Finds (First (l + 1)) (found_with found (edge dim u l v))
-  joined_hit c = finds_with (First l) (First (l + 1)) found (edge dim u l v) (below_more (λ e. e.label.0) (Joins edges u v) l) ((c, (refl, refl)), omega arith) label_cases (λ j. (let b = j.1 in omega (arith, b))) so_far
-
-  joined_miss : (Contains edges (edge dim u l v) → ⊥) → Finds (First (l + 1)) found
-  joined_miss none = finds_like (First l) (First (l + 1)) found (below_more (λ e. e.label.0) (Joins edges u v) l) (λ e j. elim (label_cases e j) [ inl k ↦ k | inr same ↦ absurd (none (subst (Contains edges) (sym same) j.0.0)) ]) so_far
-
 -- two are enough
 pub into_two : (P : Edge → Type 0) (l : ℕ) (found : Found) → IsMore found → Finds (FirstLabels P l) found → Finds P found
 into_two P l founds.Nothing more f = absurd more
 into_two P l (founds.One e) more f = absurd more
 into_two P l founds.More more f = (f.0, f.1, f.2.0, f.3.0, f.4)
-
--- ---- the edges with one label into a node, by the set of their mothers
 
 rest_rises : (low bound n : ℕ) (s : List ℕ) → Rises low bound (n ∷ s) → Rises (n + 1) bound s
 rest_rises low bound n s r = r.2
@@ -67,29 +49,6 @@ two_in (a ∷ b ∷ s) rises two = (
   λ same. (let up = (rest_rises 0 128 a (b ∷ s) rises).0 in omega (arith, up, same)),
 )
 
-module _ (edges : List Edge) (dim v l : ℕ) (on : (e : Edge) → Contains edges e → e.dim.0 ≡ dim) (mothers : List ℕ) (exact : (m : ℕ) → IsTrue (has mothers m) ↔ Contains edges (edge dim m l v)) where
-  this_mother : (e : Edge) (m : ℕ) → IntoWith edges v l e → e.mother.0 ≡ m → edge dim m l v ≡ e
-  this_mother e m i k = sym (edge_equal e (edge dim m l v) (on e i.0.0) k i.1 i.0.1)
-
-  mother_in : (e : Edge) → IntoWith edges v l e → has mothers e.mother.0 ≡ true
-  mother_in e i = (exact e.mother.0).1 (subst (Contains edges) (sym (this_mother e e.mother.0 i refl)) i.0.0)
-
-  edge_in : (m : ℕ) → has mothers m ≡ true → IntoWith edges v l (edge dim m l v)
-  edge_in m h = (((exact m).0 h, refl), refl)
-
-  pub with_none : mothers ≡ [] → Finds (IntoWith edges v l) founds.Nothing
-  with_none none e i = false≢true (subst (λ s. has s e.mother.0 ≡ true) none (mother_in e i))
-
-  pub with_one : (m : ℕ) (rest : List ℕ) → mothers ≡ m ∷ rest → length mothers ≤ 1 → Finds (IntoWith edges v l) (founds.One (edge dim m l v))
-  with_one m rest is few =
-      let none : rest ≡ [] = nil_from_length rest (let e : length mothers ≡ length (m ∷ rest) = ap length is in omega (arith, e, few)) in (
-        edge_in m (subst (λ s. has s m ≡ true) (sym is) (or_here (m == m) (has rest m) (eq-eqb m m refl))),
-        λ e i. this_mother e m i (sym (eqb-true m e.mother.0 (sym (or_false (m == e.mother.0)) ∙ subst (λ s. has (m ∷ s) e.mother.0 ≡ true) none (subst (λ s. has s e.mother.0 ≡ true) is (mother_in e i))))),
-      )
-
-  pub with_more : IsNodes mothers → 1 < length mothers → Finds (IntoWith edges v l) founds.More
-  with_more nodes two = (let t = two_in mothers nodes.rises two in (edge dim t.0 l v, edge dim t.1 l v, edge_in t.0 t.2, edge_in t.1 t.3, λ same. t.4 (ap (λ (e : Edge). e.mother.0) same)))
-
 -- ---- as the code goes
 
 module _ (which : Which) (parts : Parts) (box : List (List Bool)) (plane : Plane) where
@@ -99,30 +58,57 @@ module _ (which : Which) (parts : Parts) (box : List (List Bool)) (plane : Plane
   those_on : (e : Edge) → Contains those e → e.dim.0 ≡ plane.dim.0
   those_on e c = (which_place which parts box plane.dim.0 e c).1
 
-  pub joined_yes : (u v l : ℕ) (e : Edge) (found new : Found) → e ≡ edge plane.dim.0 u l v → Contains (edges_of which parts box e.dim.0) e → new ≡ found_with found e
-      → Finds (FirstLabels (Joins those u v) l) found → Finds (FirstLabels (Joins those u v) (l + 1)) new
-  joined_yes u v l e found new is c new_is f =
-      subst (Finds (FirstLabels (Joins those u v) (l + 1))) (sym (new_is ∙ ap (found_with found) is)) (joined_hit those plane.dim.0 u v those_on l found f (subst (λ z. Contains (edges_of which parts box z.dim.0) z) is c))
+  -- the edges from a node to another, label by label
+  module _ (u v l : ℕ) (e : Edge) (found : Found) (is : e ≡ edge plane.dim.0 u l v) (so_far : Finds (FirstLabels (Joins those u v) l) found) where
+    abbrev First : ℕ → Edge → Type 0
+    First = FirstLabels (Joins those u v)
 
-  pub joined_not : (u v l : ℕ) (e : Edge) (found : Found) → e ≡ edge plane.dim.0 u l v → (Contains (edges_of which parts box e.dim.0) e → ⊥) → Finds (FirstLabels (Joins those u v) l) found
-      → Finds (FirstLabels (Joins those u v) (l + 1)) found
-  joined_not u v l e found is none f = joined_miss those plane.dim.0 u v those_on l found f (λ c. none (subst (λ z. Contains (edges_of which parts box z.dim.0) z) (sym is) c))
+    label_cases : (f : Edge) → First (l + 1) f → First l f ⊎ (e ≡ f)
+    label_cases f j = elim (below_cases (λ g. g.label.0) (Joins those u v) l f j) [
+      | inl before ↦ inl before
+      | inr (here, k) ↦ inr (is ∙ sym (edge_equal f (edge plane.dim.0 u l v) (those_on f here.0) here.1.0 k here.1.1))
+    ]
 
+    pub joined_yes : (new : Found) → Contains (edges_of which parts box e.dim.0) e → new ≡ found_with found e → Finds (First (l + 1)) new
+    joined_yes new c new_is = rw (new_is, is) (finds_with (First l) (First (l + 1)) found (edge plane.dim.0 u l v) (below_more (λ f. f.label.0) (Joins those u v) l)
+        ((rw is at c, (refl, refl)), omega arith) (rw is at label_cases) (λ j. (let b = j.1 in omega (arith, b))) so_far)
+
+    pub joined_not : (Contains (edges_of which parts box e.dim.0) e → ⊥) → Finds (First (l + 1)) found
+    joined_not none = finds_like (First l) (First (l + 1)) found (below_more (λ f. f.label.0) (Joins those u v) l)
+        (λ f j. elim (label_cases f j) [ inl k ↦ k | inr same ↦ absurd (none (rw same (subst (λ d. Contains (edges_of which parts box d) f) (sym (those_on f j.0.0)) j.0.0))) ]) so_far
+
+  -- those into a node, label by label
   pub into_turn : (v l : ℕ) (found more new : Found) → Finds (IntoWith those v l) more → new ≡ found_merged found more → Finds (FirstLabels (Into those v) l) found → Finds (FirstLabels (Into those v) (l + 1)) new
   into_turn v l found more new j new_is f =
       let label : Edge → ℕ = λ e. e.label.0 in
-      subst (Finds (FirstLabels (Into those v) (l + 1))) (sym new_is)
-      (finds_merged (FirstLabels (Into those v) l) (IntoWith those v l) (FirstLabels (Into those v) (l + 1)) found more (below_more label (Into those v) l) (below_last label (Into those v) l) (below_cases label (Into those v) l) (below_apart label (Into those v) l) f j)
+      rw new_is (finds_merged (FirstLabels (Into those v) l) (IntoWith those v l) (FirstLabels (Into those v) (l + 1)) found more (below_more label (Into those v) l)
+      (below_last label (Into those v) l) (below_cases label (Into those v) l) (below_apart label (Into those v) l) f j)
 
+  -- those with one label into a node, by the set of their mothers
   module _ (v l : ℕ) (mothers : List ℕ) (exact : (m : ℕ) → IsTrue (has mothers m) ↔ Contains those (edge plane.dim.0 m l v)) where
-    pub none_found : mothers ≡ [] → Finds (IntoWith those v l) founds.Nothing
-    none_found = with_none those plane.dim.0 v l those_on mothers exact
+    this_mother : (e : Edge) (m : ℕ) → IntoWith those v l e → e.mother.0 ≡ m → edge plane.dim.0 m l v ≡ e
+    this_mother e m i k = sym (edge_equal e (edge plane.dim.0 m l v) (those_on e i.0.0) k i.1 i.0.1)
 
-    pub more_found : IsNodes mothers → 1 < length mothers → Finds (IntoWith those v l) founds.More
-    more_found = with_more those plane.dim.0 v l those_on mothers exact
+    mother_in : (e : Edge) → IntoWith those v l e → has mothers e.mother.0 ≡ true
+    mother_in e i = (exact e.mother.0).1 (subst (Contains those) (sym (this_mother e e.mother.0 i refl)) i.0.0)
+
+    edge_in : (m : ℕ) → has mothers m ≡ true → IntoWith those v l (edge plane.dim.0 m l v)
+    edge_in m h = (((exact m).0 h, refl), refl)
+
+    pub none_found : mothers ≡ [] → Finds (IntoWith those v l) founds.Nothing
+    none_found none e i = no_member mothers e.mother.0 none (mother_in e i)
 
     pub one_found : (m : ℕ) (rest : List ℕ) (f : Edge) → mothers ≡ m ∷ rest → length mothers ≤ 1 → f ≡ edge plane.dim.0 m l v → Finds (IntoWith those v l) (founds.One f)
-    one_found m rest f is few f_is = subst (λ e. Finds (IntoWith those v l) (founds.One e)) (sym f_is) (with_one those plane.dim.0 v l those_on mothers exact m rest is few)
+    one_found m rest f is few f_is = rw f_is (
+      edge_in m (head_in mothers rest m is),
+      λ e i. this_mother e m i (elim (head_or_tail mothers rest m e.mother.0 is (mother_in e i)) [
+        | inl same ↦ sym same
+        | inr later ↦ absurd (no_member rest e.mother.0 (nil_from_length rest (let n : length mothers ≡ length (m ∷ rest) = ap length is in omega (arith, n, few))) later)
+      ]),
+    )
+
+    pub more_found : IsNodes mothers → 1 < length mothers → Finds (IntoWith those v l) founds.More
+    more_found nodes two = (let t = two_in mothers nodes.rises two in (edge plane.dim.0 t.0 l v, edge plane.dim.0 t.1 l v, edge_in t.0 t.2, edge_in t.1 t.3, λ same. t.4 (ap (λ (e : Edge). e.mother.0) same)))
 
   module _ (plane_is : IsPlane parts plane) where
     those_plane : (e : Edge) → Contains those e → IsOnPlane plane e

@@ -12,9 +12,8 @@ use Rattle.xdg_problem.specs.Boxes.{IsBox, LiesIn, edge_decision}
 use Rattle.xdg_problem.specs.Paths.{mothers, roots}
 use Rattle.xdg_problem.specs.Places.{nodes}
 use Rattle.xdg_problem.specs.Vectors.{shape}
-use Rattle.xdg_problem.proofs.Edges.{before_differ}
 use Rattle.xdg_problem.proofs.FilterFacts.{filter_contained}
-use Rattle.xdg_problem.proofs.Ordered.{Ordered, ordered_filter, contains_head, contains_none}
+use Rattle.xdg_problem.proofs.Ordered.{ordered_filter, contains_head, contains_none}
 use Rattle.xdg_problem.proofs.PlaceOrder.{places_ordered, is_place}
 use Rattle.xdg_rules.specs.Rules.{OnlyMother, may_edges}
 use Rattle.xdg_rules.proofs.Among.{roots_among}
@@ -35,15 +34,10 @@ use Rattle.xdg_pgraph.specs.Ruling.{RunsFor, ForOthers}
 use Rattle.xdg_pgraph.proofs.PlaneFacts.{which_place}
 use Rattle.xdg_pgraph.proofs.Ruled.{AtNode, Outside, RunsPart, outside_turn, runs_none}
 use Rattle.xdg_pgraph.proofs.RuledRoots.{all_cleared, roots_same}
-use Rattle.xdg_facts.proofs.Lists.{contains_more}
+use Rattle.xdg_pgraph.proofs.TreeTests.{two_of}
 use Rattle.xdg_facts.specs.Rises.{has}
 
 -- ---- how many edges lead into a node
-
-at_most_one : (ys : List Edge) (f : Edge) → Ordered Before ys → ((e : Edge) → Contains ys e → f ≡ e) → length ys ≤ 1
-at_most_one [] f ordered each = omega arith
-at_most_one (a ∷ []) f ordered each = omega arith
-at_most_one (a ∷ b ∷ ys) f ordered each = absurd (before_differ a b ordered.0.0 (sym (each a (contains_head a (b ∷ ys))) ∙ each b (contains_more a (b ∷ ys) b (contains_head b ys))))
 
 module _ (parts : Parts) (box : List (List Bool)) (dim w : ℕ) where
   abbrev may : List Edge
@@ -51,10 +45,14 @@ module _ (parts : Parts) (box : List (List Bool)) (dim w : ℕ) where
 
   pub one_mother_there : (f : Edge) → Finds (Into may w) (founds.One f) → mothers may w ≡ 1
   one_mother_there f found =
-      let some = counts_one (λ (e : Edge). e.daughter.0 == w) f may found.0.0 (eq-eqb f.daughter.0 w found.0.1) in
-      let same = length-filter (λ (e : Edge). e.daughter.0 == w) may in
-      let most = at_most_one (filter (λ (e : Edge). e.daughter.0 == w) may) f (ordered_filter Before (λ (e : Edge). e.daughter.0 == w) may (ordered_filter Before (may_be parts box dim) _ (places_ordered parts))) (λ e c. (let both = filter_contained (λ (g : Edge). g.daughter.0 == w) may e c in found.1 e (both.0, eqb-true e.daughter.0 w both.1))) in
-      omega (arith, some, same, most)
+      let into : Edge → Bool = λ e. e.daughter.0 == w in
+      let some = counts_one into f may found.0.0 (eq-eqb f.daughter.0 w found.0.1) in
+      let same = length-filter into may in
+      let only : (e : Edge) → Contains (filter into may) e → f ≡ e = λ e c. (let both = filter_contained into may e c in found.1 e (both.0, eqb-true e.daughter.0 w both.1)) in
+      elim (two_of (filter into may) (ordered_filter Before into may (ordered_filter Before (may_be parts box dim) _ (places_ordered parts)))) [
+        | inl most ↦ omega (arith, some, same, most)
+        | inr (a, b, c, d, differ) ↦ absurd (differ (sym (only a c) ∙ only b d))
+      ]
 
   pub not_more : Finds (Into may w) founds.More → mothers may w ≡ 1 → ⊥
   not_more found one = (let two = counts_two (λ (e : Edge). e.daughter.0 == w) found.0 found.1 may found.2.0 found.3.0 found.4 (eq-eqb found.0.daughter.0 w found.2.1) (eq-eqb found.1.daughter.0 w found.3.1) in omega (arith, two, one))

@@ -1,10 +1,10 @@
 -- The nodes into which edges lead, one after another.
-use Rattle.std.proofs.Common.{◌≡◌, ◌≢◌, ℕ, ◌+◌, ◌<◌, ◌⊎◌, ◌||◌, ◌&&◌, ◌==◌, inl, inr, Bool, true, false, not, List, [], ◌∷◌, refl, sym, ◌∙◌, ap, subst, arith}
+use Rattle.std.proofs.Common.{◌≡◌, ◌≢◌, ℕ, ◌+◌, ◌<◌, ◌||◌, ◌&&◌, ◌==◌, inl, inr, Bool, true, false, not, List, [], ◌∷◌, refl, sym, ◌∙◌, ap, ap₂, subst, arith}
 use Rattle.std.specs.Prelude.{Contains, nat_lt}
-use Rattle.std.proofs.lemmas.Bool.{cases_eq, false_from_ne_true, eqb-true, false≢true, lt-ltb, ltb-true}
-use Rattle.xdg_facts.proofs.Truths.{and_false, or_false}
+use Rattle.std.proofs.lemmas.Bool.{cases_Bool, cases_eq, eq-eqb, ne_eqb, false_from_ne_true, false≢true, lt-ltb, ltb-true}
+use Rattle.xdg_facts.proofs.Truths.{or_false}
 use Rattle.xdg_facts.specs.Rises.{has}
-use Rattle.xdg_nodeset.proofs.TableSets.{both, either}
+use Rattle.xdg_nodeset.proofs.TableSets.{both}
 use Rattle.xdg_problem.specs.declared.analysis.Edge.{Edge}
 use Rattle.xdg_problem.specs.declared.parts.Parts.{Parts}
 use Rattle.xdg_problem.specs.Boxes.{Has, edge_decision}
@@ -14,7 +14,6 @@ use Rattle.xdg_rules.proofs.Shrinking.{must_is}
 use Rattle.xdg_pgraph.specs.declared.entered.Count.{Count}
 use Rattle.xdg_pgraph.specs.declared.entered.Count.TheVariants as counts
 use Rattle.xdg_pgraph.specs.declared.entered.Entered.{Entered}
-use Rattle.xdg_pgraph.specs.declared.found.Found.TheVariants as founds
 use Rattle.xdg_pgraph.specs.declared.incoming.Counts.{Counts}
 use Rattle.xdg_pgraph.specs.declared.incoming.Incoming.{Incoming}
 use Rattle.xdg_pgraph.specs.Entering.{Enters, Tells, more_of, some_of}
@@ -26,61 +25,37 @@ use Rattle.xdg_pgraph.proofs.Skipped.{must_may}
 use Rattle.xdg_pgraph.proofs.Ruled.{still_out}
 use Rattle.xdg_facts.proofs.Rising.{head_in}
 use Rattle.xdg_pgraph.proofs.Below.{Below}
-use Rattle.xdg_pgraph.proofs.Told.{told_next, more_told, one_told}
+use Rattle.xdg_pgraph.proofs.Told.{TellsAt, all_told, at_like}
 
 -- ---- a node more
 
-and_true : (p : Bool) → p ≡ (p && true)
-and_true true = refl
-and_true false = refl
+counted_at : (edges : List Edge) (w : ℕ) (count : Count) → IsCount (Into edges w) count → TellsAt (Contains edges) w (some_of count) (more_of count)
+counted_at edges w counts.Nothing none = ((λ h. absurd (false≢true h), λ s. absurd (none s.0 (s.1, s.2))), (λ h. absurd (false≢true h), λ s. absurd (none s.first s.one)))
+counted_at edges w counts.One one = ((λ h. (one.0, one.1.0, one.1.1), λ s. refl), (λ h. absurd (false≢true h), λ s. absurd (s.differ (sym (one.2 s.first s.one) ∙ one.2 s.second s.two))))
+counted_at edges w counts.More two = ((λ h. (two.0, two.2.0, two.2.1), λ s. refl), (λ h. record { first = two.0; one = two.2; second = two.1; two = two.3; differ = two.4 }, λ s. refl))
 
--- what so many edges into a node lead to
-abbrev entered_of : List ℕ → Count → Entered
-entered_of this counts.Nothing = record { some = []; more = [] }
-entered_of this counts.One = record { some = this; more = [] }
-entered_of this counts.More = record { some = this; more = this }
+-- the nodes below a bound, and one more
+pub count_turn : (edges : List Edge) (w : ℕ) (a c : Entered) (this : List ℕ) (count : Count) → ((n : ℕ) → has this n ≡ (n == w)) → ((n : ℕ) → has c.some n ≡ (has a.some n || (has this n && some_of count)))
+    → ((n : ℕ) → has c.more n ≡ (has a.more n || (has this n && more_of count))) → Tells (Below (λ e. e.daughter.0) (Contains edges) w) a → IsCount (Into edges w) count
+    → Tells (Below (λ e. e.daughter.0) (Contains edges) (w + 1)) c
+count_turn edges w a c this count this_is some_is more_is below here = all_told (First (w + 1)) c (λ v. elim (cases_eq v w) [
+  | inl at ↦
+      let some_now : has c.some v ≡ some_of count = some_is v ∙ ap₂ (λ p q. p || (q && some_of count)) (false_from_ne_true (has a.some v) (λ h. none v at ((below.once v).0 h))) (this_is v ∙ eq-eqb v w at) in
+      let more_now : has c.more v ≡ more_of count = more_is v ∙ ap₂ (λ p q. p || (q && more_of count)) (false_from_ne_true (has a.more v)
+      (λ h. (let s = (below.twice v).0 h in none v at (s.first, s.one.0, s.one.1)))) (this_is v ∙ eq-eqb v w at) in
+      rw (some_now, more_now) (at_like (Contains edges) (First (w + 1)) v (some_of count) (more_of count) (λ e into x. (x, omega (arith, into, at))) (λ e into x. x.0) (rw at (counted_at edges w count here)))
+  | inr other ↦
+      let some_now : has c.some v ≡ has a.some v = some_is v ∙ ap (λ q. has a.some v || (q && some_of count)) (this_is v ∙ ne_eqb v w other) ∙ or_false (has a.some v) in
+      let more_now : has c.more v ≡ has a.more v = more_is v ∙ ap (λ q. has a.more v || (q && more_of count)) (this_is v ∙ ne_eqb v w other) ∙ or_false (has a.more v) in
+      rw (some_now, more_now) (at_like (First w) (First (w + 1)) v (has a.some v) (has a.more v) (λ e into x. (x.0, (let l = x.1 in omega (arith, l))))
+      (λ e into x. (x.0, (let l = x.1 in omega (arith, l, into, other)))) (below.once v, below.twice v))
+])
+  where
+    First : ℕ → Edge → Type 0
+    First k e = Contains edges e × (e.daughter.0 < k)
 
-some_by : (this : List ℕ) (count : Count) (n : ℕ) → has (entered_of this count).some n ≡ (has this n && some_of count)
-some_by this counts.Nothing n = sym (and_false (has this n))
-some_by this counts.One n = and_true (has this n)
-some_by this counts.More n = and_true (has this n)
-
-more_by : (this : List ℕ) (count : Count) (n : ℕ) → has (entered_of this count).more n ≡ (has this n && more_of count)
-more_by this counts.Nothing n = sym (and_false (has this n))
-more_by this counts.One n = sym (and_false (has this n))
-more_by this counts.More n = and_true (has this n)
-
-count_told : (edges : List Edge) (w : ℕ) (this : List ℕ) (count : Count) → ((n : ℕ) → has this n ≡ (n == w)) → IsCount (Into edges w) count → Tells (Into edges w) (entered_of this count)
-count_told edges w this counts.Nothing this_is none = record {
-  once = λ v. (λ h. absurd (false≢true h), λ s. absurd (none s.0 s.1));
-  twice = λ v. (λ h. absurd (false≢true h), λ s. absurd (none s.first s.one.0));
-}
-count_told edges w this counts.One this_is one = one_told edges w (founds.One one.0) (one.1, one.2) one.0 this [] refl this_is refl
-count_told edges w this counts.More this_is two = more_told edges w founds.More two this this refl this_is this_is
-
-cross : (p q r s : Bool) → (q && s) ≡ false → (p || r) ≡ (p || (r || (q && s)))
-cross p q r s none = ap (λ z. p || z) (sym (or_false r)) ∙ ap (λ z. p || (r || z)) (sym none)
-
-module _ (edges : List Edge) (w : ℕ) (a c : Entered) (this : List ℕ) (count : Count) where
-  -- the nodes below a bound, and one more
-  pub count_turn : ((n : ℕ) → has this n ≡ (n == w)) → ((n : ℕ) → has c.some n ≡ (has a.some n || (has this n && some_of count)))
-      → ((n : ℕ) → has c.more n ≡ (has a.more n || (has this n && more_of count))) → Tells (Below (λ e. e.daughter.0) (Contains edges) w) a → IsCount (Into edges w) count
-      → Tells (Below (λ e. e.daughter.0) (Contains edges) (w + 1)) c
-  count_turn this_is some_is more_is below here =
-      let b : Entered = entered_of this count in
-      told_next (λ e. e.daughter.0) (Contains edges) w a b c
-      (λ n. some_is n ∙ ap (λ z. has a.some n || z) (sym (some_by this count n)))
-      (λ n. more_is n ∙ ap (λ z. has a.more n || z) (sym (more_by this count n)) ∙ cross (has a.more n) (has a.some n) (has b.more n) (has b.some n) (apart_at n))
-      below (count_told edges w this count this_is here)
-    where
-      apart_at : (n : ℕ) → (has a.some n && has (entered_of this count).some n) ≡ false
-      apart_at n = false_from_ne_true (has a.some n && has (entered_of this count).some n) (λ t.
-          let q = (both (has a.some n) (has (entered_of this count).some n)).0 t in
-          let s = (below.once n).0 q.0 in
-          let l = s.1.1 in
-          let at : s.0.daughter.0 ≡ n = s.2 in
-          let same : n ≡ w = eqb-true n w (sym (this_is n) ∙ ((both (has this n) (some_of count)).0 (sym (some_by this count n) ∙ q.1)).0) in
-          omega (arith, l, at, same))
+    none : (v : ℕ) → v ≡ w → Enters (First w) v → ⊥
+    none v at s = (let l = s.1.1 in let into = s.2 in omega (arith, l, into, at))
 
 -- ---- the only edge that may lead into a node
 
@@ -93,17 +68,13 @@ module _ (parts : Parts) (box : List (List Bool)) (dim w : ℕ) where
 
   -- into a node that isn't among those with one edge alone
   pub not_single : (incoming : Incoming) (single : List ℕ) → AreOf parts box dim incoming → ((n : ℕ) → has single n ≡ (has incoming.may.some n && not (has incoming.may.more n || has incoming.must.some n))) → has single w ≡ false → NoneOnly parts box dim w
-  not_single incoming single are is none d v x h = elim (or_not (has incoming.may.more w) (has incoming.must.some w)) [
-    | inl some ↦ elim ((either (has incoming.may.more w) (has incoming.must.some w)).0 some) [
-      | inl more ↦ (let two = (are.may.twice w).0 more in not_more parts box dim w (two.first, two.second, two.one, two.two, two.differ) x.one)
-      | inr must ↦ must_there ((are.must.once w).0 must) d v x h
+  not_single incoming single are is none d v x h = elim (cases_Bool (has incoming.may.more w)) [
+    | inl more ↦ (let two = (are.may.twice w).0 more in not_more parts box dim w (two.first, two.second, two.one, two.two, two.differ) x.one)
+    | inr one ↦ elim (cases_Bool (has incoming.must.some w)) [
+      | inl must ↦ must_there ((are.must.once w).0 must) d v x h
+      | inr free ↦ false≢true (sym none ∙ is w ∙ (both (has incoming.may.some w) (not (has incoming.may.more w || has incoming.must.some w))).1 ((are.may.once w).1 (x.place, x.among, x.into), rw (one, free) refl))
     ]
-    | inr free ↦ false≢true (sym none ∙ is w ∙ (both (has incoming.may.some w) (not (has incoming.may.more w || has incoming.must.some w))).1 ((are.may.once w).1 (x.place, x.among, x.into), free))
-  ] where
-    or_not : (p q : Bool) → ((p || q) ≡ true) ⊎ (not (p || q) ≡ true)
-    or_not true q = inl refl
-    or_not false true = inl refl
-    or_not false false = inr refl
+  ]
 
   several_settled : IsCount (Into (may_edges parts box dim) w) counts.More → IsSettled parts box dim w
   several_settled two = record {

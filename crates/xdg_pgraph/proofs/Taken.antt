@@ -49,13 +49,9 @@ module _ (parts : Parts) (dim : ℕ) (others : Found) (Q : ℕ → Type 0) (P : 
   there : (d v : ℕ) → Those d v → Aims parts dim others R d v
   there d v t = aims_like parts dim others (P t.0) R (λ e on x. to t.0 e on t.1 x) d v t.2
 
-  pub aims_all : ((e : Edge) → IsPlaceOn parts dim e → R e → (x : ℕ) × Q x × P x e) → Clears Those p old q new → Clears (Aims parts dim others R) p old q new
-  aims_all from = clears_like Those (Aims parts dim others R) p q old new there
-      (λ d v a. (let t = from a.place a.is a.aimed in (t.0, t.1, record { place = a.place; is = a.is; aimed = t.2; other = a.other; says = a.says })))
-
   -- of those that may be
-  pub aims_may : ((e : Edge) → Contains (may_edges parts old.now dim) e → IsPlaceOn parts dim e → R e → (x : ℕ) × Q x × P x e) → Clears Those p old q new → Clears (Aims parts dim others R) p old q new
-  aims_may from = clears_more Those (Aims parts dim others R) p q old new there
+  pub aims_all : ((e : Edge) → Contains (may_edges parts old.now dim) e → IsPlaceOn parts dim e → R e → (x : ℕ) × Q x × P x e) → Clears Those p old q new → Clears (Aims parts dim others R) p old q new
+  aims_all from = clears_more Those (Aims parts dim others R) p q old new there
       (λ d v a h. (let t = from a.place (place_may parts old.now dim a.place d v a.is a.says h) a.is a.aimed in (t.0, t.1, record { place = a.place; is = a.is; aimed = t.2; other = a.other; says = a.says })))
 
 -- one of some edges
@@ -68,7 +64,7 @@ pub labels_joined : (parts : Parts) (plane : Plane) (others : Found) (u v l : �
 labels_joined parts plane others u v l p q old new is all = aims_all parts plane.dim.0 others (λ x. x < l) (λ x e. e ≡ edge plane.dim.0 u x v) (FromTo u v)
     (λ x e on less same. (ap (λ (f : Edge). f.mother.0) same, ap (λ (f : Edge). f.daughter.0) same))
     p q old new
-    (λ e on j. (e.label.0, (let k = ((is.exact e).0 on).label in omega (arith, k, all)), edge_equal e (edge plane.dim.0 u e.label.0 v) on.1 j.0 refl j.1))
+    (λ e may on j. (e.label.0, (let k = ((is.exact e).0 on).label in omega (arith, k, all)), edge_equal e (edge plane.dim.0 u e.label.0 v) on.1 j.0 refl j.1))
 
 -- those into a node, label by label
 pub labels_entering : (parts : Parts) (plane : Plane) (others : Found) (v l : ℕ) (p q : Progress) (old new : State) → IsPlane parts plane → plane.labels ≤ l
@@ -76,13 +72,13 @@ pub labels_entering : (parts : Parts) (plane : Plane) (others : Found) (v l : �
 labels_entering parts plane others v l p q old new is all = aims_all parts plane.dim.0 others (λ x. x < l) (λ x. ToWith v x) (ToNode v)
     (λ x e on less with. with.0)
     p q old new
-    (λ e on into. (e.label.0, (let k = ((is.exact e).0 on).label in omega (arith, k, all)), (into, refl)))
+    (λ e may on into. (e.label.0, (let k = ((is.exact e).0 on).label in omega (arith, k, all)), (into, refl)))
 
 -- those with a label into a node, mother by mother
 pub mothers_with : (dim : ℕ) (others : Found) (v l : ℕ) (mothers : List ℕ) (p q : Progress) (old new : State)
     → ((x : ℕ) → IsTrue (has mothers x) ↔ Contains (may_edges old.parts old.now dim) (edge dim x l v))
     → Clears (ByOne (λ x. has mothers x ≡ true) (OneOf dim others (λ x. edge dim x l v) old.parts)) p old q new → Clears (Aims old.parts dim others (ToWith v l)) p old q new
-mothers_with dim others v l mothers p q old new exact = aims_may old.parts dim others (λ x. has mothers x ≡ true) (λ x e. e ≡ edge dim x l v) (ToWith v l)
+mothers_with dim others v l mothers p q old new exact = aims_all old.parts dim others (λ x. has mothers x ≡ true) (λ x e. e ≡ edge dim x l v) (ToWith v l)
     (λ x e on there same. (ap (λ (f : Edge). f.daughter.0) same, ap (λ (f : Edge). f.label.0) same))
     p q old new
     (λ e may on with.

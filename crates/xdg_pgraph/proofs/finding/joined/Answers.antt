@@ -11,12 +11,12 @@ is_among-requires-clause-place c = subst (IsPlace c.args.store.now.parts) (sym c
 pub loop-label-preserved-then-not-is_among : goal.loop-label-preserved-then-not-is_among
 loop-label-preserved-then-not-is_among c =
     joined_not c.args.which c.args.store.now.parts c.args.store.now.now c.args.plane.now c.args.mother c.args.daughter c.loop-label.label c.edge-edge.result c.loop-label.found c.edge-edge.ensures
-    (λ k. false≢true (c.if-not-is_among.ensures.1 k)) c.loop-label.invariant
+    c.loop-label.invariant (λ k. false≢true (c.if-not-is_among.ensures.1 k))
 
 pub loop-label-preserved : goal.loop-label-preserved
 loop-label-preserved c =
-    joined_yes c.args.which c.args.store.now.parts c.args.store.now.now c.args.plane.now c.args.mother c.args.daughter c.loop-label.label c.edge-edge.result c.loop-label.found c.with-found.result c.edge-edge.ensures
-    (c.if-not-is_among.ensures.0 refl) c.with-found.ensures c.loop-label.invariant
+    joined_yes c.args.which c.args.store.now.parts c.args.store.now.now c.args.plane.now c.args.mother c.args.daughter c.loop-label.label c.edge-edge.result c.loop-label.found c.edge-edge.ensures
+    c.loop-label.invariant c.with-found.result (c.if-not-is_among.ensures.0 refl) c.with-found.ensures
 
 pub returns : goal.returns
 returns c = joined_end c.args.which c.args.store.now.parts c.args.store.now.now c.args.plane.now c.requires.plane c.args.mother c.args.daughter c.loop-label.label c.loop-label.found (let t = c.loop-label-test.false in omega (arith, t)) c.loop-label.invariant

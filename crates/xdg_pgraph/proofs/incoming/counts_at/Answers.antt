@@ -6,6 +6,9 @@ use Rattle.xdg_pgraph.proofs.incoming.counts_at.Goals as goal
 
 pub returns : goal.returns
 returns c = record {
-  may = into_counted (may_edges c.args.store.now.parts c.args.store.now.now c.args.plane.now.dim.0) c.args.store.now.parts (May c.args.store.now.parts c.args.store.now.now) c.args.plane.now.dim.0 c.args.daughter c.labels_into-into.result.may c.count.result (may_exact c.args.store.now.parts c.args.store.now.now c.args.plane.now.dim.0) c.labels_into-into.ensures.may c.count.ensures;
-  must = into_counted (must_edges c.args.store.now.parts c.args.store.now.now c.args.plane.now.dim.0) c.args.store.now.parts (Must c.args.store.now.parts c.args.store.now.now) c.args.plane.now.dim.0 c.args.daughter c.labels_into-into.result.must c.count-2.result (λ e. must_exact c.args.store.now.parts c.args.store.now.now c.args.plane.now.dim.0 e c.requires.known.is_box) c.labels_into-into.ensures.must c.count-2.ensures;
+  may = into_counted (may_edges c.args.store.now.parts c.args.store.now.now c.args.plane.now.dim.0) c.args.store.now.parts (May c.args.store.now.parts c.args.store.now.now) c.args.plane.now.dim.0
+      c.args.daughter c.labels_into-into.result.may (may_exact c.args.store.now.parts c.args.store.now.now c.args.plane.now.dim.0) c.labels_into-into.ensures.may c.count.result c.count.ensures;
+  must = into_counted (must_edges c.args.store.now.parts c.args.store.now.now c.args.plane.now.dim.0) c.args.store.now.parts (Must c.args.store.now.parts c.args.store.now.now) c.args.plane.now.dim.0
+      c.args.daughter c.labels_into-into.result.must (λ e. must_exact c.args.store.now.parts c.args.store.now.now c.args.plane.now.dim.0 e c.requires.known.is_box) c.labels_into-into.ensures.must
+      c.count-2.result c.count-2.ensures;
 }

@@ -1,16 +1,12 @@
-use Rattle.std.proofs.Common.{◌<◌, ◌↔◌, ◌∙◌, IsTrue, sym, subst, arith}
+use Rattle.std.proofs.Common.{◌<◌, ◌∙◌, sym, subst, arith}
 use Rattle.xdg_problem.specs.Analyses.{IsPlace}
 use Rattle.xdg_problem.specs.Boxes.{entry_decision}
 use Rattle.xdg_problem.specs.Places.{nodes}
 use Rattle.xdg_problem.specs.declared.parts.Parts.{Parts}
-use Rattle.xdg_rules.specs.Rules.{IsGreatest, IsLeast}
 use Rattle.xdg_pgraph.specs.Allowances.{HasClasses}
-use Rattle.xdg_pgraph.specs.Bundles.{edge_to, numbers_of}
-use Rattle.xdg_graph.specs.declared.which.Which.TheVariants as whichs
-use Rattle.xdg_pgraph.proofs.Bundled.{bundle_swept}
+use Rattle.xdg_pgraph.specs.Bundles.{edge_to}
 use Rattle.xdg_pgraph.proofs.Clearing.{none_barred, wanted_nowhere}
-use Rattle.xdg_pgraph.proofs.Ends.{which_counted}
-use Rattle.xdg_pgraph.proofs.OpenEdges.{open_place, edges_clear}
+use Rattle.xdg_pgraph.proofs.OpenEdges.{bundle_taken, open_place}
 use Rattle.xdg_pgraph.proofs.valency.take_bundle.Goals as goal
 
 pub said_of-said-requires-clause-classes : goal.said_of-said-requires-clause-classes
@@ -37,29 +33,23 @@ take_entries_if-requires-clause-others c not k has = c.said_of-said.ensures.barr
 pub returns-then-not-takes : goal.returns-then-not-takes
 returns-then-not-takes c =
     let none = c.takes.ensures c.if-not-takes.true in
-    let edges = edges_clear c.args.bundle c.args.store.now c.args.group.now c.args.plane.now.dim.0 c.requires.dim c.of-far.result.must c.of-far.result.may c.minus-open.result c.of-far.ensures.must c.of-far.ensures.may c.minus-open.ensures.members
-    c.said_of-said.result.full c.said_of-said.result.needed c.len-least.ensures.nodes c.len-most.ensures.nodes
-    (subst (λ n. IsTrue c.said_of-said.result.full ↔ IsGreatest c.args.store.now.now c.args.bundle.node (numbers_of c.args.bundle.way c.args.group.now c.args.bundle.node c.args.bundle.label) n) c.len-least.ensures.value c.said_of-said.ensures.full)
-    (subst (λ n. IsTrue c.said_of-said.result.needed ↔ IsLeast c.args.store.now.now c.args.bundle.node (numbers_of c.args.bundle.way c.args.group.now c.args.bundle.node c.args.bundle.label) n) c.len-most.ensures.value c.said_of-said.ensures.needed)
-    c.args.pass.now c.args.pass.now c.args.pass.now c.args.store.now c.args.store.now
-    (wanted_nowhere c.args.store.now.parts c.args.plane.now.dim.0 c.args.bundle c.minus-open.result 0 c.args.pass.now c.args.pass.now c.args.pass.now c.args.store.now c.args.store.now c.args.store.now c.said_of-said.result.full none.1)
-    (wanted_nowhere c.args.store.now.parts c.args.plane.now.dim.0 c.args.bundle c.minus-open.result 1 c.args.pass.now c.args.pass.now c.args.pass.now c.args.store.now c.args.store.now c.args.store.now c.said_of-said.result.needed none.2) in
-    bundle_swept c.args.bundle c.args.group.now c.args.pass.now c.args.pass.now c.args.pass.now c.args.store.now c.args.store.now c.args.store.now c.requires.group c.requires.principle c.args.plane.now.dim.0 c.requires.dim c.requires.known (let l = c.requires.node in let n = c.requires.plane.nodes_is in omega (arith, l, n)) c.requires.label c.len-least.result c.len-most.result
-    (c.len-least.ensures.value ∙ which_counted whichs.Must c.args.bundle.way c.args.store.now.parts c.args.store.now.now c.args.plane.now.dim.0 c.args.bundle.node c.args.bundle.label c.of-far.result.must c.len-least.ensures.nodes c.of-far.ensures.must)
-    (c.len-most.ensures.value ∙ which_counted whichs.May c.args.bundle.way c.args.store.now.parts c.args.store.now.now c.args.plane.now.dim.0 c.args.bundle.node c.args.bundle.label c.of-far.result.may c.len-most.ensures.nodes c.of-far.ensures.may)
-    c.requires.known edges (none_barred c.args.store.now.parts c.args.group.now c.args.bundle c.len-least.result c.len-most.result c.args.pass.now c.args.store.now (c.said_of-said.ensures.barred none.0))
+    bundle_taken c.args.bundle c.args.store.now c.args.group.now c.args.plane.now.dim.0 c.requires.dim c.of-far.result.must c.of-far.result.may c.minus-open.result c.of-far.ensures.must c.of-far.ensures.may c.minus-open.ensures.members
+    c.said_of-said.result.full c.said_of-said.result.needed c.len-least.result c.len-most.result c.len-least.ensures.nodes c.len-most.ensures.nodes c.len-least.ensures.value c.len-most.ensures.value
+    c.said_of-said.ensures.full c.said_of-said.ensures.needed
+    c.requires.group c.requires.principle c.requires.known (let l = c.requires.node in let n = c.requires.plane.nodes_is in omega (arith, l, n)) c.requires.label
+    c.args.pass.now c.args.pass.now c.args.pass.now c.args.pass.now c.args.store.now c.args.store.now c.args.store.now
+    (wanted_nowhere c.args.store.now.parts c.args.plane.now.dim.0 c.args.bundle c.minus-open.result 0 c.said_of-said.result.full c.args.pass.now c.args.store.now none.1)
+    (wanted_nowhere c.args.store.now.parts c.args.plane.now.dim.0 c.args.bundle c.minus-open.result 1 c.said_of-said.result.needed c.args.pass.now c.args.store.now none.2)
+    c.requires.known (none_barred c.args.store.now.parts c.args.group.now c.args.bundle c.len-least.result c.len-most.result c.args.pass.now c.args.store.now (c.said_of-said.ensures.barred none.0))
 
 pub returns : goal.returns
 returns c =
-    let edges = edges_clear c.args.bundle c.args.store.now c.args.group.now c.args.plane.now.dim.0 c.requires.dim c.of-far.result.must c.of-far.result.may c.minus-open.result c.of-far.ensures.must c.of-far.ensures.may c.minus-open.ensures.members
-    c.said_of-said.result.full c.said_of-said.result.needed c.len-least.ensures.nodes c.len-most.ensures.nodes
-    (subst (λ n. IsTrue c.said_of-said.result.full ↔ IsGreatest c.args.store.now.now c.args.bundle.node (numbers_of c.args.bundle.way c.args.group.now c.args.bundle.node c.args.bundle.label) n) c.len-least.ensures.value c.said_of-said.ensures.full)
-    (subst (λ n. IsTrue c.said_of-said.result.needed ↔ IsLeast c.args.store.now.now c.args.bundle.node (numbers_of c.args.bundle.way c.args.group.now c.args.bundle.node c.args.bundle.label) n) c.len-most.ensures.value c.said_of-said.ensures.needed)
-    c.args.pass.now c.take_open_if.new.pass c.take_open_if-2.new.pass c.take_open_if.new.store c.take_open_if-2.new.store c.take_open_if.ensures.clears c.take_open_if-2.ensures.clears in
-    bundle_swept c.args.bundle c.args.group.now c.args.pass.now c.take_open_if-2.new.pass c.take_entries_if.new.pass c.args.store.now c.take_open_if-2.new.store c.take_entries_if.new.store c.requires.group c.requires.principle c.args.plane.now.dim.0 c.requires.dim c.requires.known (let l = c.requires.node in let n = c.requires.plane.nodes_is in omega (arith, l, n)) c.requires.label c.len-least.result c.len-most.result
-    (c.len-least.ensures.value ∙ which_counted whichs.Must c.args.bundle.way c.args.store.now.parts c.args.store.now.now c.args.plane.now.dim.0 c.args.bundle.node c.args.bundle.label c.of-far.result.must c.len-least.ensures.nodes c.of-far.ensures.must)
-    (c.len-most.ensures.value ∙ which_counted whichs.May c.args.bundle.way c.args.store.now.parts c.args.store.now.now c.args.plane.now.dim.0 c.args.bundle.node c.args.bundle.label c.of-far.result.may c.len-most.ensures.nodes c.of-far.ensures.may)
-    c.take_entries_if.ensures.known edges c.take_entries_if.ensures.clears
+    bundle_taken c.args.bundle c.args.store.now c.args.group.now c.args.plane.now.dim.0 c.requires.dim c.of-far.result.must c.of-far.result.may c.minus-open.result c.of-far.ensures.must c.of-far.ensures.may c.minus-open.ensures.members
+    c.said_of-said.result.full c.said_of-said.result.needed c.len-least.result c.len-most.result c.len-least.ensures.nodes c.len-most.ensures.nodes c.len-least.ensures.value c.len-most.ensures.value
+    c.said_of-said.ensures.full c.said_of-said.ensures.needed
+    c.requires.group c.requires.principle c.requires.known (let l = c.requires.node in let n = c.requires.plane.nodes_is in omega (arith, l, n)) c.requires.label
+    c.args.pass.now c.take_open_if.new.pass c.take_open_if-2.new.pass c.take_entries_if.new.pass c.take_open_if.new.store c.take_open_if-2.new.store c.take_entries_if.new.store
+    c.take_open_if.ensures.clears c.take_open_if-2.ensures.clears c.take_entries_if.ensures.known c.take_entries_if.ensures.clears
 
 pub take_entries_if-requires-clause-classes : goal.take_entries_if-requires-clause-classes
 take_entries_if-requires-clause-classes c = subst (λ (parts : Parts). HasClasses parts c.args.group.now c.args.bundle c.classes-classes.result.now) (sym (c.take_open_if-2.ensures.clears.same ∙ c.take_open_if.ensures.clears.same)) (c.classes-classes.ensures c.args.store.now.parts c.args.group.now c.requires.fits)
