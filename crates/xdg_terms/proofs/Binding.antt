@@ -187,24 +187,19 @@ bound_right free bs P each = right free (with_bound bs) (λ t. t) (bound bs) (λ
 
 -- ---- no parameter is open
 
-none_free : (t : Term) → free_of [] t ≡ None
-unfolding free_of
-none_free t = by (out-TermKind t.kind)
+none_open : (t : Term) → (free_of [] t ≡ None) × (with_open [] t ≡ Some t)
+unfolding free_of with_open
+none_open t = by (out-TermKind t.kind)
   where
-    by : (l : TermKind-F ElemKind TermKind) → free_in [] l ≡ None
-    by (TermKind-F.Param name) = refl
-    by l = refl
+    by : (l : TermKind-F ElemKind TermKind) → (free_in [] l ≡ None) × (unless_open [] t l ≡ Some t)
+    by (TermKind-F.Param name) = (refl, refl)
+    by l = (refl, refl)
 
 pub all_looked_at : (t : Term) → with_open [] t ≡ Some t
-unfolding with_open
-all_looked_at t = by (out-TermKind t.kind)
-  where
-    by : (l : TermKind-F ElemKind TermKind) → unless_open [] t l ≡ Some t
-    by (TermKind-F.Param name) = refl
-    by l = refl
+all_looked_at t = (none_open t).1
 
 not_here : (s : Shape) (t : Term) (inside : List Want) (w : Want) → (In inside w → ⊥) → In (or_inside (free_of [] t) s inside) w → ⊥
-not_here s t inside w none h = none (subst (λ (o : Option Name). In (or_inside o s inside) w) (none_free t) h)
+not_here s t inside w none h = none (subst (λ (o : Option Name). In (or_inside o s inside) w) (none_open t).0 h)
 
 mutual
   no_params : (s : Shape) (t : Term) (w : Want) → In (params_in [] s t) w → ⊥

@@ -1,5 +1,5 @@
 -- A loop that keeps the first of what is wrong in each item.
-use Rattle.std.proofs.Common.{◌≡◌, ℕ, suc, ◌+◌, ◌<◌, Bool, true, false, List, [], ◌∷◌, ◌++◌, Option, length, drop, take, get_or, map, refl, sym, ap, ◌∙◌, add-one, drop-cons}
+use Rattle.std.proofs.Common.{◌≡◌, ℕ, ◌+◌, ◌<◌, Bool, true, false, List, [], ◌∷◌, ◌++◌, Option, length, drop, take, get_or, map, refl, sym, ap, ◌∙◌, add-one}
 use Rattle.std.specs.Prelude.{◌||◌}
 use Rattle.std.specs.List.{flat_map}
 use Rattle.std.proofs.Math.Seq.{take-suc}
@@ -25,6 +25,7 @@ use Rattle.xdg_terms.specs.Faults.{missing, missing_in_turn, texts_of, keys, key
 use Rattle.xdg_terms.specs.Offences.{gen_names, gen_step}
 use Rattle.xdg_names.specs.Texts.{has_text}
 use Rattle.xdg_names.proofs.Texts.{has_text-append}
+use Rattle.xdg_facts.proofs.Lists.{from_place}
 
 pub each_turn : {A : Type 0} (g : A → List Fault) (xs : List A) (i : ℕ) (x : A) (found next now total : Option Fault)
     → i < length xs → x ≡ get_or xs i x → next ≡ first (g x) → now ≡ earlier found next → earlier found (first (flat_map g (drop i xs))) ≡ total → earlier now (first (flat_map g (drop (i + 1) xs))) ≡ total
@@ -43,8 +44,7 @@ name_turn left rest type texts names i name found next now total front domain wi
 module _ {A : Type 0} (here : A → List (List ℕ)) (all : List A → List (List ℕ)) (each : (x : A) (xs : List A) → all (x ∷ xs) ≡ here x ++ all xs) where
   any_turn : (xs : List A) (i : ℕ) (x : A) (text : List ℕ) → i < length xs → x ≡ get_or xs i x → has_text (all (drop i xs)) text ≡ (has_text (here x) text || has_text (all (drop (i + 1) xs)) text)
   any_turn xs i x text within is =
-      let front : drop i xs ≡ x ∷ drop (i + 1) xs = rw (add-one, drop-cons xs i x) (ap (λ y. y ∷ drop (suc i) xs) (sym is)) in
-      ap (λ ys. has_text (all ys) text) front ∙ ap (λ ts. has_text ts text) (each x (drop (i + 1) xs)) ∙ has_text-append (here x) (all (drop (i + 1) xs)) text
+      ap (λ ys. has_text (all ys) text) (from_place xs i x within is) ∙ ap (λ ts. has_text ts text) (each x (drop (i + 1) xs)) ∙ has_text-append (here x) (all (drop (i + 1) xs)) text
 
   pub found_here : (xs : List A) (i : ℕ) (x : A) (text : List ℕ) (total : Bool) → i < length xs → x ≡ get_or xs i x → has_text (here x) text ≡ true → has_text (all (drop i xs)) text ≡ total → true ≡ total
   found_here xs i x text total within is at_x so_far = sym (ap (λ b. b || has_text (all (drop (i + 1) xs)) text) at_x) ∙ sym (any_turn xs i x text within is) ∙ so_far

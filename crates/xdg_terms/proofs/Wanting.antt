@@ -1,5 +1,5 @@
 -- The parameters inside a term, told of its elements one by one.
-use Rattle.std.proofs.Common.{◌≡◌, ℕ, ◌+◌, suc, ◌<◌, Bool, true, false, List, [], ◌∷◌, length, drop, get_or, Some, sym, ap, ◌∙◌, add-one, drop-cons}
+use Rattle.std.proofs.Common.{◌≡◌, ℕ, ◌+◌, ◌<◌, Bool, true, false, List, [], length, drop, get_or, Some, sym, ap, ◌∙◌}
 use Rattle.std.specs.Prelude.{if◌then◌else◌, bytes_eq}
 use Rattle.std.specs.List.{flat_map}
 use Rattle.xdg_ast.specs.declared.names.Name.{Name}
@@ -15,6 +15,7 @@ use Rattle.xdg_terms.specs.Wanted.{Want, params_in, params_under, params_inside,
 use Rattle.xdg_terms.proofs.Read.{keyed_is}
 use Rattle.xdg_terms.proofs.Formed.{told_as, there_is_none, out_braces}
 use Rattle.xdg_terms.proofs.Right.{told}
+use Rattle.xdg_facts.proofs.Lists.{from_place}
 
 pairs_are : (t : Term) (es : List (Spanned ElemKind)) → t.kind ≡ k.Braces es → pairs_of t ≡ all_of keyed_elem es
 unfolding pairs_of
@@ -42,5 +43,4 @@ inside_record free s fs t es is all =
 pub under_here : (free : List (List ℕ)) (all : List (List ℕ × Ty)) (i : ℕ) (field : List ℕ × Ty) (key : Name) (t : Term) (total : List Want) → i < length all → field ≡ get_or all i field → true ≡ bytes_eq field.0 key.text
     → params_under free (fields_in (drop i all)) (key, t) ≡ total → params_in free (shape field.1) t ≡ total
 under_here free all i field key t total within is same so_far =
-    let front : drop i all ≡ field ∷ drop (i + 1) all = rw (add-one, drop-cons all i field) (ap (λ y. y ∷ drop (suc i) all) (sym is)) in
-    ap (λ (b : Bool). if b then params_in free (shape field.1) t else params_under free (fields_in (drop (i + 1) all)) (key, t)) same ∙ sym (ap (λ fs. params_under free (fields_in fs) (key, t)) front) ∙ so_far
+    ap (λ (b : Bool). if b then params_in free (shape field.1) t else params_under free (fields_in (drop (i + 1) all)) (key, t)) same ∙ sym (ap (λ fs. params_under free (fields_in fs) (key, t)) (from_place all i field within is)) ∙ so_far

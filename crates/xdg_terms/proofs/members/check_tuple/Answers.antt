@@ -7,10 +7,8 @@ use Rattle.xdg_terms.proofs.members.check_tuple.Goals as goal
 
 pub returns-then-names-types : goal.returns-then-names-types
 returns-then-names-types c =
-    let many = length_sizes c.args.types.now in
-    c.wrong_kind.ensures ∙ ap first (tuple_wrong (shapes_of (map shape c.args.types.now)) c.args.term.now c.as_slice-names.result.now (cc) (λ e. omega arith))
+    c.wrong_kind.ensures ∙ ap first (tuple_wrong (shapes_of (map shape c.args.types.now)) c.args.term.now c.as_slice-names.result.now (cc) (λ e. omega (arith, length_sizes c.args.types.now)))
 
 pub returns-else-names-types : goal.returns-else-names-types
 returns-else-names-types c =
-    let many = length_sizes c.args.types.now in
-    c.check_in_turn.ensures ∙ ap first (tuple_right (shapes_of (map shape c.args.types.now)) c.args.term.now c.as_slice-names.result.now (cc) (omega arith))
+    c.check_in_turn.ensures ∙ ap first (tuple_right (shapes_of (map shape c.args.types.now)) c.args.term.now c.as_slice-names.result.now (cc) (omega (arith, length_sizes c.args.types.now)))
