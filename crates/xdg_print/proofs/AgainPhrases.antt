@@ -160,7 +160,8 @@ module _ {A B : Type 0} (j : Joining A B) (p np : Language A) (next : (ws : List
   any_good s (x ∷ []) e = subst (Natural j p np) (sym (j.by_any.one s x)) e.0.bare_words
   any_good s (x ∷ (y ∷ xs)) e =
       subst (λ (q : Phrase). natural p (conj_of j p np) (disj_of j p np) q.form q.words (λ z. Alike j z (j.any s (x ∷ (y ∷ xs))))) (sym (j.by_any.phrase_is s x y xs))
-      (several k.Bar in_disjunction j.any disjoined j.by_any (λ _. refl) (λ ws P a. behind_written k.Bar (refl, refl) refl a) s x y xs (each_so (GoodConj j p np) (λ x. Written (conj_of j p np) (in_disjunction (j.phrase x)) (λ y. Alike j y x)) (λ _ g. g.as_member) (x ∷ (y ∷ xs)) e))
+      (several k.Bar in_disjunction j.any disjoined j.by_any (λ _. refl) (λ ws P a. behind_written k.Bar (refl, refl) refl a) s x y xs
+      (each_so (GoodConj j p np) (λ x. Written (conj_of j p np) (in_disjunction (j.phrase x)) (λ y. Alike j y x)) (λ _ g. g.as_member) (x ∷ (y ∷ xs)) e))
 
   -- what the rules read, where a member was read
   conj_gives : (q nq : Language A) → Gives q (GoodPrim j p np) → Gives nq (GoodPrim j p np) → Gives (conj_of j q nq) (GoodConj j p np)

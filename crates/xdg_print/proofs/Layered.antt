@@ -59,7 +59,8 @@ pub record_types : (ty : Ty) (types given : List (List ℕ × Ty)) → ty ≡ t.
 record_types ty types given is same h = subst (λ ts. AreTypes (fields_of (typed ts))) (sym same) (subst IsType (of_record ty types is) h).1
 
 -- what a record says is of its fields
-pub record_said : (ty : Ty) (types given : List (List ℕ × Ty)) (value : Value) (said items : List (ℕ × Value)) → ty ≡ t.Rec types → given ≡ types → value ≡ v.Rec said → IsValue (shape ty) value → items ≡ said → EachSaid (IsFieldOf (fields_of (typed given))) items
+pub record_said : (ty : Ty) (types given : List (List ℕ × Ty)) (value : Value) (said items : List (ℕ × Value)) → ty ≡ t.Rec types → given ≡ types → value ≡ v.Rec said
+    → IsValue (shape ty) value → items ≡ said → EachSaid (IsFieldOf (fields_of (typed given))) items
 record_said ty types given value said items is given_is value_is h same =
     subst (λ ts. EachSaid (IsFieldOf (fields_of (typed ts))) items) (sym given_is)
     (subst (EachSaid (IsFieldOf (fields_of (typed types)))) (sym same) (in_layer (shape ty) (fields (fields_of (typed types))) value (Value-F.Rec said) (of_record ty types is) (ap out-Value value_is ∙ v.outs-Rec said) h).1)

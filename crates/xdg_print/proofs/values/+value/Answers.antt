@@ -54,7 +54,8 @@ put_value-put_features-requires t c = (
   search (rules, the_lemmas),
   (
     record_types c.args.ty.now c.in-Rec-Rec.types c.as_slice-types.result.now c.in-Rec-Rec.is-0 c.as_slice-types.ensures c.requires.right,
-    record_said c.args.ty.now c.in-Rec-Rec.types c.as_slice-types.result.now c.args.value.now c.in-Rec-Rec.said c.as_slice-said.result.now c.in-Rec-Rec.is-0 c.as_slice-types.ensures c.in-Rec-Rec.is-1 c.requires.value c.as_slice-said.ensures,
+    record_said c.args.ty.now c.in-Rec-Rec.types c.as_slice-types.result.now c.args.value.now c.in-Rec-Rec.said c.as_slice-said.result.now
+        c.in-Rec-Rec.is-0 c.as_slice-types.ensures c.in-Rec-Rec.is-1 c.requires.value c.as_slice-said.ensures,
   ),
 )
 
