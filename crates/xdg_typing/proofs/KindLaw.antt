@@ -1,19 +1,18 @@
 -- The faults of the pass over kinds and sizes are those of the rules.
-use Rattle.std.proofs.Common.{◌≡◌, ◌↔◌, inl, inr, ℕ, List, ◌∷◌, ◌++◌, Option, None, Some, refl, sym, ap, subst, ◌∙◌}
+use Rattle.std.proofs.Common.{◌≡◌, inl, inr, ℕ, List, ◌∷◌, ◌++◌, Option, None, Some, refl, sym, ap, subst, ◌∙◌}
 use Rattle.std.specs.Prelude.{slice_get}
 use Rattle.xdg_base.specs.declared.faults.Cause.TheVariants as causes
 use Rattle.xdg_base.specs.declared.faults.Fault.{Fault}
 use Rattle.xdg_domain.specs.Shapes.{Shape}
 use Rattle.xdg_names.specs.First.{Tells, first, earlier}
-use Rattle.xdg_names.proofs.First.{tells_as, first-tells}
+use Rattle.xdg_names.proofs.Listing.{Lists, lists_tell, lists_both, lists_each}
 use Rattle.xdg_types.specs.Parts.{Statement, used_places}
-use Rattle.xdg_types.specs.Kinds.{sites, reaching, IsNinthDimension, KindOffends}
+use Rattle.xdg_types.specs.Kinds.{sites, reaching, IsNinthDimension, SiteOffends, KindOffends}
 use Rattle.xdg_typing.specs.KindFaults.{site_faults, faults_in, ninth_use_faults, all_faults}
-use Rattle.xdg_typing.proofs.KindRows.{site_exact}
-use Rattle.xdg_typing.proofs.RecordRows.{at_place, between, in_either}
+use Rattle.xdg_typing.proofs.KindRows.{all_site}
+use Rattle.xdg_typing.proofs.RecordRows.{at_place, between}
 use Rattle.xdg_typing.proofs.Walked.{joined}
 use Rattle.xdg_facts.specs.Membership.{In}
-use Rattle.xdg_facts.proofs.In.{in_flat_map, flat_map_in}
 
 ninth_use : (found : Option ℕ) (f : Fault) → In (ninth_use_faults found) f → (place : ℕ) × ((found ≡ Some place) × (f ≡ reaching causes.TooWide place 9))
 ninth_use None f h = absurd h
@@ -32,17 +31,11 @@ module _ (names : List ℕ → Shape) (statements : List Statement) where
       ap (λ ns. slice_get ns 8) h.parts ∙ ap (λ k. slice_get (h.before ++ h.ninth ∷ h.after) k) (sym h.eight) ∙ at_place h.before h.ninth h.after in
       subst (λ o. In (ninth_use_faults o) f) (sym is) (inl (sym h.fault))
 
-  exact : (f : Fault) → In (all_faults names statements) f ↔ KindOffends names statements f
-  exact f = in_either (ninth_use_faults (slice_get (used_places statements) 8)) (faults_in names (sites statements)) f (ninth_sound f, ninth_complete f) (
-    λ s. (let r = in_flat_map (site_faults names) (sites statements) f s in (r.0, (r.1.0, (site_exact names r.0 f).0 r.1.1))),
-    λ s. flat_map_in (site_faults names) (sites statements) s.0 f s.1.0 ((site_exact names s.0 f).1 s.1.1),
-  )
-
-  kinds_tell : Tells (KindOffends names statements) (first (all_faults names statements))
-  kinds_tell = tells_as (In (all_faults names statements)) (KindOffends names statements) (λ f. (exact f).0) (λ f. (exact f).1) (first (all_faults names statements)) (first-tells (all_faults names statements))
+  all_kinds : Lists (all_faults names statements) (KindOffends names statements)
+  all_kinds = lists_both (record { sound = ninth_sound; complete = ninth_complete }) (lists_each (site_faults names) (SiteOffends names) (sites statements) (λ site stands. all_site names site))
 
   -- what the pass answers
   pub both_tell : (uses in_types found : Option Fault) → uses ≡ first (ninth_use_faults (slice_get (used_places statements) 8)) → in_types ≡ first (faults_in names (sites statements))
       → found ≡ earlier uses in_types → Tells (KindOffends names statements) found
   both_tell uses in_types found is_uses is_types sum =
-      subst (Tells (KindOffends names statements)) (sym (joined (ninth_use_faults (slice_get (used_places statements) 8)) (faults_in names (sites statements)) uses in_types found is_uses is_types sum)) kinds_tell
+      subst (Tells (KindOffends names statements)) (sym (joined (ninth_use_faults (slice_get (used_places statements) 8)) (faults_in names (sites statements)) uses in_types found is_uses is_types sum)) (lists_tell (all_faults names statements) all_kinds)
