@@ -93,7 +93,8 @@ module _ (fs : All) (a b : Record) (k : ℕ) (f : List ℕ × Ty) (o p : Option 
       → MatchOption told (OnBoth (Clashes (shape f.1)) o p) (λ (d : Option Value). Both (Joins (shape f.1)) o p d × IfSome d (IsValue (shape f.1))) → Joining fs a b k c
   joined_told c within is i j some h =
       let both = subst (λ t. MatchOption t (OnBoth (Clashes (shape f.1)) o p) (λ (d : Option Value). Both (Joins (shape f.1)) o p d × IfSome d (IsValue (shape f.1)))) some h in (
-        subst (λ t. Both (JoinsField (fields_in fs) k) t (said_at b k) c) i (subst (λ t. Both (JoinsField (fields_in fs) k) o t c) j (both_changes (Joins (shape f.1)) (JoinsField (fields_in fs) k) (λ x y z. joins_at fs k f x y z within is) o p c both.0)),
+        subst (λ t. Both (JoinsField (fields_in fs) k) t (said_at b k) c) i (subst (λ t. Both (JoinsField (fields_in fs) k) o t c) j
+            (both_changes (Joins (shape f.1)) (JoinsField (fields_in fs) k) (λ x y z. joins_at fs k f x y z within is) o p c both.0)),
         if_value fs k f c within is both.1,
       )
 

@@ -25,4 +25,5 @@ denote-requires-clause-right c =
 pub returns-clause-once : goal.returns-clause-once
 returns-clause-once c others d =
     let keeps = c.order-order.ensures.keeps in
-    once c.args.checked.now.types.dims (named_bodies c.args.checked.now.classes) keeps.types.dims (bodies_differ c.args.checked.now.classes keeps.names) [] (body c.args.expr.now.kind) c.in_ok-made.made.items others c.in_ok-made.ensures.denotes d ∙ sym c.from_vec.ensures
+    once c.args.checked.now.types.dims (named_bodies c.args.checked.now.classes) keeps.types.dims (bodies_differ c.args.checked.now.classes keeps.names)
+    [] (body c.args.expr.now.kind) c.in_ok-made.made.items others c.in_ok-made.ensures.denotes d ∙ sym c.from_vec.ensures
