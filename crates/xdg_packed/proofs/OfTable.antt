@@ -33,7 +33,8 @@ used_once table is d e one other x y same =
     )
 
 -- a feature's name stands at one place of a dimension
-pub feature_once : (table : Table) → IsTable table → (d : ℕ) (dim : DimType) → IsUsed table d dim → (f g : ℕ) (name : List ℕ) (s t : Shape) → slice_get (typed dim.fields) f ≡ Some (name, s) → slice_get (typed dim.fields) g ≡ Some (name, t) → f ≡ g
+pub feature_once : (table : Table) → IsTable table → (d : ℕ) (dim : DimType) → IsUsed table d dim → (f g : ℕ) (name : List ℕ) (s t : Shape)
+    → slice_get (typed dim.fields) f ≡ Some (name, s) → slice_get (typed dim.fields) g ≡ Some (name, t) → f ≡ g
 feature_once table is d dim used f g name s t one other =
     let first : List ℕ × Shape → List ℕ = λ field. field.0 in
     differ_once (map first (typed dim.fields)) f g name
