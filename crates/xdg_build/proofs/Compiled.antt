@@ -1,161 +1,158 @@
--- What the formulas that are made say, form by form.
-use Rattle.std.proofs.Common.{◌≡◌, ℕ, ◌<◌, ◌≤◌, ◌+◌, true, false, List, [], ◌∷◌, ◌++◌, length, get_or, map, take, length-append, refl, sym, ap, ap₂, ◌∙◌, subst, arith}
-use Rattle.std.specs.Prelude.{Result, IfOk}
-use Rattle.std.specs.List.{AllZip}
-use Rattle.std.proofs.lemmas.List.{length-map, take_all}
-use Rattle.std.proofs.lemmas.Result.{IfOk-weaker}
-use Rattle.xdg_base.specs.declared.places.Span.{Span}
+-- What the formulas that are made say: what the rules say of which they are made.
+use Rattle.std.proofs.Common.{◌≡◌, ℕ, Bool, List, [], ◌∷◌, ◌++◌, get_or, map, Some, refl, sym, ap, ◌∙◌, subst, arith}
+use Rattle.std.specs.Prelude.{All, slice_get}
+use Rattle.std.proofs.lemmas.List.Elements.{All-head, All-tail}
+use Rattle.std.proofs.lemmas.Option.{get_or_from_slice_get}
 use Rattle.xdg_ast.specs.declared.names.Name.{Name}
+use Rattle.xdg_ast.specs.Grammar.{Term}
+use Rattle.xdg_domain.specs.Shapes.{Shape, domain, tuple, set, iset, text, shape, IsSmall, IsType}
+use Rattle.xdg_domain.specs.declared.types.Ty.{Ty}
 use Rattle.xdg_packed.specs.Lexicon.{Lexicon}
 use Rattle.xdg_problem.specs.declared.formula.Formula.{Formula}
 use Rattle.xdg_problem.specs.declared.formula.Formula.TheVariants as y
 use Rattle.xdg_problem.specs.declared.parts.Parts.{Parts}
-use Rattle.xdg_problem.specs.Claims.{claim, claims_of, Claim}
+use Rattle.xdg_problem.specs.Claims.{claim, claims_of}
+use Rattle.xdg_problem.specs.Problems.{IsProblem}
 use Rattle.xdg_problem.specs.Truths.{unbound}
-use Rattle.xdg_problem.proofs.Claimed.{claim_not, claim_and, claim_or, claim_every, claim_any, claim_left, claim_same}
-use Rattle.xdg_terms.specs.Built.{or_zero}
-use Rattle.xdg_terms.proofs.Meant.{at_place}
+use Rattle.xdg_problem.proofs.Claimed.{claim_and, claim_or, claim_every, claim_any, claim_edge, claim_above, claim_left, claim_same, claim_attr, claim_feat}
 use Rattle.xdg_types.specs.declared.table.DimType.{DimType}
-use Rattle.xdg_types.specs.Table.{Table}
-use Rattle.xdg_formula.specs.Formulas.{faults_each}
+use Rattle.xdg_types.specs.Table.{Table, IsTable, KeepsDim, firsts, typed}
+use Rattle.xdg_formula.specs.Formulas.{edge_faults, dim_faults, attr_faults, feat_faults, faults_in, faults_each, formula_faults, unbound_nodes}
+use Rattle.xdg_formula.specs.Formulas as faults
+use Rattle.xdg_formula.specs.Tables.{member_shape, no_dim, used_dims}
 use Rattle.xdg_formula.specs.declared.tree.Rule.{Rule}
-use Rattle.xdg_formula.specs.declared.tree.RuleKind.{RuleKind}
-use Rattle.xdg_formula.specs.declared.tree.RuleKind.TheVariants as r
 use Rattle.xdg_formula.specs.Rules.{RuleTerm}
-use Rattle.xdg_formula.specs.Written.{Tree, tree, trees_of}
-use Rattle.xdg_formula.proofs.Treed.{treed, tree_or, tree_and, tree_not, tree_every, tree_any, tree_left, tree_same}
-use Rattle.xdg_build.specs.Formulas.{formula_in, formulas_in, formulas_of, signed}
-use Rattle.xdg_build.specs.Places.{IsPlaceOf}
+use Rattle.xdg_formula.specs.Written as w
+use Rattle.xdg_formula.specs.Written.{Trees, no_tree, tree_then, tree, trees_of}
+use Rattle.xdg_formula.specs.declared.tree.RuleKind.{RuleKind}
+use Rattle.xdg_formula.proofs.Treed.{treed}
+use Rattle.xdg_build.specs.Formulas.{formula_in, formulas_in, formulas_of, member_number, number_of, place_of}
+use Rattle.xdg_build.specs.Places.{names_at}
+use Rattle.xdg_build.specs.Problems.{IsFor}
+use Rattle.xdg_build.specs.Readings.{type_at}
 use Rattle.xdg_build.specs.Right.{IsRight}
-use Rattle.xdg_build.specs.Says.{Compiles, IsMade, KeepsEach, Says}
-use Rattle.xdg_build.specs.Signs.{denies}
-use Rattle.xdg_build.proofs.AtomLaws.{says_left, says_same}
-use Rattle.xdg_build.proofs.FormulaLaws.{SaysEach, says_none, says_then, says_conjunction, says_disjunction, says_even, says_odd, says_every, says_any}
-use Rattle.xdg_build.proofs.Rightly.{IsBindingRight, part_right}
-use Rattle.xdg_names.specs.Texts.{has_text}
+use Rattle.xdg_build.specs.Says.{Keeps, KeepsEach, Says}
+use Rattle.xdg_build.specs.Tables.{table_of}
+use Rattle.xdg_build.proofs.AtomLaws.{typed_at, says_left, says_same, says_above, says_edge, says_attr}
+use Rattle.xdg_build.proofs.FeatLaws.{says_feat}
+use Rattle.xdg_build.proofs.FormulaLaws.{SaysEach, says_none, says_then, says_conjunction, says_disjunction, says_signed, says_every, says_any}
+use Rattle.xdg_build.proofs.Numbers.{number_right}
+use Rattle.xdg_build.proofs.Planned.{attribute_right, feature_right}
+use Rattle.xdg_build.proofs.Rightly.{attr_right, binding_right, each_right, edge_dim, dim_right, feat_right, first_none, members_by, node_at, second_none}
+use Rattle.xdg_build.proofs.Standing.{IsDimAt, dim_of, text_at}
+use Rattle.xdg_build.proofs.Used.{used_is, dim_kept}
 
--- ---- nothing is wrong with what stands inside
+-- ---- what code makes
 
-module _ (dims : List DimType) (scope : List (List ℕ)) where
-  -- of the form that it has
-  pub right_by : (kind form : RuleKind) (t : Tree) → IsRight dims scope (tree kind) → kind ≡ form → tree form ≡ t → IsRight dims scope t
-  right_by kind form t right is trees = subst (IsRight dims scope) trees (subst (λ k. IsRight dims scope (tree k)) is right)
+pub each_made : (table : Table) (lexicon : Lexicon) (parts : Parts) (scope : List (List ℕ)) (members : List RuleTerm) → formulas_in table lexicon parts scope (trees_of (map treed members)) ≡ map (λ term. formula_in table lexicon parts scope (tree term.kind)) members
+each_made table lexicon parts scope [] = refl
+each_made table lexicon parts scope (first ∷ more) = ap (λ (fs : List Formula). formula_in table lexicon parts scope (tree first.kind) ∷ fs) (each_made table lexicon parts scope more)
 
-  pub inside_each : (members items : List RuleTerm) (i : ℕ) (term : RuleTerm) → faults_each dims scope (trees_of (map treed members)) ≡ [] → items ≡ members → i < length items → term ≡ get_or items i term
-      → IsRight dims scope (tree term.kind)
-  inside_each members items i term none same = part_right dims scope items i term (subst (λ ms. faults_each dims scope (trees_of (map treed ms)) ≡ []) (sym same) none)
+-- of the form that it has
+pub made_by : (table : Table) (lexicon : Lexicon) (parts : Parts) (scope : List (List ℕ)) (kind form : RuleKind) (t : w.Tree) (f : Formula) → kind ≡ form → tree form ≡ t → f ≡ formula_in table lexicon parts scope t → f ≡ formula_in table lexicon parts scope (tree kind)
+made_by table lexicon parts scope kind form t f is trees made = made ∙ ap (formula_in table lexicon parts scope) (sym (ap tree is ∙ trees))
 
--- what stands inside, as far as it is looked at
-pub inside_at : (dims : List DimType) (scope inner : List (List ℕ)) (body item : RuleTerm) → IsRight dims scope (tree body.kind) → item ≡ body → inner ≡ scope → IsRight dims inner (tree item.kind)
-inside_at dims scope inner body item right same scoped =
-    subst (λ (names : List (List ℕ)). IsRight dims names (tree item.kind)) (sym scoped) (subst (λ (term : RuleTerm). IsRight dims scope (tree term.kind)) (sym same) right)
+pub right_by : (dims : List DimType) (scope : List (List ℕ)) (kind form : RuleKind) (t : w.Tree) → IsRight dims scope (tree kind) → kind ≡ form → tree form ≡ t → IsRight dims scope t
+right_by dims scope kind form t right is trees = subst (IsRight dims scope) (ap tree is ∙ trees) right
 
-pub deeper : {A : Type 0} (text : A → List ℕ) (dims : List DimType) (bound inner : List A) (name : Name) (t : Tree) → IsBindingRight dims (map text bound) name t → length bound ≤ 3 → map text inner ≡ map text bound ++ name.text ∷ [] → length inner ≤ 3
-deeper text dims bound inner name t right few scoped =
-    let long : length (map text inner) ≡ length (map text bound ++ name.text ∷ []) = ap length scoped in
-    let room = right.room in
-    omega (arith, long, length-append (map text bound) (name.text ∷ []), length-map inner text, length-map bound text, few, room)
+pub items_right : (dims : List DimType) (scope : List (List ℕ)) (members items : List RuleTerm) → faults_each dims scope (trees_of (map treed members)) ≡ [] → items ≡ members → All (λ term. IsRight dims scope (tree term.kind)) items
+items_right dims scope members items none same = subst (All (λ (term : RuleTerm). IsRight dims scope (tree term.kind))) (sym same) (each_right dims scope members none)
+
+pub attr_made : (table : Table) (lexicon : Lexicon) (parts : Parts) (scope : List (List ℕ)) (node dim attribute : Name) (value : Term) (m d i n : ℕ) (found : DimType) (lent : List (List ℕ × Ty)) → m ≡ place_of scope node.text → d ≡ place_of (names_at table.dims table.used) dim.text
+    → found ≡ get_or (used_dims table) d no_dim → lent ≡ found.attrs → i ≡ place_of (firsts lent) attribute.text → n ≡ number_of (type_at (typed lent) i) value → y.Attr m (record { 0 = d }) (record { 0 = i }) n ≡ formula_in table lexicon parts scope (w.attr node dim attribute value)
+attr_made table lexicon parts scope node dim attribute value m d i n found lent e_m e_d e_found e_lent e_i e_n = rw (e_m, e_n, e_i, e_lent, e_found, e_d) refl
+
+pub feat_made : (table : Table) (lexicon : Lexicon) (parts : Parts) (scope : List (List ℕ)) (node dim feature : Name) (value : Term) (m d i n : ℕ) (found : DimType) (lent : List (List ℕ × Ty)) (made : List (List Bool)) → m ≡ place_of scope node.text
+    → d ≡ place_of (names_at table.dims table.used) dim.text → found ≡ get_or (used_dims table) d no_dim → lent ≡ found.fields → i ≡ place_of (firsts lent) feature.text → n ≡ member_number (member_shape (type_at (typed lent) i)) value
+    → made ≡ table_of lexicon.entries parts.candidates d i n → y.Feat m made ≡ formula_in table lexicon parts scope (w.feat node dim feature value)
+feat_made table lexicon parts scope node dim feature value m d i n found lent made e_m e_d e_found e_lent e_i e_n e_made = rw (e_m, e_made, e_n, e_i, e_lent, e_found, e_d) refl
+
+-- ---- types
+
+pub shape_at : (all : List (List ℕ × Ty)) (i : ℕ) (name : List ℕ) (type : Ty) → slice_get all i ≡ Some (name, type) → type_at (typed all) i ≡ shape type
+shape_at all i name type stands = ap (λ (one : List ℕ × Shape). one.1) (get_or_from_slice_get (typed all) i (name, shape type) ([], text) (typed_at all i name type stands))
+
+pub member_small : (s of : Shape) → member_shape s ≡ Some of → IsType s → IsSmall of
+member_small (domain cs) of h type = subst IsSmall (let e : domain cs ≡ of = cc in e) type
+member_small (tuple ss) of h type = subst IsSmall (let e : tuple ss ≡ of = cc in e) type
+member_small (set s) of h type = subst IsSmall (let e : s ≡ of = cc in e) type
+member_small (iset s) of h type = subst IsSmall (let e : s ≡ of = cc in e) type
+member_small other of h type = absurd (cc)
 
 -- ---- what is made says what was written
 
-module _ (table : Table) (lexicon : Lexicon) (parts : Parts) where
-  -- members that were made one after another
-  abbrev pub AreMade : List (List ℕ) → List RuleTerm → List Formula → Type 0
-  AreMade scope = AllZip (λ (term : RuleTerm) (made : Formula). IsMade table lexicon parts scope (tree term.kind) made)
+module _ (table : Table) (lexicon : Lexicon) (parts : Parts) (is : IsTable table) (for_it : IsFor table lexicon parts) (problem : IsProblem parts) where
+  abbrev dims : List DimType
+  dims = used_dims table
 
-  says_each : (scope : List (List ℕ)) (terms : List RuleTerm) (made : List Formula) → AreMade scope terms made → SaysEach table lexicon parts scope (trees_of (map treed terms)) (claims_of (map claim made))
-  says_each scope [] [] are = says_none table lexicon parts scope
-  says_each scope (term ∷ terms) (f ∷ made) are = says_then table lexicon parts scope term.span.start (tree term.kind) (trees_of (map treed terms)) (claim f) (claims_of (map claim made)) are.0.says (says_each scope terms made are.1)
-  says_each scope _ _ are = absurd are
+  abbrev number : Name → ℕ
+  number dim = place_of (names_at table.dims table.used) dim.text
 
-  each_is : (scope : List (List ℕ)) (terms : List RuleTerm) (made : List Formula) → AreMade scope terms made → made ≡ formulas_in table lexicon parts scope (trees_of (map treed terms))
-  each_is scope [] [] are = refl
-  each_is scope (term ∷ terms) (f ∷ made) are = ap₂ (λ (one : Formula) (more : List Formula). one ∷ more) are.0.is (each_is scope terms made are.1)
-  each_is scope _ _ are = absurd are
+  abbrev MadeSays : List (List ℕ) → w.Tree → Type 0
+  MadeSays scope t = Says table lexicon parts scope t (claim (formula_in table lexicon parts scope t))
 
-  module _ (scope : List (List ℕ)) (kind : RuleKind) where
-    pub made_by : (form : RuleKind) (t : Tree) (f : Formula) → kind ≡ form → tree form ≡ t → IsMade table lexicon parts scope t f → IsMade table lexicon parts scope (tree kind) f
-    made_by form t f is trees made = subst (λ k. IsMade table lexicon parts scope (tree k) f) (sym is) (subst (λ u. IsMade table lexicon parts scope u f) (sym trees) made)
+  same_dim : (dim : Name) → IsDimAt table dim.text (number dim) → get_or dims (number dim) no_dim ≡ dim_of table dim.text
+  same_dim dim at = used_is table lexicon is (number dim) at.within
 
-    made_as : (form : RuleKind) (t : Tree) (f : Formula) (c : Claim) → kind ≡ form → tree form ≡ t → claim f ≡ c → Says table lexicon parts scope t c → f ≡ formula_in table lexicon parts scope t
-        → IsMade table lexicon parts scope (tree kind) f
-    made_as form t f c is trees claimed says same = made_by form t f is trees (record { says = subst (Says table lexicon parts scope t) (sym claimed) says; is = same })
+  mutual
+    made_says : (scope : List (List ℕ)) (place : ℕ) (t : w.Tree) → faults_in dims scope place t ≡ [] → MadeSays scope t
+    made_says scope place (w.negation signs at t) right = says_signed table lexicon parts scope signs at t (formula_in table lexicon parts scope t) (made_says scope at t right)
+    made_says scope place (w.conjunction ts) right = rw claim_and (says_conjunction table lexicon parts scope ts _ (each_says scope ts right))
+    made_says scope place (w.disjunction ts) right = rw claim_or (says_disjunction table lexicon parts scope ts _ (each_says scope ts right))
+    made_says scope place (w.every name at t) right =
+        let free = binding_right dims scope place name at t right in
+        rw claim_every (says_every table lexicon parts scope name free.fresh at t _ (made_says (scope ++ name.text ∷ []) free.inside.0 t free.inside.1))
+    made_says scope place (w.any name at t) right =
+        let free = binding_right dims scope place name at t right in
+        rw claim_any (says_any table lexicon parts scope name free.fresh at t _ (made_says (scope ++ name.text ∷ []) free.inside.0 t free.inside.1))
+    made_says scope place (w.edge dim mother label daughter) right =
+        let at = edge_dim table scope dim mother label daughter (place, right) in
+        let nodes : unbound_nodes scope mother daughter ≡ [] = second_none (edge_faults dims dim label) _ right in
+        rw (same_dim dim at.0, claim_edge) (says_edge table lexicon parts is for_it scope dim (number dim) at.0 mother label daughter _ _ _ (node_at scope mother (first_none _ _ nodes)) (text_at _ label.text at.1) (node_at scope daughter (second_none (faults.unbound scope mother) _ nodes)))
+    made_says scope place (w.above dim upper lower) right =
+        let at = dim_right table dim (λ found. []) (first_none _ (unbound_nodes scope upper lower) right) in
+        let nodes : unbound_nodes scope upper lower ≡ [] = second_none (dim_faults dims dim) _ right in
+        rw claim_above (says_above table lexicon parts is for_it scope dim (number dim) at.0 upper lower _ _ (node_at scope upper (first_none _ _ nodes)) (node_at scope lower (second_none (faults.unbound scope upper) _ nodes)))
+    made_says scope place (w.left one other) right =
+        rw claim_left (says_left table lexicon parts scope one other _ _ (node_at scope one (first_none _ _ right)) (node_at scope other (second_none (faults.unbound scope one) _ right)))
+    made_says scope place (w.same one other) right =
+        rw claim_same (says_same table lexicon parts scope one other _ _ (node_at scope one (first_none _ _ right)) (node_at scope other (second_none (faults.unbound scope one) _ right)))
+    made_says scope place (w.attr node dim attribute value) right =
+        let m = attr_right table scope node dim attribute value (place, right) in
+        let all = (dim_of table dim.text).attrs in
+        let i : ℕ = place_of (firsts all) attribute.text in
+        let kept : KeepsDim (dim_of table dim.text) = dim_kept table lexicon is (number dim) m.dim_at.within in
+        let small = (attribute_right (typed all) i attribute.text (shape m.type) kept.attributes (typed_at all i attribute.text m.type m.stands)).0 in
+        let meant = number_right (shape m.type) value small m.right in
+        rw (same_dim dim m.dim_at, claim_attr, shape_at all i attribute.text m.type m.stands)
+        (says_attr table lexicon parts is for_it scope dim (number dim) m.dim_at node attribute value _ i _ m.type (node_at scope node (first_none _ (attr_faults dims dim attribute value) right)) m.stands meant.0 meant.1)
+    made_says scope place (w.feat node dim feature value) right =
+        let m = feat_right table scope node dim feature value (place, right) in
+        let of = members_by feature value (member_shape (shape m.type)) m.right in
+        let all = (dim_of table dim.text).fields in
+        let i : ℕ = place_of (firsts all) feature.text in
+        let kept : KeepsDim (dim_of table dim.text) = dim_kept table lexicon is (number dim) m.dim_at.within in
+        let type = feature_right (typed all) i feature.text (shape m.type) kept.features (typed_at all i feature.text m.type m.stands) in
+        let meant = number_right of.0 value (member_small (shape m.type) of.0 of.1 type) of.2 in
+        rw (same_dim dim m.dim_at, claim_feat, shape_at all i feature.text m.type m.stands, of.1)
+        (says_feat table lexicon parts problem is for_it scope dim (number dim) m.dim_at feature value i (number_of of.0 value) m.type of.0 m.stands of.1 meant.0 meant.1 node _ (node_at scope node (first_none _ (feat_faults dims dim feature value) right)))
 
-    made_all : (members items : List RuleTerm) (i : ℕ) (made : List Formula) → items ≡ members → length items ≤ i → AreMade scope (take i items) made → AreMade scope members made
-    made_all members items i made same over = subst (λ ts. AreMade scope ts made) (take_all i items over ∙ same)
-
-    pub made_or : (members items : List RuleTerm) (i : ℕ) (made : List Formula) → kind ≡ r.Or members → items ≡ members → length items ≤ i → AreMade scope (take i items) made → IsMade table lexicon parts scope (tree kind) (y.Or made)
-    made_or members items i made is same over are =
-        let all = made_all members items i made same over are in
-        made_as _ _ (y.Or made) _ is (tree_or members) (claim_or made) (says_disjunction table lexicon parts scope _ _ (says_each scope members made all)) (ap y.Or (each_is scope members made all))
-
-    pub made_and : (members items : List RuleTerm) (i : ℕ) (made : List Formula) → kind ≡ r.And members → items ≡ members → length items ≤ i → AreMade scope (take i items) made → IsMade table lexicon parts scope (tree kind) (y.And made)
-    made_and members items i made is same over are =
-        let all = made_all members items i made same over are in
-        made_as _ _ (y.And made) _ is (tree_and members) (claim_and made) (says_conjunction table lexicon parts scope _ _ (says_each scope members made all)) (ap y.And (each_is scope members made all))
-
-    -- a formula inside, as it was read
-    inside : (body item : RuleTerm) (names inner : List (List ℕ)) (made boxed : Formula) → item ≡ body → inner ≡ names → boxed ≡ made → IsMade table lexicon parts inner (tree item.kind) made → IsMade table lexicon parts names (tree body.kind) boxed
-    inside body item names inner made boxed same scoped put made_inside =
-        subst (λ ns. IsMade table lexicon parts ns (tree body.kind) boxed) scoped
-        (subst (λ (term : RuleTerm). IsMade table lexicon parts inner (tree term.kind) boxed) same (subst (IsMade table lexicon parts inner (tree item.kind)) (sym put) made_inside))
-
-    pub made_even : (signs : List Span) (body item : RuleTerm) (made : Formula) → kind ≡ r.Not signs body → item ≡ body → denies (length signs) ≡ false → IsMade table lexicon parts scope (tree item.kind) made → IsMade table lexicon parts scope (tree kind) made
-    made_even signs body item made is same even made_inside =
-        let own = inside body item scope scope made made same refl refl made_inside in
-        made_as _ _ made _ is (tree_not signs body) refl (says_even table lexicon parts scope (length signs) body.span.start (tree body.kind) (claim made) even own.says)
-        (own.is ∙ ap (λ b. signed b (formula_in table lexicon parts scope (tree body.kind))) (sym even))
-
-    pub made_odd : (signs : List Span) (body item : RuleTerm) (made boxed : Formula) → kind ≡ r.Not signs body → item ≡ body → denies (length signs) ≡ true → boxed ≡ made → IsMade table lexicon parts scope (tree item.kind) made → IsMade table lexicon parts scope (tree kind) (y.Not boxed)
-    made_odd signs body item made boxed is same odd put made_inside =
-        let own = inside body item scope scope made boxed same refl put made_inside in
-        made_as _ _ (y.Not boxed) _ is (tree_not signs body) (claim_not boxed) (says_odd table lexicon parts scope (length signs) body.span.start (tree body.kind) (claim boxed) odd own.says)
-        (ap y.Not own.is ∙ ap (λ b. signed b (formula_in table lexicon parts scope (tree body.kind))) (sym odd))
-
-    pub made_every : (inner : List (List ℕ)) (name : Name) (body item : RuleTerm) (made boxed : Formula) (n : ℕ) → kind ≡ r.Every name body → item ≡ body → inner ≡ scope ++ name.text ∷ [] → has_text scope name.text ≡ false → n ≡ length scope → boxed ≡ made
-        → IsMade table lexicon parts inner (tree item.kind) made → IsMade table lexicon parts scope (tree kind) (y.Every n boxed)
-    made_every inner name body item made boxed n is same scoped fresh number put made_inside =
-        let own = inside body item (scope ++ name.text ∷ []) inner made boxed same scoped put made_inside in
-        made_as _ _ (y.Every n boxed) _ is (tree_every name body) (claim_every n boxed) (says_every table lexicon parts scope name fresh body.span.start (tree body.kind) (claim boxed) n number own.says)
-        (ap (λ k. y.Every k boxed) number ∙ ap (y.Every (length scope)) own.is)
-
-    pub made_any : (inner : List (List ℕ)) (name : Name) (body item : RuleTerm) (made boxed : Formula) (n : ℕ) → kind ≡ r.Any name body → item ≡ body → inner ≡ scope ++ name.text ∷ [] → has_text scope name.text ≡ false → n ≡ length scope → boxed ≡ made
-        → IsMade table lexicon parts inner (tree item.kind) made → IsMade table lexicon parts scope (tree kind) (y.Any n boxed)
-    made_any inner name body item made boxed n is same scoped fresh number put made_inside =
-        let own = inside body item (scope ++ name.text ∷ []) inner made boxed same scoped put made_inside in
-        made_as _ _ (y.Any n boxed) _ is (tree_any name body) (claim_any n boxed) (says_any table lexicon parts scope name fresh body.span.start (tree body.kind) (claim boxed) n number own.says)
-        (ap (λ k. y.Any k boxed) number ∙ ap (y.Any (length scope)) own.is)
-
-    pub made_left : (one other : Name) (m n : ℕ) → kind ≡ r.Left one other → IsPlaceOf scope one.text m → IsPlaceOf scope other.text n → IsMade table lexicon parts scope (tree kind) (y.Left m n)
-    made_left one other m n is first second =
-        made_as _ _ (y.Left m n) _ is (tree_left one other) (claim_left m n) (says_left table lexicon parts scope one other m n (at_place scope one.text m first) (at_place scope other.text n second))
-        (ap₂ y.Left (sym (ap or_zero first)) (sym (ap or_zero second)))
-
-    pub made_same : (one other : Name) (m n : ℕ) → kind ≡ r.Same one other → IsPlaceOf scope one.text m → IsPlaceOf scope other.text n → IsMade table lexicon parts scope (tree kind) (y.Same m n)
-    made_same one other m n is first second =
-        made_as _ _ (y.Same m n) _ is (tree_same one other) (claim_same m n) (says_same table lexicon parts scope one other m n (at_place scope one.text m first) (at_place scope other.text n second))
-        (ap₂ y.Same (sym (ap or_zero first)) (sym (ap or_zero second)))
+    each_says : (scope : List (List ℕ)) (ts : Trees) → faults_each dims scope ts ≡ [] → SaysEach table lexicon parts scope ts (claims_of (map claim (formulas_in table lexicon parts scope ts)))
+    each_says scope no_tree right = says_none table lexicon parts scope
+    each_says scope (tree_then at t ts) right =
+        says_then table lexicon parts scope at t ts _ _ (made_says scope at t (first_none _ (faults_each dims scope ts) right)) (each_says scope ts (second_none (faults_in dims scope at t) _ right))
 
   -- ---- rules
 
-  pub compiled : (rule : Rule) (made : Formula) → IsMade table lexicon parts [] (tree rule.body.kind) made → Compiles table lexicon parts rule made
-  compiled rule f made = record {
-    keeps = record {
-      suits = record { is_of = made.says.is_of; bound = made.says.bound [] (λ i l. absurd (omega (arith, l))) };
-      same = λ a fits. made.says.same a fits (λ name. 0) unbound (λ i l. absurd (omega (arith, l)));
-    };
-    is = made.is;
-  }
+  keeps : (rule : Rule) → formula_faults dims [] rule.body ≡ [] → Keeps table lexicon parts rule (formula_in table lexicon parts [] (tree rule.body.kind))
+  keeps rule right =
+      let says = made_says [] rule.body.span.start (tree rule.body.kind) right in
+      record {
+        suits = record { is_of = says.is_of; bound = says.bound [] (λ i l. absurd (omega (arith, l))) };
+        same = λ a fits. says.same a fits (λ name. 0) unbound (λ i l. absurd (omega (arith, l)));
+      }
 
-  pub compiled_result : {E : Type 0} (rule : Rule) (result : Result Formula E) → IfOk result (λ f. IsMade table lexicon parts [] (tree rule.body.kind) f) → IfOk result (Compiles table lexicon parts rule)
-  compiled_result rule result made = IfOk-weaker result (λ f. IsMade table lexicon parts [] (tree rule.body.kind) f) (Compiles table lexicon parts rule) (compiled rule) made
-
-  pub keeps_all : (rules : List Rule) (made : List Formula) → AllZip (Compiles table lexicon parts) rules made → KeepsEach table lexicon parts rules made
-  keeps_all [] [] are = tt
-  keeps_all (rule ∷ rules) (f ∷ made) are = (are.0.keeps, keeps_all rules made are.1)
-  keeps_all _ _ are = absurd are
-
-  pub all_are : (rules : List Rule) (made : List Formula) → AllZip (Compiles table lexicon parts) rules made → made ≡ formulas_of table lexicon parts rules
-  all_are [] [] are = refl
-  all_are (rule ∷ rules) (f ∷ made) are = ap₂ (λ (one : Formula) (more : List Formula). one ∷ more) are.0.is (all_are rules made are.1)
-  all_are _ _ are = absurd are
+  pub keeps_each : (rules : List Rule) → All (λ rule. formula_faults dims [] rule.body ≡ []) rules → KeepsEach table lexicon parts rules (formulas_of table lexicon parts rules)
+  keeps_each [] right = tt
+  keeps_each (rule ∷ rules) right =
+      (keeps rule (All-head (λ (one : Rule). formula_faults dims [] one.body ≡ []) rule rules right), keeps_each rules (All-tail (λ (one : Rule). formula_faults dims [] one.body ≡ []) rule rules right))

@@ -25,22 +25,22 @@ use Rattle.xdg_problem.specs.Vectors.{entry_places}
 use Rattle.xdg_problem.proofs.EntryPlaces.{entry_back, place_within}
 use Rattle.xdg_terms.specs.Means.{IsAt}
 use Rattle.xdg_types.specs.Table as tables
-use Rattle.xdg_types.specs.Table.{Table, KeepsDim, typed, firsts}
+use Rattle.xdg_types.specs.Table.{Table, KeepsDim, typed}
 use Rattle.xdg_build.specs.Grammars.{Grammar}
 use Rattle.xdg_build.proofs.Said.{entry_at as entry_right_at}
 use Rattle.xdg_build.specs.Readings.{OnFeature, dimension, said_for, record_for, type_at, value_texts}
 use Rattle.xdg_build.proofs.Readings.{place_is, record_same}
-use Rattle.xdg_formula.specs.Tables.{member_shape, no_dim, used_dims}
+use Rattle.xdg_formula.specs.Tables.{member_shape, no_dim}
 use Rattle.xdg_formula.specs.Written as w
-use Rattle.xdg_build.specs.Places.{IsDimAt, IsTypeAt}
 use Rattle.xdg_build.specs.Problems.{IsFor}
 use Rattle.xdg_build.specs.Says.{Says}
 use Rattle.xdg_build.specs.Tables.{entry_says, table_of}
 use Rattle.xdg_build.specs.Truths.{IsOrHas, constants_of}
-use Rattle.xdg_build.proofs.Used.{among_all, used_within, is_called, one_called, dim_kept, among_below}
-use Rattle.xdg_build.proofs.AtomLaws.{first_at, stands_for, node_below, typed_at}
+use Rattle.xdg_build.proofs.Standing.{IsDimAt}
+use Rattle.xdg_build.proofs.Used.{among_all, used_within, dim_kept, among_below}
+use Rattle.xdg_build.proofs.AtomLaws.{alike, member_only, pair_says, typed_at}
 use Rattle.xdg_build.proofs.Featured.{said_says, said_field}
-use Rattle.xdg_facts.proofs.In.{differ_once}
+use Rattle.xdg_facts.proofs.Facts.{both_steps}
 
 -- ---- the candidate of a node
 
@@ -59,7 +59,7 @@ module _ (table : Table) (lexicon : Lexicon) (parts : Parts) (problem : IsProble
   abbrev g : Grammar
   g = record { table = table; uses = []; lexicon = lexicon }
 
-  module _ (dim : Name) (d : ℕ) (at : IsDimAt (used_dims table) dim.text d) where
+  module _ (dim : Name) (d : ℕ) (at : IsDimAt table dim.text d) where
     abbrev k : ℕ
     k = among_all table lexicon is d
 
@@ -75,7 +75,7 @@ module _ (table : Table) (lexicon : Lexicon) (parts : Parts) (problem : IsProble
         (entry_right_at table lexicon.entries e for_it.entries l).each d (dimension g k)
         (k, (slice_get-get_or table.used d 0 (used_within table lexicon is d at.within), slice_get-get_or table.dims k no_dim (among_below table lexicon is d at.within)))
 
-    module _ (feature : Name) (value : Term) (i n : ℕ) (type : Ty) (of : Shape) (stands : IsTypeAt (dimension g k).fields feature.text i type) (members : member_shape (shape type) ≡ Some of) (within : n < count of) (texts : value_texts of n ≡ constants_of value) where
+    module _ (feature : Name) (value : Term) (i n : ℕ) (type : Ty) (of : Shape) (stands : slice_get (dimension g k).fields i ≡ Some (feature.text, type)) (members : member_shape (shape type) ≡ Some of) (within : n < count of) (texts : value_texts of n ≡ constants_of value) where
       abbrev made : List (List Bool)
       made = table_of lexicon.entries parts.candidates d i n
 
@@ -92,7 +92,7 @@ module _ (table : Table) (lexicon : Lexicon) (parts : Parts) (problem : IsProble
           candidates_long = problem.candidates_each
 
       type_right : type_at (typed (dimension g k).fields) i ≡ shape type
-      type_right = ap (λ (one : List ℕ × Shape). one.1) (get_or_from_slice_get (typed (dimension g k).fields) i (feature.text, shape type) ([], text) (typed_at (dimension g k).fields i feature.text type stands.stands))
+      type_right = ap (λ (one : List ℕ × Shape). one.1) (get_or_from_slice_get (typed (dimension g k).fields) i (feature.text, shape type) ([], text) (typed_at (dimension g k).fields i feature.text type stands))
 
       -- the entry with that number says so exactly where its value is the one with these constants, or has it
       entry_right : (a : Analysis) (v : ℕ) → (get_or a.entries v (record { 0 = 0 })).0 < length lexicon.entries
@@ -102,8 +102,8 @@ module _ (table : Table) (lexicon : Lexicon) (parts : Parts) (problem : IsProble
           let entry : Entry = get_or lexicon.entries e [] in
           let whole : IsWhole (dimension g k) (get_or entry d []) = whole_at e l in
           let said = said_says (shape type) of (said_at (get_or entry d []) i) n (constants_of value) members
-          (feature_right (typed (dimension g k).fields) i feature.text (shape type) kept.features (typed_at (dimension g k).fields i feature.text type stands.stands))
-          (λ x h. said_field (dimension g k) (get_or entry d []) i feature.text (shape type) x whole (typed_at (dimension g k).fields i feature.text type stands.stands) h) within texts in
+          (feature_right (typed (dimension g k).fields) i feature.text (shape type) kept.features (typed_at (dimension g k).fields i feature.text type stands))
+          (λ x h. said_field (dimension g k) (get_or entry d []) i feature.text (shape type) x whole (typed_at (dimension g k).fields i feature.text type stands) h) within texts in
           let read : said_for g a k v i ≡ said_at (get_or entry d []) i = ap (λ m. said_at m i) (record_is entry (entry_right_at table lexicon.entries e for_it.entries l).count) in (
             λ h. subst (λ s. MatchOption (said_for g a k v i) ⊥ (λ x. IsOrHas s (out-Value x) (constants_of value))) (sym type_right)
                 (subst (λ o. MatchOption o ⊥ (λ x. IsOrHas (shape type) (out-Value x) (constants_of value))) (sym read) (said.0 h)),
@@ -127,24 +127,7 @@ module _ (table : Table) (lexicon : Lexicon) (parts : Parts) (problem : IsProble
           (λ h. right.0 (sym there ∙ h), λ h. there ∙ right.1 h)
 
       pub says_feat : (node : Name) (m : ℕ) → IsAt scope m node.text → Says table lexicon parts scope (w.feat node dim feature value) (fitting m made)
-      says_feat node m first = record {
-        is_of = is_table;
-        bound = λ numbers each. each m first.0;
-        same = λ a fits b numbered agree.
-            let e = stands_for (nodes parts) scope b numbered m node.text agree first in
-            let row = row_says a fits (numbered m) (node_below (nodes parts) scope b numbered m node.text agree first) in (
-              λ h. (
-                k,
-                i,
-                is_called table lexicon is (nodes parts) a dim.text d at,
-                first_at (dimension g k).fields i feature.text type stands.stands,
-                subst (λ v. OnFeature g a k v (Some i) (λ s x. IsOrHas s x (constants_of value))) e (row.0 h),
-              ),
-              λ h.
-                  let one : h.0 ≡ k = one_called table lexicon is (nodes parts) a dim.text d at h.0 h.2 in
-                  let place : h.1 ≡ i = differ_once (firsts (dimension g k).fields) h.1 i feature.text kept.fields (subst (λ j. slice_get (firsts (dimension g j).fields) h.1 ≡ Some feature.text) one h.3) (first_at (dimension g k).fields i feature.text type stands.stands) in
-                  row.1 (subst (λ v. OnFeature g a k v (Some i) (λ s x. IsOrHas s x (constants_of value))) (sym e)
-                  (subst (λ p. OnFeature g a k (b node.text) (Some p) (λ s x. IsOrHas s x (constants_of value))) place
-                  (subst (λ j. OnFeature g a j (b node.text) (Some h.1) (λ s x. IsOrHas s x (constants_of value))) one h.4))),
-            );
-      }
+      says_feat node m first =
+          pair_says table lexicon parts scope (w.feat node dim feature value) (fitting m made) (λ a v again. says made v (slice_index (entry_places parts.candidates a.entries) v) ≡ true) node node m m first first is_table (λ numbers one two. one) (λ a numbered. alike) (λ a fits b below.
+          both_steps (row_says a fits (b node.text) below)
+          (member_only table lexicon parts is for_it scope dim d at a (λ one. one.fields) i feature.text type (λ j place. OnFeature g a j (b node.text) (Some place) (λ s x. IsOrHas s x (constants_of value))) kept.fields stands))

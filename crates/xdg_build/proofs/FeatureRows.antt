@@ -17,6 +17,7 @@ use Rattle.xdg_build.specs.Features.{members_in, rows_in}
 use Rattle.xdg_build.proofs.TypeRows.{sizes_again, all_below, first_key, sets, is_said}
 use Rattle.xdg_build.specs.Readings.{value_texts, IsMember, IsMemberAt, IsAllowedAt}
 use Rattle.xdg_build.proofs.Different.{same_tuple}
+use Rattle.xdg_facts.proofs.Facts.{both_steps}
 use Rattle.xdg_facts.proofs.Options.{some_same}
 use Rattle.xdg_facts.specs.Membership.{Differ}
 use Rattle.xdg_terms.proofs.Meant.{one_place}
@@ -107,21 +108,24 @@ member_names P texts = sets P (λ type v. IsMember type v texts ↔ Names (eleme
 pub members_below : (P : Shape → Type 0) (type : Shape) (v : Value-F Value) → IsSetOf P type → IsIn type v → AllBelow (count (element type)) (members_in v)
 members_below P = sets P (λ type v. AllBelow (count (element type)) (members_in v)) (λ s ns p h. (h.1, h.1))
 
--- ---- valencies
+-- ---- what is said of a key
 
-one_key : (keys : List (List ℕ)) (k l : ℕ) → Differ keys → l < length keys → slice_get keys k ≡ Some (get_or keys l []) → k ≡ l
-one_key keys k l differ within e = one_place keys k l differ (slice_get_within keys k (get_or keys l []) e) within (get_or_from_slice_get keys k (get_or keys l []) [] e)
+keyed_says : {V : Type 0} (keys : List (List ℕ)) (m : List (ℕ × V)) (l : ℕ) (v : V) (Q : V → Type 0) → Differ keys → l < length keys → said_at m l ≡ Some v
+    → ((k : ℕ) × (w : V) × (slice_get keys k ≡ Some (get_or keys l [])) × (said_at m k ≡ Some w) × Q w) ↔ Q v
+keyed_says keys m l v Q differ within said = (
+  λ h.
+      let same : h.0 ≡ l = one_place keys h.0 l differ (slice_get_within keys h.0 (get_or keys l []) h.2) within (get_or_from_slice_get keys h.0 (get_or keys l []) [] h.2) in
+      subst Q (some_same h.1 v (sym h.3 ∙ ap (said_at m) same ∙ said)) h.4,
+  λ q. (l, v, slice_get-get_or keys l [] within, said, q),
+)
+
+-- ---- valencies
 
 pub valency_allows : (keys : List (List ℕ)) (v : Value-F Value) (l number : ℕ) → Differ keys → l < length keys → IsIn (valency (domain keys)) v → IsFilledIn (valency (domain keys)) v
     → IsAllowedAt (valency (domain keys)) v (get_or keys l []) number ↔ Contains (get_or (rows_in v) l []) number
 valency_allows keys (Value-F.Valency m) l number differ within is filled =
-    let row = keyed_row (λ (ns : List ℕ). ns) 0 (length keys) m l l is.0 (λ k above less none. is_said (λ ns. Unit {0}) (said_at m k) (filled k less) none) (omega arith) within in (
-      λ h.
-          let same : h.0 ≡ l = one_key keys h.0 l differ within h.2 in
-          let numbers : h.1 ≡ row.0 = some_same h.1 row.0 (sym h.3 ∙ ap (said_at m) same ∙ row.1) in
-          subst (λ (ns : List ℕ). Contains ns number) (numbers ∙ sym row.2) h.4,
-      λ c. (l, row.0, slice_get-get_or keys l [] within, row.1, subst (λ (ns : List ℕ). Contains ns number) row.2 c),
-    )
+    let row = keyed_row (λ (ns : List ℕ). ns) 0 (length keys) m l l is.0 (λ k above less none. is_said (λ ns. Unit {0}) (said_at m k) (filled k less) none) (omega arith) within in
+    subst (λ (ns : List ℕ). IsAllowedAt (valency (domain keys)) (Value-F.Valency m) (get_or keys l []) number ↔ Contains ns number) (sym row.2) (keyed_says keys m l row.0 (λ ns. Contains ns number) differ within row.1)
 valency_allows keys _ l number differ within is filled = absurd is
 
 -- ---- maps
@@ -137,20 +141,8 @@ map_row_is P keys u (Value-F.Map m) l sets_so differ within is filled =
     let row = keyed_row (λ (v : Value). members_in (out-Value v)) 0 (length keys) m l l is.0 (λ k above less none. is_said (λ v. IsFilledIn u (out-Value v)) (said_at m k) (filled k less) none) (omega arith) within in
     let right : (l < length keys) × IsIn u (out-Value row.0) = said_right (λ key v. (key < length keys) × IsIn u (out-Value v)) m l row.0 is.1 row.1 in
     record {
-      names = λ texts. (
-        λ h.
-            let same : h.0 ≡ l = one_key keys h.0 l differ within h.2 in
-            let value : h.1 ≡ row.0 = some_same h.1 row.0 (sym h.3 ∙ ap (said_at m) same ∙ row.1) in
-            subst (λ (ns : List ℕ). Names (element u) ns texts) (sym row.2)
-            ((member_names P texts u (out-Value row.0) sets_so right.1).0 (subst (λ (x : Value). IsMember u (out-Value x) texts) value h.4)),
-        λ n. (
-          l,
-          row.0,
-          slice_get-get_or keys l [] within,
-          row.1,
-          (member_names P texts u (out-Value row.0) sets_so right.1).1 (subst (λ (ns : List ℕ). Names (element u) ns texts) row.2 n),
-        ),
-      );
+      names = λ texts. subst (λ (ns : List ℕ). IsMemberAt (mapping (domain keys) u) (Value-F.Map m) (get_or keys l []) texts ↔ Names (element u) ns texts) (sym row.2)
+          (both_steps (keyed_says keys m l row.0 (λ x. IsMember u (out-Value x) texts) differ within row.1) (member_names P texts u (out-Value row.0) sets_so right.1));
       below = subst (AllBelow (count (element u))) (sym row.2) (members_below P u (out-Value row.0) sets_so right.1);
     }
 map_row_is P keys u _ l sets_so differ within is filled = absurd is

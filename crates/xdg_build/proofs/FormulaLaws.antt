@@ -1,7 +1,8 @@
 -- What formulas say, form by form.
+use Rattle.xdg_facts.proofs.Facts.{both_steps}
 use Rattle.xdg_facts.proofs.Lists.{contains_more}
 use Rattle.xdg_facts.proofs.Truths.{none_or}
-use Rattle.std.proofs.Common.{◌≡◌, ◌↔◌, ◌⊎◌, inl, inr, ℕ, zero, suc, ◌<◌, ◌+◌, ◌%◌, true, false, cond, List, [], ◌∷◌, ◌++◌, length, get_or, refl, sym, ap, ◌∙◌, subst, arith}
+use Rattle.std.proofs.Common.{◌≡◌, ◌↔◌, ◌⊎◌, inl, inr, ℕ, zero, suc, ◌<◌, ◌+◌, ◌%◌, Bool, true, false, cond, List, [], ◌∷◌, ◌++◌, length, get_or, refl, sym, ap, ◌∙◌, subst, arith}
 use Rattle.std.specs.Prelude.{◌==◌, Contains, bytes_eq}
 use Rattle.std.proofs.lemmas.Bool.{cases_eq, eq-eqb, ne_eqb}
 use Rattle.std.proofs.lemmas.List.{get_or_append_left, get_or-append-add, length-append}
@@ -11,15 +12,18 @@ use Rattle.xdg_packed.specs.Lexicon.{Lexicon}
 use Rattle.xdg_problem.specs.declared.analysis.Analysis.{Analysis}
 use Rattle.xdg_problem.specs.declared.parts.Parts.{Parts}
 use Rattle.xdg_problem.specs.Analyses.{IsAnalysis}
-use Rattle.xdg_problem.specs.Claims.{Claim, negation, conjunction, disjunction, every, some, Claims, none, claim_then, EachIsOf, IsBound, EachIsBound}
+use Rattle.xdg_problem.specs.declared.formula.Formula.{Formula}
+use Rattle.xdg_problem.specs.Claims.{Claim, claim, conjunction, disjunction, every, some, Claims, none, claim_then, EachIsOf, IsBound, EachIsBound}
 use Rattle.xdg_problem.specs.Places.{nodes}
 use Rattle.xdg_problem.specs.Truths.{bound}
 use Rattle.xdg_problem.specs.Truths as t
 use Rattle.xdg_problem.specs.Vectors.{entry_places}
+use Rattle.xdg_problem.proofs.Claimed.{claim_not}
 use Rattle.xdg_problem.proofs.DecidingTruths.{decided_claim}
 use Rattle.xdg_types.specs.Table.{Table}
 use Rattle.xdg_formula.specs.Written.{Tree, Trees, no_tree, tree_then}
 use Rattle.xdg_formula.specs.Written as w
+use Rattle.xdg_build.specs.Formulas.{signed}
 use Rattle.xdg_build.specs.Says.{Says, Agree}
 use Rattle.xdg_build.specs.Signs.{denies}
 use Rattle.xdg_build.specs.Truths.{Binding, Denied, bind, IsTrue, EachTrue, SomeTrue}
@@ -37,20 +41,19 @@ twice : (P : Type 0) → P ⊎ (P → ⊥) → ((P → ⊥) → ⊥) ↔ P
 twice P (inl p) = (λ n. p, λ x n. n x)
 twice P (inr no_p) = (λ n. absurd (n no_p), λ p. absurd (no_p p))
 
-denied_even : (P : Type 0) (signs : ℕ) → P ⊎ (P → ⊥) → denies signs ≡ false → Denied signs P ↔ P
-denied_even P zero decided h = (λ p. p, λ p. p)
-denied_even P (suc zero) decided h = absurd (cc)
-denied_even P (suc (suc signs)) decided h =
-    let inner = denied_even P signs decided h in
-    let back = twice P decided in
-    (λ n. back.0 (λ m. n (λ d. m (inner.0 d))), λ p n. n (inner.1 p))
+decided_denied : (P : Type 0) (signs : ℕ) → P ⊎ (P → ⊥) → Denied signs P ⊎ (Denied signs P → ⊥)
+decided_denied P zero decided = decided
+decided_denied P (suc signs) decided = elim (decided_denied P signs decided) [ inl d ↦ inr (λ n. n d) | inr n ↦ inl n ]
 
-denied_odd : (P : Type 0) (signs : ℕ) → P ⊎ (P → ⊥) → denies signs ≡ true → Denied signs P ↔ (P → ⊥)
-denied_odd P zero decided h = absurd (cc)
-denied_odd P (suc zero) decided h = (λ n. n, λ n. n)
-denied_odd P (suc (suc signs)) decided h =
-    let inner = denied_odd P signs decided h in
-    (λ n p. n (λ d. inner.0 d p), λ m n. n (inner.1 m))
+-- what a run of signs leaves
+abbrev Left : Bool → Type 0 → Type 0
+Left true P = P → ⊥
+Left false P = P
+
+denied_is : (P : Type 0) (signs : ℕ) → P ⊎ (P → ⊥) → Denied signs P ↔ Left (denies signs) P
+denied_is P zero decided = (λ p. p, λ p. p)
+denied_is P (suc zero) decided = (λ n. n, λ n. n)
+denied_is P (suc (suc signs)) decided = both_steps (twice (Denied signs P) (decided_denied P signs decided)) (denied_is P signs decided)
 
 module _ (table : Table) (lexicon : Lexicon) (parts : Parts) where
   decided : (scope : List (List ℕ)) (tree : Tree) (c : Claim) → Says table lexicon parts scope tree c → (a : Analysis) → IsAnalysis parts a → (b : Binding) (numbered : ℕ → ℕ) → Agree (nodes parts) scope b numbered
@@ -59,25 +62,26 @@ module _ (table : Table) (lexicon : Lexicon) (parts : Parts) where
       let same = says.same a fits b numbered agree in
       elim (decided_claim parts (entry_places parts.candidates a.entries) a.attrs a.edges c numbered) [ inl holds ↦ inl (same.0 holds) | inr fails ↦ inr (λ holds. fails (same.1 holds)) ]
 
-  pub says_even : (scope : List (List ℕ)) (signs at : ℕ) (tree : Tree) (c : Claim) → denies signs ≡ false → Says table lexicon parts scope tree c → Says table lexicon parts scope (w.negation signs at tree) c
-  says_even scope signs at tree c even says = record {
-    is_of = says.is_of;
-    bound = says.bound;
-    same = λ a fits b numbered agree.
-        let same = says.same a fits b numbered agree in
-        let denied = denied_even (IsTrue table lexicon (nodes parts) a tree b) signs (decided scope tree c says a fits b numbered agree) even in
-        (λ h. denied.1 (same.0 h), λ h. same.1 (denied.0 h));
-  }
-
-  pub says_odd : (scope : List (List ℕ)) (signs at : ℕ) (tree : Tree) (c : Claim) → denies signs ≡ true → Says table lexicon parts scope tree c → Says table lexicon parts scope (w.negation signs at tree) (negation c)
-  says_odd scope signs at tree c odd says = record {
-    is_of = says.is_of;
-    bound = says.bound;
-    same = λ a fits b numbered agree.
-        let same = says.same a fits b numbered agree in
-        let denied = denied_odd (IsTrue table lexicon (nodes parts) a tree b) signs (decided scope tree c says a fits b numbered agree) odd in
-        (λ h. denied.1 (λ holds. h (same.1 holds)), λ h holds. denied.0 h (same.0 holds));
-  }
+  pub says_signed : (scope : List (List ℕ)) (signs at : ℕ) (tree : Tree) (f : Formula) → Says table lexicon parts scope tree (claim f) → Says table lexicon parts scope (w.negation signs at tree) (claim (signed (denies signs) f))
+  says_signed scope signs at tree f says = by (denies signs) (λ P. denied_is P signs)
+    where
+      by : (b : Bool) → ((P : Type 0) → P ⊎ (P → ⊥) → Denied signs P ↔ Left b P) → Says table lexicon parts scope (w.negation signs at tree) (claim (signed b f))
+      by true denied = rw claim_not (record {
+        is_of = says.is_of;
+        bound = says.bound;
+        same = λ a fits b numbered agree.
+            let same = says.same a fits b numbered agree in
+            let law = denied (IsTrue table lexicon (nodes parts) a tree b) (decided scope tree (claim f) says a fits b numbered agree) in
+            (λ h. law.1 (λ holds. h (same.1 holds)), λ h holds. law.0 h (same.0 holds));
+      })
+      by false denied = record {
+        is_of = says.is_of;
+        bound = says.bound;
+        same = λ a fits b numbered agree.
+            let same = says.same a fits b numbered agree in
+            let law = denied (IsTrue table lexicon (nodes parts) a tree b) (decided scope tree (claim f) says a fits b numbered agree) in
+            (λ h. law.1 (same.0 h), λ h. same.1 (law.0 h));
+      }
 
   -- ---- several formulas
 
@@ -114,7 +118,10 @@ module _ (table : Table) (lexicon : Lexicon) (parts : Parts) where
 
   -- ---- quantifiers
 
-  module _ (scope : List (List ℕ)) (name : Name) (fresh : has_text scope name.text ≡ false) (at : ℕ) (tree : Tree) (c : Claim) (n : ℕ) (number : n ≡ length scope) (says : Says table lexicon parts (scope ++ name.text ∷ []) tree c) where
+  module _ (scope : List (List ℕ)) (name : Name) (fresh : has_text scope name.text ≡ false) (at : ℕ) (tree : Tree) (c : Claim) (says : Says table lexicon parts (scope ++ name.text ∷ []) tree c) where
+    abbrev n : ℕ
+    n = length scope
+
     one_more : length (scope ++ name.text ∷ []) ≡ length scope + 1
     one_more = length-append scope (name.text ∷ [])
 
@@ -129,14 +136,14 @@ module _ (table : Table) (lexicon : Lexicon) (parts : Parts) where
       | inl last ↦
           let here : get_or (scope ++ name.text ∷ []) i [] ≡ name.text =
           ap (λ j. get_or (scope ++ name.text ∷ []) j []) (let e : i ≡ length scope + 0 = omega (arith, last) in e) ∙ get_or-append-add scope (name.text ∷ []) 0 [] in
-          let stands : bound numbered n v i ≡ v = ap (λ same. cond same v (numbered i)) (eq-eqb i n (last ∙ sym number)) in
+          let stands : bound numbered n v i ≡ v = ap (λ same. cond same v (numbered i)) (eq-eqb i n last) in
           let meant : bind b name.text v (get_or (scope ++ name.text ∷ []) i []) ≡ v =
           ap (bind b name.text v) here ∙ ap (λ same. cond same v (b name.text)) ((bytes_eq-Decides name.text name.text).1 refl) in
           (stands ∙ sym meant, subst (λ m. m < nodes parts) (sym stands) within)
       | inr earlier ↦
           let before : i < length scope = omega (arith, l, one_more, earlier) in
           let here : get_or (scope ++ name.text ∷ []) i [] ≡ get_or scope i [] = get_or_append_left scope (name.text ∷ []) [] i before in
-          let stands : bound numbered n v i ≡ numbered i = ap (λ same. cond same v (numbered i)) (ne_eqb i n (λ e. earlier (e ∙ number))) in
+          let stands : bound numbered n v i ≡ numbered i = ap (λ same. cond same v (numbered i)) (ne_eqb i n earlier) in
           let meant : bind b name.text v (get_or (scope ++ name.text ∷ []) i []) ≡ b (get_or scope i []) =
           ap (bind b name.text v) here ∙ ap (λ same. cond same v (b (get_or scope i []))) (other scope i fresh before) in
           (stands ∙ (agree i before).0 ∙ sym meant, subst (λ m. m < nodes parts) (sym stands) (agree i before).1)
@@ -147,7 +154,7 @@ module _ (table : Table) (lexicon : Lexicon) (parts : Parts) where
 
     bound_inside : (numbers : List ℕ) → ((i : ℕ) → i < length scope → Contains numbers i) → IsBound (n ∷ numbers) c
     bound_inside numbers each = says.bound (n ∷ numbers) (λ i l. elim (cases_eq i (length scope)) [
-      | inl last ↦ subst (Contains (n ∷ numbers)) (number ∙ sym last) (head_in numbers)
+      | inl last ↦ subst (Contains (n ∷ numbers)) (sym last) (head_in numbers)
       | inr earlier ↦ contains_more n numbers i (each i (omega (arith, l, one_more, earlier)))
     ])
 

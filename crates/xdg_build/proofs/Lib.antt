@@ -30,7 +30,6 @@ pub mod Turns
 mod Stocked
 pub mod AtomLaws
 pub mod Atomic
-pub mod Chosen
 pub mod Compiled
 pub mod Featured
 pub mod FeatLaws

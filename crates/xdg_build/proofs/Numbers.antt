@@ -62,7 +62,7 @@ number_by (domain cs) t _ small means = absurd means
 number_by (tuple ss) t _ small means = absurd means
 number_by _ t v small means = absurd small
 
-pub number_meant : (s : Shape) (t : Term) (bs : Bindings) (v : Value) (n : ℕ) → bs ≡ [] → IsSmall s → Means bs s t v → n ≡ number_in (out-Value v) → IsNumberOf s t n
+number_meant : (s : Shape) (t : Term) (bs : Bindings) (v : Value) (n : ℕ) → bs ≡ [] → IsSmall s → Means bs s t v → n ≡ number_in (out-Value v) → IsNumberOf s t n
 number_meant s t bs v n none small means is =
     subst (IsNumberOf s t) (sym is) (number_by s t (out-Value v) small
     (subst (λ u. MeansIn [] s u (out-Value v)) (bound_none t) (subst (λ none_bound. Means none_bound s t v) none means)))
@@ -79,18 +79,21 @@ here_by (domain cs) t f small h = h
 here_by (tuple ss) t f small h = h
 here_by _ t f small h = absurd small
 
-pub never_wrong : (s : Shape) (t : Term) (bs : Bindings) (f : Fault) → bs ≡ [] → IsSmall s → value_faults s t ≡ [] → Tells (Offends bs s t) (Some f) → ⊥
-never_wrong s t bs f none small right told =
-    let offends : OffendsIn (with_bound []) s (bound [] t) f = subst (λ none_bound. Offends none_bound s t f) none told.0 in
+pub is_right : (s : Shape) (t : Term) (bs : Bindings) → bs ≡ [] → IsSmall s → value_faults s t ≡ [] → IsRight bs s t
+is_right s t bs none small right f told =
+    let offends : OffendsIn (with_bound []) s (bound [] t) f = subst (λ none_bound. Offends none_bound s t f) none told in
     let nothing : Tells (OffendsBy (with_open []) s t) None = law (with_open []) s t None (ap first (sym right)) in
     nothing f (subst (λ seen. OfSeen seen (λ u. OffendsIn (with_open []) s u f)) (sym (all_looked_at t)) (here_by s t f small (subst (λ u. OffendsIn (with_bound []) s u f) (bound_none t) offends)))
 
 -- ---- as a function
 
-pub number_is : (s : Shape) (t : Term) (bs : Bindings) (v : Value) (n : ℕ) → bs ≡ [] → IsSmall s → IsRight bs s t → Means bs s t v → n ≡ number_in (out-Value v) → n ≡ number_of s t
+pub number_right : (s : Shape) (t : Term) → IsSmall s → value_faults s t ≡ [] → IsNumberOf s t (number_of s t)
+number_right s t small right =
+    let whole : Result Value AllocError = Ok (built [] s t) in
+    number_meant s t [] (built [] s t) (number_of s t) refl small (means_of [] s t whole (small_type s small) (is_right s t [] refl small right) refl) refl
+
+pub number_is : (s : Shape) (t : Term) (bs : Bindings) (v : Value) (n : ℕ) → bs ≡ [] → IsSmall s → value_faults s t ≡ [] → Means bs s t v → n ≡ number_in (out-Value v) → n ≡ number_of s t
 number_is s t bs v n none small right means is =
     let own : IsNumberOf s t n = number_meant s t bs v n none small means is in
-    let whole : Result Value AllocError = Ok (built [] s t) in
-    let made : Means [] s t (built [] s t) = means_of [] s t whole (small_type s small) (subst (λ none_bound. IsRight none_bound s t) none right) refl in
-    let other : IsNumberOf s t (number_of s t) = number_meant s t [] (built [] s t) (number_of s t) refl small made refl in
+    let other : IsNumberOf s t (number_of s t) = number_right s t small right in
     same_number s n (number_of s t) small own.0 other.0 (own.1 ∙ sym other.1)

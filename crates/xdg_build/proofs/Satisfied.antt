@@ -7,7 +7,8 @@ use Rattle.xdg_base.specs.declared.ids.AttrId.{AttrId}
 use Rattle.xdg_base.specs.declared.ids.LabelId.{LabelId}
 use Rattle.xdg_domain.specs.Shapes.{Shape, domain, text, valency, mapping, count, IsSmall, IsType}
 use Rattle.xdg_domain.specs.Values.{AllBelow}
-use Rattle.xdg_domain.specs.declared.values.Value.{out-Value}
+use Rattle.xdg_domain.specs.declared.values.Value.{Value, out-Value}
+use Rattle.xdg_domain.specs.declared.values.Value.TheOpen.{Value-F}
 use Rattle.xdg_problem.specs.declared.analysis.Analysis.{Analysis}
 use Rattle.xdg_problem.specs.declared.analysis.Edge.{Edge}
 use Rattle.xdg_problem.specs.declared.conditions.Condition.{Condition}
@@ -36,7 +37,6 @@ use Rattle.xdg_problem.specs.declared.forms.Form.{Form}
 use Rattle.xdg_problem.specs.declared.forms.Sort.TheVariants as sorts
 use Rattle.xdg_problem.specs.declared.forms.Typing.{Typing}
 use Rattle.xdg_problem.specs.declared.forms.Typing.TheVariants as typings
-use Rattle.xdg_problem.specs.declared.forms.Wanted.TheVariants as wants
 use Rattle.xdg_problem.specs.declared.forms.Which.{Which}
 use Rattle.xdg_problem.specs.declared.forms.Which.TheVariants as nth
 use Rattle.xdg_problem.specs.Forms.{form_of, parameters, dims_in, linking, labels_to_labels}
@@ -48,15 +48,15 @@ use Rattle.xdg_build.specs.Groups.{features_in, attrs_in, labels_in, truths_in, 
 use Rattle.xdg_build.proofs.Forms.{first_within}
 use Rattle.xdg_build.proofs.TypeRows.{same_count, set_rows_are}
 use Rattle.xdg_build.specs.Compiled.{candidates_of, compiled}
-use Rattle.xdg_build.specs.Readings.{argument, argument_among, dimension, label_text, value_texts, value_number, value_of, attribute_place, label_places, edges_in, IsMember, IsMemberAt, IsAllowedAt}
+use Rattle.xdg_build.specs.Readings.{argument, argument_among, dimension, label_text, value_texts, value_number, value_of, attribute_place, feature_place, label_places, edges_in, IsMember, IsMemberAt, IsAllowedAt, OnFeature}
 use Rattle.xdg_build.specs.Principles.{D1, D2, D3, Is, attribute, InSet, InMap, Allows, order, HasDaughter, NoCycle, OneRoot, OneMother, OneLabel, InItem, Ordered, Projective, Agrees, AgreesAlong, Governs, Climbs, Blocked, IsLink, Linked, HasLink, StartsBy, Asks, Satisfies}
-use Rattle.xdg_build.proofs.TypedArguments.{Named, AllNamed, args_of, all_named, wanted_by}
+use Rattle.xdg_build.proofs.TypedArguments.{AllNamed, args_of, all_named, wanted_by}
 use Rattle.xdg_build.proofs.Conditions as kept
 use Rattle.xdg_build.proofs.Conditions.{Kept, AreWithin}
 use Rattle.xdg_build.proofs.Told as told
 use Rattle.xdg_build.proofs.Told.{Given, IsTold, on_feature}
 use Rattle.xdg_build.proofs.FeatureRows.{same_number, Names, names_number, names_some, same_texts, element, element_right, element_small, member_names, members_below, valency_allows, IsMapRow, map_row_is}
-use Rattle.xdg_facts.proofs.Facts.{then_iff}
+use Rattle.xdg_facts.proofs.Facts.{both_steps, then_iff}
 use Rattle.xdg_facts.specs.Membership.{In}
 use Rattle.xdg_terms.proofs.Meant.{one_place}
 use Rattle.xdg_problem.specs.Principles.{feature_dim, conditions_for}
@@ -204,16 +204,22 @@ module _ (g : Grammar) (words : List SentenceWord) (a : Analysis) (u : Principle
 
   -- ---- arguments by their keys
 
-  module _ (form : Form) (formed : form_of u.principle ≡ form) where
-    -- what they name, and that they are those
-    arguments : (all : AllNamed g.table u shared (wanted_by form)) × (u.args ≡ args_of g.table u shared (wanted_by form) all)
-    arguments = all_named g.table u shared (parameters form) u.args (subst (λ (f : Form). AreTypedArgs g.table u shared (parameters f) u.args) formed h.right.args)
+  -- what is known of them where the principle has this form
+  record Takes (form : Form) : Type 0 where
+    pub all : AllNamed g.table u shared (wanted_by form)
+    pub args : u.args ≡ args_of g.table u shared (wanted_by form) all
+    pub under : (key : List ℕ) → argument u key ≡ argument_among (parameters form) (args_of g.table u shared (wanted_by form) all) key
+    pub count : length u.dims ≡ length (dims_in form.dims)
 
-    dims_are : length u.dims ≡ length (dims_in form.dims)
-    dims_are = h.right.count ∙ ap (λ (f : Form). length (dims_in f.dims)) formed
-
-    argument_is : (xs : List Arg) (key : List ℕ) → u.args ≡ xs → argument u key ≡ argument_among (parameters form) xs key
-    argument_is xs key same = ap₂ (λ (f : Form) (ys : List Arg). argument_among (parameters f) ys key) formed same
+  takes : (form : Form) → form_of u.principle ≡ form → Takes form
+  takes form formed =
+      let named = all_named g.table u shared (parameters form) u.args (subst (λ (f : Form). AreTypedArgs g.table u shared (parameters f) u.args) formed h.right.args) in
+      record {
+        all = named.0;
+        args = named.1;
+        under = λ key. ap₂ (λ (f : Form) (ys : List Arg). argument_among (parameters f) ys key) formed named.1;
+        count = h.right.count ∙ ap (λ (f : Form). length (dims_in f.dims)) formed;
+      }
 
   -- ---- features
 
@@ -225,17 +231,21 @@ module _ (g : Grammar) (words : List SentenceWord) (a : Analysis) (u : Principle
     row_is : (l v : ℕ) (type : Shape) → v < n → (x : IsTold g a k v f type) → rows v j l ≡ get_or (rows_in (out-Value x.value)) l []
     row_is l v type node x = told.row_is g words a u h which (flat_map features_in xs) f v j l type which_is (ap (flat_map features_in) same) at node x
 
+    -- what a row says is what the value says of which it is made
+    feature_says : (P : Shape → Value-F Value → Type 0) (Q : List ℕ → Type 0) (l v : ℕ) (type : Shape) → v < n → (x : IsTold g a k v f type) → P type (out-Value x.value) ↔ Q (get_or (rows_in (out-Value x.value)) l [])
+        → OnFeature g a k v (feature_place (argument u key)) P ↔ Q (rows v j l)
+    feature_says P Q l v type node x says = subst (λ (ns : List ℕ). OnFeature g a k v (feature_place (argument u key)) P ↔ Q ns) (sym (row_is l v type node x)) (both_steps (on_feature g a k v f type (argument u key) P x under) says)
+
     set_has : (el : Element) (member : IsTypedMember g.table u shared sorts.Feature which (typings.Set el) f) (v : ℕ) → v < n → HasRow (InSet g words a u k key v) (element member.type) (rows v j 0)
     set_has el member v node =
         let P : Shape → Type 0 = IsElementOf labels shared el in
         let x : IsTold g a k v f member.type = told.told g words a u h which (typings.Set el) f within member v node in
-        let row : rows v j 0 ≡ members_in (out-Value x.value) = row_is 0 v member.type node x ∙ ap (λ (rs : List (List ℕ)). get_or rs 0 []) (set_rows_are P member.type (out-Value x.value) member.wanted x.right) in
+        let row : members_in (out-Value x.value) ≡ get_or (rows_in (out-Value x.value)) 0 [] = sym (ap (λ (rs : List (List ℕ)). get_or rs 0 []) (set_rows_are P member.type (out-Value x.value) member.wanted x.right)) in
         record {
           small = element_small P member.type member.wanted (told.feature_type g words a u h which (typings.Set el) f within member);
-          below = subst (AllBelow (count (element member.type))) (sym row) (members_below P member.type (out-Value x.value) member.wanted x.right);
-          names = λ texts. subst (λ (ns : List ℕ). InSet g words a u k key v texts ↔ Names (element member.type) ns texts) (sym row) (
-              then_iff (InSet g words a u k key v texts) (IsMember member.type (out-Value x.value) texts) (Names (element member.type) (members_in (out-Value x.value)) texts)
-              (on_feature g a k v f member.type (argument u key) (λ s y. IsMember s y texts) x under) (member_names P texts member.type (out-Value x.value) member.wanted x.right));
+          below = subst (AllBelow (count (element member.type))) (row ∙ sym (row_is 0 v member.type node x)) (members_below P member.type (out-Value x.value) member.wanted x.right);
+          names = λ texts. feature_says (λ s y. IsMember s y texts) (λ ns. Names (element member.type) ns texts) 0 v member.type node x (subst (λ (ns : List ℕ). IsMember member.type (out-Value x.value) texts ↔ Names (element member.type) ns texts) row
+              (member_names P texts member.type (out-Value x.value) member.wanted x.right));
         }
 
     module _ (labels_are : labels nth.First ≡ (dimension g d1).labels) (l v : ℕ) (label : l < L1) (node : v < n) where
@@ -262,15 +272,12 @@ module _ (g : Grammar) (words : List SentenceWord) (a : Analysis) (u : Principle
           let type : Shape = mapping (domain keys) value in
           let told_so : IsType type × IsTold g a k v f type = here (typings.Map nth.First el) type member same_type in
           let x : IsTold g a k v f type = told_so.1 in
-          let row : rows v j l ≡ get_or (rows_in (out-Value x.value)) l [] = row_is l v type node x in
           let said : IsMapRow type (out-Value x.value) keys value l = map_row_is P keys value (out-Value x.value) l sets told_so.0.0.1 key_within x.right x.filled in
           record {
             small = element_small P value sets told_so.0.1.1;
-            below = subst (AllBelow (count (element value))) (sym row) said.below;
-            names = λ texts. subst (λ (ns : List ℕ). InMap g words a u k key v (label_text g d1 l) texts ↔ Names (element value) ns texts) (sym row) (
-                then_iff (InMap g words a u k key v (label_text g d1 l) texts) (IsMemberAt type (out-Value x.value) (label_text g d1 l) texts) (Names (element value) (get_or (rows_in (out-Value x.value)) l []) texts)
-                (on_feature g a k v f type (argument u key) (λ s y. IsMemberAt s y (label_text g d1 l) texts) x under)
-                (subst (λ (c : List ℕ). IsMemberAt type (out-Value x.value) c texts ↔ Names (element value) (get_or (rows_in (out-Value x.value)) l []) texts) key_is (said.names texts)));
+            below = subst (AllBelow (count (element value))) (sym (row_is l v type node x)) said.below;
+            names = λ texts. feature_says (λ s y. IsMemberAt s y (label_text g d1 l) texts) (λ ns. Names (element value) ns texts) l v type node x
+                (subst (λ (c : List ℕ). IsMemberAt type (out-Value x.value) c texts ↔ Names (element value) (get_or (rows_in (out-Value x.value)) l []) texts) key_is (said.names texts));
           }
 
       valency_has : (member : IsTypedMember g.table u shared sorts.Feature which (typings.Valency nth.First) f) (number : ℕ) → Allows g words a u k key v (label_text g d1 l) number ↔ Contains (rows v j l) number
@@ -278,11 +285,9 @@ module _ (g : Grammar) (words : List SentenceWord) (a : Analysis) (u : Principle
           let type : Shape = valency (domain keys) in
           let told_so : IsType type × IsTold g a k v f type = here (typings.Valency nth.First) type member member.wanted in
           let x : IsTold g a k v f type = told_so.1 in
-          subst (λ (ns : List ℕ). Allows g words a u k key v (label_text g d1 l) number ↔ Contains ns number) (sym (row_is l v type node x)) (
-          then_iff (Allows g words a u k key v (label_text g d1 l) number) (IsAllowedAt type (out-Value x.value) (label_text g d1 l) number) (Contains (get_or (rows_in (out-Value x.value)) l []) number)
-          (on_feature g a k v f type (argument u key) (λ s y. IsAllowedAt s y (label_text g d1 l) number) x under)
+          feature_says (λ s y. IsAllowedAt s y (label_text g d1 l) number) (λ ns. Contains ns number) l v type node x
           (subst (λ (c : List ℕ). IsAllowedAt type (out-Value x.value) c number ↔ Contains (get_or (rows_in (out-Value x.value)) l []) number) key_is
-          (valency_allows keys (out-Value x.value) l number told_so.0.1 key_within x.right x.filled)))
+          (valency_allows keys (out-Value x.value) l number told_so.0.1 key_within x.right x.filled))
 
   -- ---- names of labels
 
@@ -357,11 +362,9 @@ module _ (g : Grammar) (words : List SentenceWord) (a : Analysis) (u : Principle
 
   dag : Same principles.Dag
   dag named =
-      let form : Form = form_of principles.Dag in
-      let xs = arguments form (ap form_of named) in
-      let args : List Arg = arg.Truth xs.0.0 ∷ arg.Truth xs.0.1.0 ∷ [] in
-      let connected = truth_same (codes "Connected") 0 xs.0.0 args xs.1 (argument_is form (ap form_of named) args (codes "Connected") xs.1) refl in
-      let disjoint = truth_same (codes "DisjointDaughters") 1 xs.0.1.0 args xs.1 (argument_is form (ap form_of named) args (codes "DisjointDaughters") xs.1) refl in
+      let t = takes (form_of principles.Dag) (ap form_of named) in
+      let connected = truth_same (codes "Connected") 0 t.all.0 _ t.args (t.under (codes "Connected")) refl in
+      let disjoint = truth_same (codes "DisjointDaughters") 1 t.all.1.0 _ t.args (t.under (codes "DisjointDaughters")) refl in
       let all = chosen_kept C (truth_of G.truths 0) (truth_of G.truths 1) conditions.Cycle conditions.Roots conditions.Pair in (
         λ p. all.0 (cycle_kept.0 p.0, λ e. roots_kept.0 (p.1 (connected.1 e)), λ e. pair_kept.0 (p.2 (disjoint.1 e))),
         λ p. (let k = all.1 p in (cycle_kept.1 k.0, λ e. roots_kept.1 (k.1 (connected.0 e)), λ e. pair_kept.1 (k.2 (disjoint.0 e)))),
@@ -369,13 +372,11 @@ module _ (g : Grammar) (words : List SentenceWord) (a : Analysis) (u : Principle
 
   valency_same : Same principles.Valency
   valency_same named =
-      let form : Form = form_of principles.Valency in
-      let xs = arguments form (ap form_of named) in
-      let args : List Arg = arg.Feature xs.0.0.0 ∷ arg.Feature xs.0.1.0.0 ∷ [] in
+      let t = takes (form_of principles.Valency) (ap form_of named) in
       let into = kept.in_at (compiled g words) G cs a.attrs a.edges E1 on_second L1 first_is refl labels_count (λ v l k. Allows g words a u d1 (codes "In") v (label_text g d1 l) k)
-      (λ v node l label k. valency_has nth.First some_dim (ap feature_dim named) args xs.1 0 xs.0.0.0 refl (codes "In") (argument_is form (ap form_of named) args (codes "In") xs.1) labels_first l v label node xs.0.0.1 k) in
+      (λ v node l label k. valency_has nth.First some_dim (ap feature_dim named) _ t.args 0 t.all.0.0 refl (codes "In") (t.under (codes "In")) labels_first l v label node t.all.0.1 k) in
       let out = kept.out_at (compiled g words) G cs a.attrs a.edges E1 on_second L1 first_is refl labels_count (λ v l k. Allows g words a u d1 (codes "Out") v (label_text g d1 l) k)
-      (λ v node l label k. valency_has nth.First some_dim (ap feature_dim named) args xs.1 1 xs.0.1.0.0 refl (codes "Out") (argument_is form (ap form_of named) args (codes "Out") xs.1) labels_first l v label node xs.0.1.0.1 k) in
+      (λ v node l label k. valency_has nth.First some_dim (ap feature_dim named) _ t.args 1 t.all.1.0.0 refl (codes "Out") (t.under (codes "Out")) labels_first l v label node t.all.1.0.1 k) in
       let all = two_kept C conditions.InCount conditions.OutCount in (
         λ p. all.0 (into.0 p.0, out.0 p.1),
         λ p. (let k = all.1 p in (into.1 k.0, out.1 k.1)),
@@ -400,51 +401,45 @@ module _ (g : Grammar) (words : List SentenceWord) (a : Analysis) (u : Principle
 
   agr : Same principles.Agr
   agr named =
-      let form : Form = form_of principles.Agr in
-      let xs = arguments form (ap form_of named) in
-      let x = xs.0.0 in
-      let y = xs.0.1.0 in
-      let args : List Arg = arg.Attr x.0 ∷ arg.Feature y.0 ∷ [] in
+      let t = takes (form_of principles.Agr) (ap form_of named) in
+      let x = t.all.0 in
+      let y = t.all.1.0 in
       one (Agrees g words a u) conditions.Agr
       (kept.agr_same (compiled g words) G cs a.attrs a.edges (λ v. InSet g words a u d1 (codes "Agrs") v (attribute g words a u d1 (codes "Agr") v)) (λ v node.
-      value_in x.0 x.1 (codes "Agr") v node (attr_is 0 args xs.1) (argument_is form (ap form_of named) args (codes "Agr") xs.1) (InSet g words a u d1 (codes "Agrs") v) (element y.1.type) (rows v 0 0)
-      (set_has nth.First some_dim (ap feature_dim named) args xs.1 0 y.0 refl (codes "Agrs") (argument_is form (ap form_of named) args (codes "Agrs") xs.1) elements.Shared y.1 v node)
+      value_in x.0 x.1 (codes "Agr") v node (attr_is 0 _ t.args) (t.under (codes "Agr")) (InSet g words a u d1 (codes "Agrs") v) (element y.1.type) (rows v 0 0)
+      (set_has nth.First some_dim (ap feature_dim named) _ t.args 0 y.0 refl (codes "Agrs") (t.under (codes "Agrs")) elements.Shared y.1 v node)
       (element_right (IsElementOf labels shared elements.Shared) y.1.type y.1.wanted)))
 
   agreement : Same principles.Agreement
   agreement named =
-      let form : Form = form_of principles.Agreement in
       let shares : Typing = typings.One elements.Shared in
-      let xs = arguments form (ap form_of named) in
-      let x = xs.0.0 in
-      let y = xs.0.1.0 in
-      let z = xs.0.1.1.0 in
-      let args : List Arg = arg.Attr x.0 ∷ arg.Attr y.0 ∷ arg.Feature z.0 ∷ [] in
+      let t = takes (form_of principles.Agreement) (ap form_of named) in
+      let x = t.all.0 in
+      let y = t.all.1.0 in
+      let z = t.all.1.1.0 in
       one (AgreesAlong g words a u) conditions.Agree
       (kept.agree_at (compiled g words) G cs a.attrs a.edges E1 on_second L1 first_is refl labels_count
       (λ f. InSet g words a u d1 (codes "Agree") f.mother.0 (label_text g d1 f.label.0 ∷ []) → attribute g words a u d1 (codes "Agr1") f.mother.0 ≡ attribute g words a u d1 (codes "Agr2") f.daughter.0) within_first (λ f is.
       let node = within_first.mother f is in
-      let has = set_has nth.First some_dim (ap feature_dim named) args xs.1 0 z.0 refl (codes "Agree") (argument_is form (ap form_of named) args (codes "Agree") xs.1) (elements.Labels nth.First) z.1 f.mother.0 node in
+      let has = set_has nth.First some_dim (ap feature_dim named) _ t.args 0 z.0 refl (codes "Agree") (t.under (codes "Agree")) (elements.Labels nth.First) z.1 f.mother.0 node in
       let member = label_is labels shared nth.First (InSet g words a u d1 (codes "Agree") f.mother.0) (element z.1.type) (rows f.mother.0 0 0) (dimension g d1).labels f.label.0 has
       (element_right (IsElementOf labels shared (elements.Labels nth.First)) z.1.type z.1.wanted) labels_first (within_first.label f is) in
       let m : ℕ = number shares x.0 x.1 f.mother.0 in
       let k : ℕ = number shares y.0 y.1 f.daughter.0 in
-      let one_text = text_is shares x.0 x.1 (codes "Agr1") f.mother.0 (argument_is form (ap form_of named) args (codes "Agr1") xs.1) in
-      let two_text = text_is shares y.0 y.1 (codes "Agr2") f.daughter.0 (argument_is form (ap form_of named) args (codes "Agr2") xs.1) ∙ shared_texts shared y.1.type x.1.type k y.1.wanted x.1.wanted in
+      let one_text = text_is shares x.0 x.1 (codes "Agr1") f.mother.0 (t.under (codes "Agr1")) in
+      let two_text = text_is shares y.0 y.1 (codes "Agr2") f.daughter.0 (t.under (codes "Agr2")) ∙ shared_texts shared y.1.type x.1.type k y.1.wanted x.1.wanted in
       let k_below : k < count x.1.type = subst (λ b. k < b) (shared_count shared y.1.type x.1.type y.1.wanted x.1.wanted) (number_below shares y.0 y.1 f.daughter.0 (within_first.daughter f is)) in
-      let first_value = value_is shares x.0 x.1 0 f.mother.0 (attr_is 0 args xs.1) in
-      let second_value = value_is shares y.0 y.1 1 f.daughter.0 (attr_is 1 args xs.1) in (
+      let first_value = value_is shares x.0 x.1 0 f.mother.0 (attr_is 0 _ t.args) in
+      let second_value = value_is shares y.0 y.1 1 f.daughter.0 (attr_is 1 _ t.args) in (
         λ p c. first_value ∙ same_number x.1.type m k (type_small shares x.0 x.1) (number_below shares x.0 x.1 f.mother.0 node) k_below (sym one_text ∙ p (member.1 c) ∙ two_text) ∙ sym second_value,
         λ p i. one_text ∙ ap (value_texts x.1.type) (sym first_value ∙ p (member.0 i) ∙ second_value) ∙ sym two_text,
       )))
 
   government : Same principles.Government
   government named =
-      let form : Form = form_of principles.Government in
-      let xs = arguments form (ap form_of named) in
-      let x = xs.0.0 in
-      let y = xs.0.1.0 in
-      let args : List Arg = arg.Attr x.0 ∷ arg.Feature y.0 ∷ [] in
+      let t = takes (form_of principles.Government) (ap form_of named) in
+      let x = t.all.0 in
+      let y = t.all.1.0 in
       let parts = map_parts (IsElementOf labels shared elements.Shared) (labels nth.First) y.1.type y.1.wanted in
       one (Governs g words a u) conditions.Govern
       (kept.govern_at (compiled g words) G cs a.attrs a.edges E1 on_second L1 first_is refl labels_count
@@ -452,25 +447,23 @@ module _ (g : Grammar) (words : List SentenceWord) (a : Analysis) (u : Principle
       → InMap g words a u d1 (codes "Govern") f.mother.0 (label_text g d1 f.label.0) (attribute g words a u d1 (codes "Agr") f.daughter.0)) within_first (λ f is.
       let row : List ℕ = rows f.mother.0 0 f.label.0 in
       let M : List (List ℕ) → Type 0 = InMap g words a u d1 (codes "Govern") f.mother.0 (label_text g d1 f.label.0) in
-      let has = map_has nth.First some_dim (ap feature_dim named) args xs.1 0 y.0 refl (codes "Govern") (argument_is form (ap form_of named) args (codes "Govern") xs.1) labels_first f.label.0 f.mother.0
+      let has = map_has nth.First some_dim (ap feature_dim named) _ t.args 0 y.0 refl (codes "Govern") (t.under (codes "Govern")) labels_first f.label.0 f.mother.0
       (within_first.label f is) (within_first.mother f is) elements.Shared y.1 parts.0 parts.1 parts.2 in
       map_asks M (element parts.0) row (M (attribute g words a u d1 (codes "Agr") f.daughter.0)) (Contains row (kept.value (compiled g words) G cs a.attrs a.edges f.daughter.0 0)) has
-      (value_in x.0 x.1 (codes "Agr") f.daughter.0 (within_first.daughter f is) (attr_is 0 args xs.1) (argument_is form (ap form_of named) args (codes "Agr") xs.1) M (element parts.0) row has
+      (value_in x.0 x.1 (codes "Agr") f.daughter.0 (within_first.daughter f is) (attr_is 0 _ t.args) (t.under (codes "Agr")) M (element parts.0) row has
       (element_right (IsElementOf labels shared elements.Shared) parts.0 parts.2))))
 
   order_same : Same principles.Order
   order_same named =
-      let form : Form = form_of principles.Order in
       let of_label : Typing = typings.One (elements.Labels nth.First) in
-      let xs = arguments form (ap form_of named) in
-      let x = xs.0.0 in
-      let y = xs.0.1.0 in
-      let z : Bool = xs.0.1.1.0 in
-      let args : List Arg = arg.Labels x.0 ∷ arg.Attr y.0 ∷ arg.Truth z ∷ [] in
-      let yields = truth_same (codes "Yields") 0 z args xs.1 (argument_is form (ap form_of named) args (codes "Yields") xs.1) refl in
+      let t = takes (form_of principles.Order) (ap form_of named) in
+      let x = t.all.0 in
+      let y = t.all.1.0 in
+      let z : Bool = t.all.1.1.0 in
+      let yields = truth_same (codes "Yields") 0 z _ t.args (t.under (codes "Yields")) refl in
       let small : All (λ k. k < L1) x.0 = small_places L1 x.0 (subst (λ (all : List (List ℕ)). ArePlaces (length all) x.0) labels_first x.1) in
-      let listed : order_of G ≡ x.0 = ap (λ (ys : List Arg). map (λ (l : LabelId). l.0) (flat_map labels_in ys)) xs.1 ∙ labels_back x.0 in
-      let named_order : label_places (argument u (codes "Order")) ≡ x.0 = ap label_places (argument_is form (ap form_of named) args (codes "Order") xs.1) in
+      let listed : order_of G ≡ x.0 = ap (λ (ys : List Arg). map (λ (l : LabelId). l.0) (flat_map labels_in ys)) t.args ∙ labels_back x.0 in
+      let named_order : label_places (argument u (codes "Order")) ≡ x.0 = ap label_places (t.under (codes "Order")) in
       let I : ℕ → List ℕ → ℕ → Type 0 = InItem g words a u in
       let J : ℕ → ℕ → ℕ → Type 0 = λ v l k. IsInItem E1 (truth_of G.truths 0 ≡ true) (kept.value (compiled g words) G cs a.attrs a.edges v 0) v l k in
       one (Ordered g words a u) conditions.Order
@@ -479,9 +472,9 @@ module _ (g : Grammar) (words : List SentenceWord) (a : Analysis) (u : Principle
       (subst (λ (ks : List ℕ). AllPairs (λ l k. I v l i → I v k j → i < j) (map (label_text g d1) x.0) ↔ AllPairs (λ l k. J v l i → J v k j → i < j) ks) (sym listed)
       (kept.pairs_named (label_text g d1) x.0 L1 (I v) (J v) i j small (λ l label k.
       let m : ℕ = number of_label y.0 y.1 v in
-      let text : attribute g words a u d1 (codes "On") v ≡ value_texts y.1.type m = text_is of_label y.0 y.1 (codes "On") v (argument_is form (ap form_of named) args (codes "On") xs.1) in
+      let text : attribute g words a u d1 (codes "On") v ≡ value_texts y.1.type m = text_is of_label y.0 y.1 (codes "On") v (t.under (codes "On")) in
       let own : label_text g d1 l ∷ [] ≡ value_texts y.1.type l = label_texts labels shared nth.First y.1.type (dimension g d1).labels l y.1.wanted labels_first in
-      let value = value_is of_label y.0 y.1 0 v (attr_is 0 args xs.1) in
+      let value = value_is of_label y.0 y.1 0 v (attr_is 0 _ t.args) in
       let l_below : l < count y.1.type = subst (λ b. l < b) (sym (label_count_is labels shared nth.First y.1.type (dimension g d1).labels y.1.wanted labels_first)) label in
       let m_below = number_below of_label y.0 y.1 v node in (
         λ p. elim p [
@@ -502,38 +495,26 @@ module _ (g : Grammar) (words : List SentenceWord) (a : Analysis) (u : Principle
 
   barriers : Same principles.Barriers
   barriers named =
-      let form : Form = form_of principles.Barriers in
-      let two : 1 < length u.dims = omega (arith, dims_are form (ap form_of named)) in
-      let xs = arguments form (ap form_of named) in
-      let x = xs.0.0 in
-      let args : List Arg = arg.Feature x.0 ∷ [] in
+      let t = takes (form_of principles.Barriers) (ap form_of named) in
+      let two : 1 < length u.dims = omega (arith, t.count) in
+      let x = t.all.0 in
       one (Blocked g words a u) conditions.Blocked
       (kept.blocked_at (compiled g words) G cs a.attrs a.edges E1 E2 L1 first_is (second_is two) labels_count (λ v f. InSet g words a u d2 (codes "Blocks") v (label_text g d2 f.label.0 ∷ [])) (λ v node f is.
-      let has = set_has nth.Second two (ap feature_dim named) args xs.1 0 x.0 refl (codes "Blocks") (argument_is form (ap form_of named) args (codes "Blocks") xs.1) (elements.Labels nth.Second) x.1 v node in
+      let has = set_has nth.Second two (ap feature_dim named) _ t.args 0 x.0 refl (codes "Blocks") (t.under (codes "Blocks")) (elements.Labels nth.Second) x.1 v node in
       label_is labels shared nth.Second (InSet g words a u d2 (codes "Blocks") v) (element x.1.type) (rows v 0 0) (dimension g d2).labels f.label.0 has
       (element_right (IsElementOf labels shared (elements.Labels nth.Second)) x.1.type x.1.wanted) (labels_second two) ((told.edges_within g words a u h 1 two).label f is)))
 
   -- ---- linking
 
   module _ (q : Principle) (named : u.principle ≡ q) (typing : Typing) (formed : form_of q ≡ linking typing) (third : feature_dim q ≡ 2) where
-    linked_form : form_of u.principle ≡ linking typing
-    linked_form = ap form_of named ∙ formed
+    taken : Takes (linking typing)
+    taken = takes (linking typing) (ap form_of named ∙ formed)
 
     three : 2 < length u.dims
-    three = omega (arith, dims_are (linking typing) linked_form)
+    three = omega (arith, taken.count)
 
     two : 1 < length u.dims
     two = omega (arith, three)
-
-    -- the place of the feature `Link`, and what is known of it
-    abbrev place : Named g.table u shared (wants.Member sorts.Feature nth.Third typing)
-    place = (arguments (linking typing) linked_form).0.0
-
-    args_are : u.args ≡ arg.Feature place.0 ∷ []
-    args_are = (arguments (linking typing) linked_form).1
-
-    under : argument u (codes "Link") ≡ Some (arg.Feature place.0)
-    under = argument_is (linking typing) linked_form (arg.Feature place.0 ∷ []) (codes "Link") args_are
 
     -- what is asked of each edge on D1
     link_kept : (B : Edge → Type 0) → ((f : Edge) → Contains E1 f → B f ↔ AsksLink q G (slice_index cs f.mother.0) E2 f.mother.0 f.label.0 f.daughter.0) → ((f : Edge) → Contains E1 f → B f) ↔ All C (conditions.Link ∷ [])
@@ -545,13 +526,13 @@ module _ (g : Grammar) (words : List SentenceWord) (a : Analysis) (u : Principle
       → ((c x l v : ℕ) → AsksLink q G c E2 x l v ↔ (0 < length (map_row G x c l) → IsLinked way E2 x (map_row G x c l) v))
       → Linked g words a u P ↔ All C (conditions.Link ∷ [])
   by_map q way named form third P linked asks =
-      let x = place q named labels_to_labels form third in
+      let t = taken q named labels_to_labels form third in
+      let x = t.all.0 in
       let parts = map_parts (IsElementOf labels shared (elements.Labels nth.Second)) (labels nth.First) x.1.type x.1.wanted in
       link_kept q named labels_to_labels form third (λ f. (some : List (List ℕ)) → InMap g words a u (D3 g words a u) (codes "Link") f.mother.0 (label_text g d1 f.label.0) some → P f) (λ f is.
       let row : List ℕ = rows f.mother.0 0 f.label.0 in
       let M : List (List ℕ) → Type 0 = InMap g words a u (D3 g words a u) (codes "Link") f.mother.0 (label_text g d1 f.label.0) in
-      let has = map_has nth.Third (three q named labels_to_labels form third) (ap feature_dim named ∙ third) (arg.Feature x.0 ∷ []) (args_are q named labels_to_labels form third)
-      0 x.0 refl (codes "Link") (under q named labels_to_labels form third)
+      let has = map_has nth.Third (three q named labels_to_labels form third) (ap feature_dim named ∙ third) _ t.args 0 x.0 refl (codes "Link") (t.under (codes "Link"))
       labels_first f.label.0 f.mother.0 (within_first.label f is) (within_first.mother f is) (elements.Labels nth.Second) x.1 parts.0 parts.1 parts.2 in
       let each : (k : Edge) → Contains E2 k → IsLink g words a u f k ↔ Contains row k.label.0 = λ k on. label_is labels shared nth.Second M (element parts.0) row (dimension g d2).labels k.label.0 has
       (element_right (IsElementOf labels shared (elements.Labels nth.Second)) parts.0 parts.2) (labels_second (two q named labels_to_labels form third))
@@ -566,10 +547,10 @@ module _ (g : Grammar) (words : List SentenceWord) (a : Analysis) (u : Principle
   linking_not_daughter named =
       let q = principles.LinkingNotDaughter in
       let typing : Typing = typings.Set (elements.Labels nth.First) in
-      let x = place q named typing refl refl in
+      let t = taken q named typing refl refl in
+      let x = t.all.0 in
       link_kept q named typing refl refl (λ f. InSet g words a u (D3 g words a u) (codes "Link") f.mother.0 (label_text g d1 f.label.0 ∷ []) → IsDaughter E2 f.mother.0 f.daughter.0 → ⊥) (λ f is.
-      let has = set_has nth.Third (three q named typing refl refl) (ap feature_dim named) (arg.Feature x.0 ∷ []) (args_are q named typing refl refl)
-      0 x.0 refl (codes "Link") (under q named typing refl refl) (elements.Labels nth.First) x.1 f.mother.0 (within_first.mother f is) in
+      let has = set_has nth.Third (three q named typing refl refl) (ap feature_dim named) _ t.args 0 x.0 refl (codes "Link") (t.under (codes "Link")) (elements.Labels nth.First) x.1 f.mother.0 (within_first.mother f is) in
       let member = label_is labels shared nth.First (InSet g words a u (D3 g words a u) (codes "Link") f.mother.0) (element x.1.type) (rows f.mother.0 0 0) (dimension g d1).labels f.label.0 has
       (element_right (IsElementOf labels shared (elements.Labels nth.First)) x.1.type x.1.wanted) labels_first (within_first.label f is) in (
         λ p c. p (member.1 c),
@@ -589,7 +570,7 @@ module _ (g : Grammar) (words : List SentenceWord) (a : Analysis) (u : Principle
   same_for principles.Agr named = agr named
   same_for principles.Agreement named = agreement named
   same_for principles.Government named = government named
-  same_for principles.Climbing named = one (Climbs g words a u) conditions.Below (below_kept (omega (arith, dims_are (form_of principles.Climbing) (ap form_of named))))
+  same_for principles.Climbing named = one (Climbs g words a u) conditions.Below (below_kept (omega (arith, (takes (form_of principles.Climbing) (ap form_of named)).count)))
   same_for principles.Barriers named = barriers named
   same_for principles.LinkingEnd named = by_map principles.LinkingEnd linkings.End named refl refl (λ f. Any (λ k. (k.daughter.0 ≡ f.daughter.0) × IsLink g words a u f k) E2)
       (λ f row same. kept.end_linked E2 (IsLink g words a u f) row same f.mother.0 f.daughter.0) (λ c x l v. (λ p. p, λ p. p))

@@ -1,140 +1,105 @@
--- Turns of loops that look for the place of a name, and what stands there.
-use Rattle.std.proofs.Common.{◌≡◌, ℕ, suc, ◌+◌, ◌<◌, ◌≤◌, Bool, true, false, List, [], ◌∷◌, length, get_or, drop, map, Some, None, refl, sym, ap, ◌∙◌, subst, arith, add-one, drop-cons}
+-- What stands at the place of a name.
+use Rattle.std.proofs.Common.{◌≡◌, ℕ, suc, ◌+◌, ◌<◌, ◌≤◌, Bool, true, false, List, [], ◌∷◌, length, get_or, map, Some, None, inl, inr, refl, sym, ap, ap₂, ◌∙◌, subst, arith}
 use Rattle.std.specs.Prelude.{◌||◌, Option, bytes_eq, if◌then◌else◌, slice_get}
-use Rattle.std.proofs.lemmas.Bool.{false≢true}
-use Rattle.std.proofs.lemmas.List.{at_drop_all, get_or-map, get_or_default, length-map}
+use Rattle.std.specs.List.{position, position_from}
+use Rattle.std.proofs.lemmas.Bool.{cases_Bool}
+use Rattle.std.proofs.lemmas.Iterator.Adapters.{position_from-zero}
+use Rattle.std.proofs.lemmas.List.{length-map, map-id}
 use Rattle.std.proofs.lemmas.Option.{get_or_from_slice_get, slice_get_within}
 use Rattle.xdg_domain.specs.declared.types.Ty.{Ty}
-use Rattle.xdg_terms.specs.Built.{place_from}
-use Rattle.xdg_terms.proofs.Meant.{at_place}
+use Rattle.xdg_terms.specs.Built.{or_zero, place_from}
+use Rattle.xdg_terms.specs.Means.{IsAt}
 use Rattle.xdg_types.specs.declared.table.DimType.{DimType}
-use Rattle.xdg_types.specs.Table.{firsts, dim_named}
-use Rattle.xdg_formula.specs.Tables.{dims_at, no_dim, type_named}
-use Rattle.xdg_build.specs.Places.{IsDimAt, IsPlaceOf, IsTypeAt, names_at}
+use Rattle.xdg_types.specs.Table.{Table, firsts, dim_named}
+use Rattle.xdg_formula.specs.Tables.{dims_at, no_dim, type_named, used_dims}
+use Rattle.xdg_build.specs.Formulas.{place_of}
+use Rattle.xdg_build.specs.Places.{names_at}
+use Rattle.xdg_facts.proofs.Options.{some_same}
 use Rattle.xdg_facts.proofs.Texts.{same_text}
 use Rattle.xdg_names.specs.Texts.{has_text}
 
-front : {A : Type 0} (xs : List A) (i : ℕ) (x d : A) → i < length xs → x ≡ get_or xs i d → drop i xs ≡ x ∷ drop (i + 1) xs
-front xs i x d l is = rw (add-one, drop-cons xs i d) (ap (λ y. y ∷ drop (suc i) xs) (sym is))
+-- ---- the place, as code looks for it
 
--- ---- turns
+position_at : {A : Type 0} (text : A → List ℕ) (name : List ℕ) (at : ℕ) (xs : List A) → position_from (λ x. bytes_eq (text x) name) at xs ≡ place_from at (map text xs) name
+position_at text name at [] = refl
+position_at text name at (x ∷ xs) = ap (λ rest. if bytes_eq (text x) name then Some at else rest) (position_at text name (at + 1) xs)
 
-module _ {A : Type 0} (text : A → List ℕ) (xs : List A) (i : ℕ) (name : List ℕ) (so_far : place_from i (map text (drop i xs)) name ≡ place_from 0 (map text xs) name) where
-  module _ (x d : A) (l : i < length xs) (is : x ≡ get_or xs i d) where
-    next : (if bytes_eq (text x) name then Some i else place_from (i + 1) (map text (drop (i + 1) xs)) name) ≡ place_from 0 (map text xs) name
-    next = ap (λ ys. place_from i (map text ys) name) (sym (front xs i x d l is)) ∙ so_far
+pub position_is : {A : Type 0} (text : A → List ℕ) (name : List ℕ) (xs : List A) (found : Option ℕ) (n : ℕ) → n ≡ or_zero found → found ≡ position (λ x. bytes_eq (text x) name) xs → n ≡ place_of (map text xs) name
+position_is text name xs found n told is = told ∙ ap or_zero (is ∙ position_from-zero (λ x. bytes_eq (text x) name) xs ∙ position_at text name 0 xs)
 
-    pub place_here : bytes_eq (text x) name ≡ true → place_from 0 (map text xs) name ≡ Some i
-    place_here same = sym next ∙ ap (λ b. if b then Some i else place_from (i + 1) (map text (drop (i + 1) xs)) name) same
+most_from : (at : ℕ) (texts : List (List ℕ)) (name : List ℕ) → or_zero (place_from at texts name) ≤ at + length texts
+most_from at [] name = omega arith
+most_from at (text ∷ texts) name = elim (cases_Bool (bytes_eq text name)) [
+  | inl here ↦ rw here (omega arith)
+  | inr other ↦ rw other (let more = most_from (at + 1) texts name in omega (arith, more))
+]
 
-    pub place_later : bytes_eq (text x) name ≡ false → place_from (i + 1) (map text (drop (i + 1) xs)) name ≡ place_from 0 (map text xs) name
-    place_later other = ap (λ b. if b then Some i else place_from (i + 1) (map text (drop (i + 1) xs)) name) (sym other) ∙ next
-
-  none_left : length xs ≤ i → place_from 0 (map text xs) name ≡ None
-  none_left over = sym so_far ∙ at_drop_all (λ ys. place_from i (map text ys) name) xs i over
-
-has_place : (at : ℕ) (texts : List (List ℕ)) (name : List ℕ) → has_text texts name ≡ true → place_from at texts name ≡ None → ⊥
-has_place at [] name there none = false≢true there
-has_place at (text ∷ texts) name there none = by (bytes_eq text name) refl (has_place (at + 1) texts name)
-  where
-    by : (b : Bool) → bytes_eq text name ≡ b → (has_text texts name ≡ true → place_from (at + 1) texts name ≡ None → ⊥) → ⊥
-    by true e later = (let here : Some at ≡ None = ap (λ c. if c then Some at else place_from (at + 1) texts name) (sym e) ∙ none in cc)
-    by false e later = later (ap (λ c. c || has_text texts name) (sym e) ∙ there) (ap (λ c. if c then Some at else place_from (at + 1) texts name) (sym e) ∙ none)
-
--- it stands somewhere
-pub place_somewhere : {A : Type 0} (text : A → List ℕ) (xs : List A) (i : ℕ) (name : List ℕ) → place_from i (map text (drop i xs)) name ≡ place_from 0 (map text xs) name → length xs ≤ i → has_text (map text xs) name ≡ true → ⊥
-place_somewhere text xs i name so_far over there = has_place 0 (map text xs) name there (none_left text xs i name so_far over)
-
--- ---- dimensions
-
-module _ (dims : List DimType) (used : List ℕ) (i : ℕ) (name : List ℕ) (so_far : place_from i (names_at dims (drop i used)) name ≡ place_from 0 (names_at dims used) name) where
-  module _ (l : i < length used) (dim : DimType) (within : get_or used i 0 < length dims) (there : dim ≡ get_or dims (get_or used i 0) dim) where
-    same_dim : dim ≡ get_or dims (get_or used i 0) no_dim
-    same_dim = there ∙ get_or_default dims (get_or used i 0) dim no_dim within
-
-    named : (b : Bool) → bytes_eq dim.name name ≡ b → bytes_eq (get_or dims (get_or used i 0) no_dim).name name ≡ b
-    named b is = ap (λ (one : DimType). bytes_eq one.name name) (sym same_dim) ∙ is
-
-    pub dim_found : bytes_eq dim.name name ≡ true → place_from 0 (names_at dims used) name ≡ Some i
-    dim_found is = place_here (λ k. (get_or dims k no_dim).name) used i name so_far (get_or used i 0) 0 l refl (named true is)
-
-    pub dim_turn : bytes_eq dim.name name ≡ false → place_from (i + 1) (names_at dims (drop (i + 1) used)) name ≡ place_from 0 (names_at dims used) name
-    dim_turn other = place_later (λ k. (get_or dims k no_dim).name) used i name so_far (get_or used i 0) 0 l refl (named false other)
-
--- the dimension with a number, read by way of what is lent
-
-pub dim_type_is : (dims dims_lent : List DimType) (used used_lent : List ℕ) (d at : ℕ) (dim : DimType) → dims_lent ≡ dims → used_lent ≡ used → at ≡ d → d < length used → get_or used d 0 < length dims → dim ≡ get_or dims_lent (get_or used_lent at 0) dim → dim ≡ get_or (dims_at dims used) d no_dim
-dim_type_is dims dims_lent used used_lent d at dim same_dims same_used same l within there =
-    there
-    ∙ ap (λ ds. get_or ds (get_or used_lent at 0) dim) same_dims
-    ∙ ap (λ us. get_or dims (get_or us at 0) dim) same_used
-    ∙ ap (λ i. get_or dims (get_or used i 0) dim) same
-    ∙ get_or_default dims (get_or used d 0) dim no_dim within
-    ∙ sym (get_or-map (λ k. get_or dims k no_dim) used d 0 no_dim l)
+pub place_most : (texts : List (List ℕ)) (name : List ℕ) → place_of texts name ≤ length texts
+place_most texts name = (let most = most_from 0 texts name in omega (arith, most))
 
 -- ---- what is found under a name
 
 -- of a walk that gives what the first element with the name has
 module _ {A B : Type 0} (text : A → List ℕ) (out : A → B) (name : List ℕ) (find : List A → Option B) (none : find [] ≡ None) (step : (x : A) (xs : List A) → find (x ∷ xs) ≡ (if bytes_eq (text x) name then Some (out x) else find xs)) where
-  -- it finds something only where the name stands
-  found_has : (xs : List A) (y : B) → find xs ≡ Some y → has_text (map text xs) name ≡ true
-  found_has [] y h = (let e : None ≡ Some y = sym none ∙ h in cc)
-  found_has (x ∷ xs) y h = by (bytes_eq (text x) name) refl (sym (step x xs) ∙ h) (found_has xs y)
-    where
-      by : (b : Bool) → bytes_eq (text x) name ≡ b → (if b then Some (out x) else find xs) ≡ Some y → (find xs ≡ Some y → has_text (map text xs) name ≡ true) → (b || has_text (map text xs) name) ≡ true
-      by true e is later = refl
-      by false e is later = later is
-
   -- the element with that place has the name, and is the one that is found
-  record IsFoundAt (xs : List A) (place : ℕ) : Type 0 where
+  record IsFoundAt (xs : List A) (y : B) (place : ℕ) : Type 0 where
     pub one : A
     pub stands : slice_get xs place ≡ Some one
     pub named : text one ≡ name
-    pub is : find xs ≡ Some (out one)
+    pub is : out one ≡ y
 
-  found_from : (xs : List A) (at n : ℕ) → place_from at (map text xs) name ≡ Some n → (q : ℕ) × (n ≡ at + q) × IsFoundAt xs q
-  found_from [] at n h = absurd (cc)
-  found_from (x ∷ xs) at n h = by (bytes_eq (text x) name) refl h (found_from xs (at + 1) n)
+  found_from : (at : ℕ) (xs : List A) (y : B) → find xs ≡ Some y → (q : ℕ) × (place_from at (map text xs) name ≡ Some (at + q)) × IsFoundAt xs y q
+  found_from at [] y h = absurd (let e : None ≡ Some y = sym none ∙ h in cc)
+  found_from at (x ∷ xs) y h = by (bytes_eq (text x) name) refl (sym (step x xs) ∙ h) (found_from (at + 1) xs y)
     where
-      by : (b : Bool) → bytes_eq (text x) name ≡ b → (if b then Some at else place_from (at + 1) (map text xs) name) ≡ Some n
-          → (place_from (at + 1) (map text xs) name ≡ Some n → (q : ℕ) × (n ≡ (at + 1) + q) × IsFoundAt xs q) → (q : ℕ) × (n ≡ at + q) × IsFoundAt (x ∷ xs) q
-      by true e is later =
-          let same : at ≡ n = cc in
-          (0, omega (arith, same), record { one = x; stands = refl; named = same_text (text x) name e; is = step x xs ∙ ap (λ b. if b then Some (out x) else find xs) e })
+      by : (b : Bool) → bytes_eq (text x) name ≡ b → (if b then Some (out x) else find xs) ≡ Some y
+          → (find xs ≡ Some y → (q : ℕ) × (place_from (at + 1) (map text xs) name ≡ Some (at + 1 + q)) × IsFoundAt xs y q)
+          → (q : ℕ) × ((if b then Some at else place_from (at + 1) (map text xs) name) ≡ Some (at + q)) × IsFoundAt (x ∷ xs) y q
+      by true e is later = (0, ap Some (let zero : at ≡ at + 0 = omega arith in zero), record { one = x; stands = refl; named = same_text (text x) name e; is = some_same (out x) y is })
       by false e is later =
-          let rest = later is in
-          let more = rest.1 in
-          (suc rest.0, omega (arith, more), record { one = rest.2.one; stands = rest.2.stands; named = rest.2.named; is = step x xs ∙ ap (λ b. if b then Some (out x) else find xs) e ∙ rest.2.is })
+          let more = later is in
+          (suc more.0, more.1 ∙ ap Some (let next : at + 1 + more.0 ≡ at + suc more.0 = omega arith in next), record { one = more.2.one; stands = more.2.stands; named = more.2.named; is = more.2.is })
 
-  found_at : (xs : List A) (n : ℕ) → place_from 0 (map text xs) name ≡ Some n → IsFoundAt xs n
-  found_at xs n h = (let found = found_from xs 0 n h in let e : found.0 ≡ n = (let is = found.1 in omega (arith, is)) in subst (IsFoundAt xs) e found.2)
+  found_at : (xs : List A) (y : B) → find xs ≡ Some y → IsFoundAt xs y (place_of (map text xs) name)
+  found_at xs y h =
+      let found = found_from 0 xs y h in
+      let same : found.0 ≡ 0 + found.0 = omega arith in
+      subst (IsFoundAt xs y) (same ∙ sym (ap or_zero found.1)) found.2
 
--- ---- dimensions by their names
+-- ---- texts
 
-abbrev dim_of : List DimType → ℕ → DimType
-dim_of dims k = get_or dims k no_dim
+there_or_later : (here later : Bool) (name : List ℕ) → (if here || later then Some name else None) ≡ (if here then Some name else (if later then Some name else None))
+there_or_later true later name = refl
+there_or_later false later name = refl
 
-pub dim_at : (dims : List DimType) (used : List ℕ) (name : List ℕ) (n : ℕ) → IsPlaceOf (names_at dims used) name n → IsDimAt (dims_at dims used) name n
-dim_at dims used name n h =
-    let found = found_at (λ k. (dim_of dims k).name) (dim_of dims) name (λ ks. dim_named (dims_at dims ks) name) refl (λ k ks. refl) used n h in
-    let within = slice_get_within used n found.one found.stands in
-    record {
-      within = omega (arith, within, length-map used (dim_of dims));
-      is = found.is ∙ ap Some (sym (get_or-map (dim_of dims) used n 0 no_dim within ∙ ap (dim_of dims) (get_or_from_slice_get used n found.one 0 found.stands)));
-    }
+pub text_at : (texts : List (List ℕ)) (name : List ℕ) → has_text texts name ≡ true → IsAt texts (place_of texts name) name
+text_at texts name there =
+    let found = found_at (λ text. text) (λ text. name) name (λ ts. if has_text ts name then Some name else None) refl (λ t ts. there_or_later (bytes_eq t name) (has_text ts name) name) texts name (ap (λ b. if b then Some name else None) there) in
+    subst (λ ts. IsAt texts (place_of ts name) name) (map-id texts) (slice_get_within texts _ found.one found.stands, get_or_from_slice_get texts _ found.one [] found.stands ∙ found.named)
 
-pub dim_has : (dims : List DimType) (used : List ℕ) (name : List ℕ) (found : DimType) → dim_named (dims_at dims used) name ≡ Some found → has_text (names_at dims used) name ≡ true
-dim_has dims used name = found_has (λ k. (dim_of dims k).name) (dim_of dims) name (λ ks. dim_named (dims_at dims ks) name) refl (λ k ks. refl) used
+-- ---- dimensions
 
-pub dim_below : (dims : List DimType) (used : List ℕ) (name : List ℕ) (n : ℕ) → IsPlaceOf (names_at dims used) name n → n < length used
-dim_below dims used name n h = (let within = (at_place (names_at dims used) name n h).0 in omega (arith, within, length-map used (λ k. (get_or dims k no_dim).name)))
+-- the dimension of that name, among the used ones
+abbrev pub dim_of : Table → List ℕ → DimType
+dim_of table name = get_or table.dims (get_or table.used (place_of (names_at table.dims table.used) name) 0) no_dim
+
+-- the used dimension with that place has the name
+pub record IsDimAt (table : Table) (name : List ℕ) (place : ℕ) : Type 0 where
+  pub within : place < length (used_dims table)
+  pub named : (get_or table.dims (get_or table.used place 0) no_dim).name ≡ name
+
+pub dim_found : (table : Table) (name : List ℕ) (found : DimType) → dim_named (used_dims table) name ≡ Some found → IsDimAt table name (place_of (names_at table.dims table.used) name) × (dim_of table name ≡ found)
+dim_found table name found there =
+    let dim : ℕ → DimType = λ k. get_or table.dims k no_dim in
+    let here = found_at (λ k. (dim k).name) dim name (λ ks. dim_named (dims_at table.dims ks) name) refl (λ k ks. refl) table.used found there in
+    let n : ℕ = place_of (names_at table.dims table.used) name in
+    let within : n < length table.used = slice_get_within table.used n here.one here.stands in
+    let is : dim (get_or table.used n 0) ≡ dim here.one = ap dim (get_or_from_slice_get table.used n here.one 0 here.stands) in
+    (record { within = omega (arith, within, length-map table.used dim); named = ap (λ (one : DimType). one.name) is ∙ here.named }, is ∙ here.is)
 
 -- ---- attributes and features
 
-pub type_found : (all : List (List ℕ × Ty)) (name : List ℕ) (n : ℕ) → IsPlaceOf (firsts all) name n → (type : Ty) × IsTypeAt all name n type
-type_found all name n h =
-    let found = found_at (λ (one : List ℕ × Ty). one.0) (λ one. one.1) name (λ ts. type_named ts name) refl (λ one ts. refl) all n h in
-    (found.one.1, record { stands = found.stands ∙ ap (λ (text : List ℕ). Some (text, found.one.1)) found.named; is = found.is })
-
-pub type_has : (all : List (List ℕ × Ty)) (name : List ℕ) (type : Ty) → type_named all name ≡ Some type → has_text (firsts all) name ≡ true
-type_has all name = found_has (λ (one : List ℕ × Ty). one.0) (λ one. one.1) name (λ ts. type_named ts name) refl (λ one ts. refl) all
+pub type_found : (all : List (List ℕ × Ty)) (name : List ℕ) (type : Ty) → type_named all name ≡ Some type → slice_get all (place_of (firsts all) name) ≡ Some (name, type)
+type_found all name type there =
+    let here = found_at (λ (one : List ℕ × Ty). one.0) (λ (one : List ℕ × Ty). one.1) name (λ ts. type_named ts name) refl (λ one ts. refl) all type there in
+    here.stands ∙ ap₂ (λ (n : List ℕ) (t : Ty). Some (n, t)) here.named here.is

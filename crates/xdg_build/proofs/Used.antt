@@ -1,10 +1,9 @@
 -- The used dimensions of a grammar, by their places and their names, and the dimensions of a problem.
-use Rattle.std.proofs.Common.{◌≡◌, ℕ, ◌<◌, Bool, true, false, inl, inr, List, [], ◌∷◌, length, get_or, map, Some, refl, sym, ap, ap₂, ◌∙◌, subst, arith}
-use Rattle.std.specs.Prelude.{◌==◌, Contains, bytes_eq, cond, filter, if◌then◌else◌, slice_index_or}
+use Rattle.std.proofs.Common.{◌≡◌, ℕ, ◌<◌, Bool, true, inl, inr, List, [], ◌∷◌, length, get_or, map, refl, sym, ap, ap₂, ◌∙◌, subst, arith}
+use Rattle.std.specs.Prelude.{◌==◌, Contains, cond, filter, slice_index_or}
 use Rattle.std.proofs.lemmas.Bool.{cases_eq, eq-eqb, eqb-true, ne_eqb}
 use Rattle.std.proofs.lemmas.List.{get_or-map, length-map}
 use Rattle.std.proofs.lemmas.List.Elements.{All-contains, All-filter, filter_passes}
-use Rattle.std.proofs.lemmas.Slice.Eq.{bytes_eq-Decides}
 use Rattle.xdg_domain.specs.Shapes.{Shape, shape}
 use Rattle.xdg_domain.specs.declared.types.Ty.{Ty}
 use Rattle.xdg_problem.specs.declared.analysis.Analysis.{Analysis}
@@ -17,7 +16,7 @@ use Rattle.xdg_problem.specs.declared.parts.DimPlan.{DimPlan}
 use Rattle.xdg_problem.specs.Places.{nodes}
 use Rattle.xdg_problem.proofs.PlacePlans.{dim_within, plan_read}
 use Rattle.xdg_types.specs.declared.table.DimType.{DimType}
-use Rattle.xdg_types.specs.Table.{Table, IsTable, KeepsDim, ArePlaces, typed, dim_named}
+use Rattle.xdg_types.specs.Table.{Table, IsTable, KeepsDim, ArePlaces, typed}
 use Rattle.xdg_build.specs.Grammars.{Grammar}
 use Rattle.xdg_build.specs.Plans.{attr_plan}
 use Rattle.xdg_build.specs.Readings.{dimension, edges_in}
@@ -26,9 +25,9 @@ use Rattle.xdg_build.proofs.Planned.{kept_at, places_once}
 use Rattle.xdg_facts.proofs.In.{in_get}
 use Rattle.xdg_formula.specs.Tables.{no_dim, used_dims}
 use Rattle.xdg_packed.specs.Lexicon.{Lexicon}
-use Rattle.xdg_build.specs.Places.{IsDimAt}
 use Rattle.xdg_build.specs.Problems.{IsPlanOf, IsFor}
 use Rattle.xdg_build.proofs.Lists.{zip_at}
+use Rattle.xdg_build.proofs.Standing.{IsDimAt}
 use Rattle.xdg_build.specs.Truths.{IsCalled}
 use Rattle.xdg_facts.proofs.Lists.{contains_more, zip_length}
 use Rattle.xdg_facts.specs.Membership.{In}
@@ -45,14 +44,6 @@ below_of bound [] k are has = absurd has
 below_of bound (j ∷ used) k are has = elim has [ inl same ↦ subst (λ m. m < bound) same are.0.0 | inr later ↦ below_of bound used k are.1 later ]
 
 -- ---- dimensions by their names
-
-pub dim_named_is : (dims : List DimType) (name : List ℕ) (found : DimType) → dim_named dims name ≡ Some found → found.name ≡ name
-dim_named_is [] name found h = absurd (cc)
-dim_named_is (dim ∷ dims) name found h = by (bytes_eq dim.name name) refl h (dim_named_is dims name found)
-  where
-    by : (b : Bool) → bytes_eq dim.name name ≡ b → (if b then Some dim else dim_named dims name) ≡ Some found → (dim_named dims name ≡ Some found → found.name ≡ name) → found.name ≡ name
-    by true e is later = (let same : dim ≡ found = cc in ap (λ (one : DimType). one.name) (sym same) ∙ (bytes_eq-Decides dim.name name).0 e)
-    by false e is later = later is
 
 module _ (table : Table) (lexicon : Lexicon) (is : IsTable table) where
   abbrev g : Grammar
@@ -77,12 +68,12 @@ module _ (table : Table) (lexicon : Lexicon) (is : IsTable table) where
   pub dim_kept : (d : ℕ) → d < length (used_dims table) → KeepsDim (dimension g (among_all d))
   dim_kept d l = kept_at table.dims (among_all d) is.dims (among_below d l)
 
-  module _ (nodes : ℕ) (a : Analysis) (name : List ℕ) (d : ℕ) (at : IsDimAt (used_dims table) name d) where
-    called : (dimension g (among_all d)).name ≡ name
-    called = ap (λ (dim : DimType). dim.name) (sym (used_is d at.within)) ∙ dim_named_is (used_dims table) name (get_or (used_dims table) d no_dim) at.is
+  pub type_kept : (d : ℕ) → d < length (used_dims table) → KeepsDim (get_or (used_dims table) d no_dim)
+  type_kept d l = subst KeepsDim (sym (used_is d l)) (dim_kept d l)
 
+  module _ (nodes : ℕ) (a : Analysis) (name : List ℕ) (d : ℕ) (at : IsDimAt table name d) where
     pub is_called : IsCalled table lexicon nodes a name (among_all d)
-    is_called = (in_get table.used d 0 (used_within d at.within), called)
+    is_called = (in_get table.used d 0 (used_within d at.within), at.named)
 
     -- no other dimension has the name
     pub one_called : (k : ℕ) → IsCalled table lexicon nodes a name k → k ≡ among_all d
@@ -91,7 +82,7 @@ module _ (table : Table) (lexicon : Lexicon) (is : IsTable table) where
         let there : among_all d < length table.dims = among_below d at.within in
         let long : length (map (λ (dim : DimType). dim.name) table.dims) ≡ length table.dims = length-map table.dims (λ (dim : DimType). dim.name) in
         one_place (map (λ (dim : DimType). dim.name) table.dims) k (among_all d) is.names (omega (arith, here, long)) (omega (arith, there, long))
-        (get_or-map (λ (dim : DimType). dim.name) table.dims k no_dim [] here ∙ other.1 ∙ sym called ∙ sym (get_or-map (λ (dim : DimType). dim.name) table.dims (among_all d) no_dim [] there))
+        (get_or-map (λ (dim : DimType). dim.name) table.dims k no_dim [] here ∙ other.1 ∙ sym at.named ∙ sym (get_or-map (λ (dim : DimType). dim.name) table.dims (among_all d) no_dim [] there))
 
 -- ---- the dimensions of a problem
 

@@ -6,13 +6,12 @@ use Rattle.xdg_problem.specs.declared.analysis.Analysis.{Analysis}
 use Rattle.xdg_problem.specs.declared.formula.Formula.{Formula}
 use Rattle.xdg_problem.specs.declared.parts.Parts.{Parts}
 use Rattle.xdg_problem.specs.Analyses.{IsAnalysis}
-use Rattle.xdg_problem.specs.Claims.{Claim, IsOf, IsBound, Suits, claim}
+use Rattle.xdg_problem.specs.Claims.{Claim, IsOf, IsBound, Suits}
 use Rattle.xdg_problem.specs.Places.{nodes}
 use Rattle.xdg_problem.specs.Truths.{IsTrueIn, FormulaHolds}
 use Rattle.xdg_types.specs.Table.{Table}
 use Rattle.xdg_formula.specs.declared.tree.Rule.{Rule}
-use Rattle.xdg_formula.specs.Written.{Tree, tree}
-use Rattle.xdg_build.specs.Formulas.{formula_in}
+use Rattle.xdg_formula.specs.Written.{Tree}
 use Rattle.xdg_build.specs.Truths.{Binding, IsTrue, RuleHolds}
 
 -- ---- formulas
@@ -29,11 +28,6 @@ pub record Says (table : Table) (lexicon : Lexicon) (parts : Parts) (scope : Lis
   pub same : (a : Analysis) → IsAnalysis parts a → (b : Binding) (numbered : ℕ → ℕ) → Agree (nodes parts) scope b numbered
       → IsTrueIn parts a c numbered ↔ IsTrue table lexicon (nodes parts) a t b
 
--- a formula is the one that is made, and its claim says so
-pub record IsMade (table : Table) (lexicon : Lexicon) (parts : Parts) (scope : List (List ℕ)) (t : Tree) (formula : Formula) : Type 0 where
-  pub says : Says table lexicon parts scope t (claim formula)
-  pub is : formula ≡ formula_in table lexicon parts scope t
-
 -- ---- rules
 
 -- the formula suits the problem, and is true in each analysis of it in which the rule is true, and in no other
@@ -44,8 +38,3 @@ pub record Keeps (table : Table) (lexicon : Lexicon) (parts : Parts) (rule : Rul
 -- one formula for each rule, in their order
 abbrev pub KeepsEach : Table → Lexicon → Parts → List Rule → List Formula → Type 0
 KeepsEach table lexicon parts = AllZip (Keeps table lexicon parts)
-
--- the formula of a rule is the one that is made, and keeps it
-pub record Compiles (table : Table) (lexicon : Lexicon) (parts : Parts) (rule : Rule) (formula : Formula) : Type 0 where
-  pub keeps : Keeps table lexicon parts rule formula
-  pub is : formula ≡ formula_in table lexicon parts [] (tree rule.body.kind)

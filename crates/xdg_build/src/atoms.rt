@@ -4,9 +4,9 @@ ghost use Rattle.std.specs.Prelude.{◌≡◌, ◌≢◌, ◌≤◌, length, map
 ghost use Rattle.xdg_domain.specs.Shapes.{shape};
 ghost use Rattle.xdg_formula.specs.Tables.{member_shape, used_dims};
 ghost use Rattle.xdg_formula.specs.Written as w;
+ghost use Rattle.xdg_build.specs.Formulas.{formula_in};
 ghost use Rattle.xdg_build.specs.Problems.{IsFor};
 ghost use Rattle.xdg_build.specs.Right.{IsRight};
-ghost use Rattle.xdg_build.specs.Says.{IsMade};
 
 use crate::feats::feat_table;
 use crate::lookups::{dim_number, dim_type, label_number, node_number, type_place};
@@ -30,10 +30,10 @@ pub(crate) fn edge(
     label: &Name,
     daughter: &Name,
 ) -> Formula
-    requires fits { IsFor types.now packed.now problem.now }
     requires right { IsRight (used_dims types.now) (map (λ text. text.now) bound.now) (w.edge dim.now mother.now label.now daughter.now) }
     requires few { length bound.now ≤ 3 }
-    ensures { IsMade types.now packed.now problem.now (map (λ text. text.now) bound.now) (w.edge dim.now mother.now label.now daughter.now) result }
+    ensures { result ≡ formula_in types.now packed.now problem.now (map (λ text. text.now) bound.now)
+        (w.edge dim.now mother.now label.now daughter.now) }
 {
     let place = dim_number(types, dim);
     let labels = dim_type(types, place).labels.as_slice();
@@ -55,10 +55,8 @@ pub(crate) fn above(
     upper: &Name,
     lower: &Name,
 ) -> Formula
-    requires fits { IsFor types.now packed.now problem.now }
-    requires right { IsRight (used_dims types.now) (map (λ text. text.now) bound.now) (w.above dim.now upper.now lower.now) }
-    requires few { length bound.now ≤ 3 }
-    ensures { IsMade types.now packed.now problem.now (map (λ text. text.now) bound.now) (w.above dim.now upper.now lower.now) result }
+    requires { length bound.now ≤ 3 }
+    ensures { result ≡ formula_in types.now packed.now problem.now (map (λ text. text.now) bound.now) (w.above dim.now upper.now lower.now) }
 {
     let place = dim_number(types, dim);
     Formula::Above(
@@ -80,11 +78,10 @@ pub(crate) fn attr(
     attribute: &Name,
     value: &Term,
 ) -> Result<Formula, OutOfMemory>
-    requires fits { IsFor types.now packed.now problem.now }
     requires right { IsRight (used_dims types.now) (map (λ text. text.now) bound.now) (w.attr node.now dim.now attribute.now value.now) }
     requires few { length bound.now ≤ 3 }
-    ensures { IfOk result (λ made. IsMade types.now packed.now problem.now (map (λ text. text.now) bound.now)
-        (w.attr node.now dim.now attribute.now value.now) made) }
+    ensures { IfOk result (λ made. made ≡ formula_in types.now packed.now problem.now (map (λ text. text.now) bound.now)
+        (w.attr node.now dim.now attribute.now value.now)) }
 {
     let place = dim_number(types, dim);
     let attrs = dim_type(types, place).attrs.as_slice();
@@ -124,8 +121,8 @@ pub(crate) fn feat(
     requires fits { IsFor types.now packed.now problem.now }
     requires right { IsRight (used_dims types.now) (map (λ text. text.now) bound.now) (w.feat node.now dim.now feature.now value.now) }
     requires few { length bound.now ≤ 3 }
-    ensures { IfOk result (λ made. IsMade types.now packed.now problem.now (map (λ text. text.now) bound.now)
-        (w.feat node.now dim.now feature.now value.now) made) }
+    ensures { IfOk result (λ made. made ≡ formula_in types.now packed.now problem.now (map (λ text. text.now) bound.now)
+        (w.feat node.now dim.now feature.now value.now)) }
 {
     let place = dim_number(types, dim);
     let fields = dim_type(types, place).fields.as_slice();

@@ -5,9 +5,10 @@ ghost use Rattle.xdg_base.specs.declared.faults.Fault as faults;
 ghost use Rattle.xdg_formula.specs.Answers.{Offends};
 ghost use Rattle.xdg_formula.specs.Formulas.{formula_faults};
 ghost use Rattle.xdg_formula.specs.Tables.{used_dims};
-ghost use Rattle.xdg_build.specs.Formulas.{formulas_of};
+ghost use Rattle.xdg_formula.specs.Written.{tree};
+ghost use Rattle.xdg_build.specs.Formulas.{formula_in, formulas_of};
 ghost use Rattle.xdg_build.specs.Problems.{IsFor};
-ghost use Rattle.xdg_build.specs.Says.{Compiles, KeepsEach};
+ghost use Rattle.xdg_build.specs.Says.{KeepsEach};
 
 use crate::formulas::formula_of;
 use std::alloc::Global;
@@ -27,7 +28,7 @@ fn compile_rule(
 ) -> Result<Formula, OutOfMemory>
     requires fits { IsFor types.now packed.now problem.now }
     requires right { formula_faults (used_dims types.now) [] rule.now.body ≡ [] }
-    ensures { IfOk result (Compiles types.now packed.now problem.now rule.now) }
+    ensures { IfOk result (λ made. made ≡ formula_in types.now packed.now problem.now [] (tree rule.now.body.kind)) }
 {
     formula_of(alloc, types, packed, problem, &[], &rule.body.kind)
 }
@@ -51,6 +52,8 @@ pub fn compile(
     ensures keeps { IfOk result (KeepsEach types.now packed.now problem.now rules.now.rules) }
     ensures is { IfOk result (λ made. made ≡ formulas_of types.now packed.now problem.now rules.now.rules) }
 {
+    let _ = types.dims();
+    let _ = problem.parts();
     let mut made = List::new(alloc);
     for rule in rules.rules.as_slice() {
         made.push(compile_rule(alloc, types, packed, problem, rule)?)?;

@@ -1,18 +1,19 @@
 //! Formulas.
 
-ghost use Rattle.std.specs.Prelude.{◌≡◌, ◌≤◌, length, map, IfOk};
+ghost use Rattle.std.specs.Prelude.{◌≡◌, ◌≤◌, ◌<◌, ◌++◌, [], ◌∷◌, length, map, All, IfOk};
 ghost use Rattle.xdg_formula.specs.Tables.{used_dims};
 ghost use Rattle.xdg_formula.specs.Written.{tree};
+ghost use Rattle.xdg_build.specs.Formulas.{formula_in};
 ghost use Rattle.xdg_build.specs.Problems.{IsFor};
 ghost use Rattle.xdg_build.specs.Right.{IsRight};
-ghost use Rattle.xdg_build.specs.Says.{IsMade};
 ghost use Rattle.xdg_build.specs.Signs.{denies};
 
 use crate::atoms;
 use crate::lookups::node_number;
 use std::alloc::Global;
+use xdg_ast::Name;
 use xdg_base::{Boxed, List, OutOfMemory, Span};
-use xdg_formula::{RuleKind, bind};
+use xdg_formula::{RuleKind, RuleTerm, bind};
 use xdg_packed::Packed;
 use xdg_problem::{Formula, Problem};
 use xdg_types::TypeTable;
@@ -26,6 +27,7 @@ fn denies(signs: &List<Span>) -> bool
 }
 
 /// A formula where these names are bound.
+#[cycle(formula)]
 pub(crate) fn formula_of<'a>(
     alloc: Global,
     types: &TypeTable,
@@ -37,23 +39,15 @@ pub(crate) fn formula_of<'a>(
     requires fits { IsFor types.now packed.now problem.now }
     requires right { IsRight (used_dims types.now) (map (λ text. text.now) bound.now) (tree kind.now) }
     requires few { length bound.now ≤ 3 }
-    ensures { IfOk result (λ made. IsMade types.now packed.now problem.now (map (λ text. text.now) bound.now) (tree kind.now) made) }
+    ensures { IfOk result (λ made. made ≡ formula_in types.now packed.now problem.now (map (λ text. text.now) bound.now) (tree kind.now)) }
 {
     match kind {
         RuleKind::Or(members) => {
-            let mut made = List::new(alloc);
-            for member in members.as_slice() {
-                let inside = formula_of(alloc, types, packed, problem, bound, &member.kind)?;
-                made.push(inside)?;
-            }
+            let made = formulas_of(alloc, types, packed, problem, bound, members.as_slice())?;
             Ok(Formula::Or(made))
         }
         RuleKind::And(members) => {
-            let mut made = List::new(alloc);
-            for part in members.as_slice() {
-                let inside = formula_of(alloc, types, packed, problem, bound, &part.kind)?;
-                made.push(inside)?;
-            }
+            let made = formulas_of(alloc, types, packed, problem, bound, members.as_slice())?;
             Ok(Formula::And(made))
         }
         RuleKind::Not(signs, body) => {
@@ -65,29 +59,11 @@ pub(crate) fn formula_of<'a>(
             Ok(Formula::Not(boxed))
         }
         RuleKind::Every(name, body) => {
-            let scope = bind(alloc, bound, name)?;
-            let inside = formula_of(
-                alloc,
-                types,
-                packed,
-                problem,
-                scope.as_slice(),
-                &body.get().kind,
-            )?;
-            let boxed = Boxed::new(alloc, inside)?;
+            let boxed = under(alloc, types, packed, problem, bound, name, body.get())?;
             Ok(Formula::Every(bound.len() as u8, boxed))
         }
         RuleKind::Any(name, body) => {
-            let scope = bind(alloc, bound, name)?;
-            let inside = formula_of(
-                alloc,
-                types,
-                packed,
-                problem,
-                scope.as_slice(),
-                &body.get().kind,
-            )?;
-            let boxed = Boxed::new(alloc, inside)?;
+            let boxed = under(alloc, types, packed, problem, bound, name, body.get())?;
             Ok(Formula::Any(bound.len() as u8, boxed))
         }
         RuleKind::Edge {
@@ -122,4 +98,49 @@ pub(crate) fn formula_of<'a>(
             alloc, types, packed, problem, bound, node, dim, feature, value,
         ),
     }
+}
+
+/// Each of some formulas.
+#[cycle(formula)]
+fn formulas_of<'a>(
+    alloc: Global,
+    types: &TypeTable,
+    packed: &Packed,
+    problem: &Problem,
+    bound: &[&'a str],
+    members: &'a [RuleTerm],
+) -> Result<List<Formula>, OutOfMemory>
+    requires fits { IsFor types.now packed.now problem.now }
+    requires right { All (λ term. IsRight (used_dims types.now) (map (λ text. text.now) bound.now) (tree term.kind)) members.now }
+    requires few { length bound.now ≤ 3 }
+    ensures { IfOk result (λ made. made ≡ map
+        (λ term. formula_in types.now packed.now problem.now (map (λ text. text.now) bound.now) (tree term.kind)) members.now) }
+{
+    let mut made = List::new(alloc);
+    for member in members {
+        made.push(formula_of(alloc, types, packed, problem, bound, &member.kind)?)?;
+    }
+    Ok(made)
+}
+
+/// A formula under a quantifier, which binds one name more.
+#[cycle(formula)]
+fn under<'a>(
+    alloc: Global,
+    types: &TypeTable,
+    packed: &Packed,
+    problem: &Problem,
+    bound: &[&'a str],
+    name: &'a Name,
+    body: &'a RuleTerm,
+) -> Result<Boxed<Formula>, OutOfMemory>
+    requires fits { IsFor types.now packed.now problem.now }
+    requires right { IsRight (used_dims types.now) (map (λ text. text.now) bound.now ++ name.now.text ∷ []) (tree body.now.kind) }
+    requires few { length bound.now < 3 }
+    ensures { IfOk result (λ made. made ≡ formula_in types.now packed.now problem.now
+        (map (λ text. text.now) bound.now ++ name.now.text ∷ []) (tree body.now.kind)) }
+{
+    let scope = bind(alloc, bound, name)?;
+    let inside = formula_of(alloc, types, packed, problem, scope.as_slice(), &body.kind)?;
+    Boxed::new(alloc, inside)
 }

@@ -26,5 +26,5 @@ pub use compiling::compile;
 pub use groups::compile_uses;
 pub use nodes::{NodePlan, over_nodes, plan_node};
 pub use records::Records;
-pub use refusals::{first_unknown, refusal_within};
+pub use refusals::refusal_within;
 pub use stock::Stock;

@@ -12,7 +12,7 @@ use xdg_problem::SentenceWord;
 const WORDS: usize = 128;
 
 /// The first word that has no entry.
-pub fn first_unknown(packed: &Packed, words: &[SentenceWord]) -> Option<Fault>
+fn first_unknown(packed: &Packed, words: &[SentenceWord]) -> Option<Fault>
     ensures { result ≡ spec.first_unknown packed.now words.now }
 {
     for word in words {

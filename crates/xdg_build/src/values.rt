@@ -5,7 +5,6 @@ ghost use Rattle.xdg_domain.specs.Shapes.{shape, IsSmall};
 ghost use Rattle.xdg_domain.specs.declared.values.Value.{out-Value};
 ghost use Rattle.xdg_formula.specs.Formulas.{value_faults};
 ghost use Rattle.xdg_build.specs.Formulas.{number_of};
-ghost use Rattle.xdg_build.specs.Places.{IsNumberOf};
 ghost use Rattle.xdg_build.specs.Tables as spec;
 
 use std::alloc::Global;
@@ -29,8 +28,7 @@ fn number_in(value: &Value) -> u16
 pub(crate) fn value_number(alloc: Global, ty: &Ty, written: &Term) -> Result<u16, OutOfMemory>
     requires small { IsSmall (shape ty.now) }
     requires right { value_faults (shape ty.now) written.now ≡ [] }
-    ensures number { IfOk result (λ number. IsNumberOf (shape ty.now) written.now number) }
-    ensures is { IfOk result (λ number. number ≡ number_of (shape ty.now) written.now) }
+    ensures { IfOk result (λ number. number ≡ number_of (shape ty.now) written.now) }
 {
     match value(alloc, ty, written, &List::new(alloc)) {
         Ok(meant) => Ok(number_in(&meant)),
