@@ -9,8 +9,6 @@ pub mod SeenTokens
 pub mod Listed
 pub mod Tokens
 pub mod Treed
-pub mod Unique
-pub mod Whole
 pub mod Formed
 pub mod Told
 pub mod Turns

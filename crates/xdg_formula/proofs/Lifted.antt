@@ -4,8 +4,7 @@ use Rattle.std.proofs.lemmas.List.{map-append}
 use Rattle.xdg_base.specs.declared.faults.Fault.{Fault}
 use Rattle.xdg_ast.specs.Lexemes.{Lexeme}
 use Rattle.xdg_ast.specs.Brackets.{is_opening, walk}
-use Rattle.xdg_ast.specs.Derives.{most_brackets, IsShallow, place_of}
-use Rattle.xdg_formula.specs.Derived.{Starts, Ends, IsUnexpectedAt, IsTooDeepAt, IsRefused, unexpected, too_deep}
+use Rattle.xdg_ast.specs.Derives.{most_brackets, IsShallow, place_of, Starts, Ends, IsUnexpectedAt, IsTooDeepAt, IsRefused, unexpected, too_deep}
 use Rattle.xdg_formula.specs.Rules.{rules}
 use Rattle.xdg_formula.specs.Texts.{seen_rules, rules_of}
 use Rattle.xdg_formula.specs.Words.{seen, seen_all}
@@ -24,10 +23,10 @@ starts-lifted : (us : List Lexeme) → Starts seen_rules (seen_all us) → Start
 starts-lifted us s =
     let found = (rules_rule 0 s.2.0).bears.by (seen_all us ++ s.0) (seen_all us ++ seen_all (map before s.0)) s.1
     (alike-both (seen_all us) (seen_all us) s.0 (seen_all (map before s.0)) (alike-self (seen_all us)) (alike-before s.0)) s.2.1 in
-    (map before s.0, found.0, (s.2.0, subst (λ ts. (rules s.2.0).means ts found.0) (sym (map-append seen us (map before s.0))) found.1))
+    (map before s.0, record { rules = found.0 }, (s.2.0, subst (λ ts. (rules s.2.0).means ts found.0) (sym (map-append seen us (map before s.0))) found.1))
 
 starts-back : (us : List Lexeme) → Starts rules_of us → Starts seen_rules (seen_all us)
-starts-back us s = (seen_all s.0, s.1, (s.2.0, subst (λ ts. (rules s.2.0).means ts s.1) (map-append seen us s.0) s.2.1))
+starts-back us s = (seen_all s.0, s.1, (s.2.0, subst (λ ts. (rules s.2.0).means ts s.1.rules) (map-append seen us s.0) s.2.1))
 
 ends-lifted : (us ts : List Lexeme) → Ends seen_rules (seen_all us) (seen_all ts) → Ends rules_of us ts
 ends-lifted us [] h = λ found d. h found d

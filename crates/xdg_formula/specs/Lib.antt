@@ -1,4 +1,3 @@
-pub mod Derived
 pub mod Rules
 pub mod Texts
 pub mod Words

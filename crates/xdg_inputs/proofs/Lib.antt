@@ -1,6 +1,5 @@
 mod ClassCount
 mod OneMeaning
-mod OneTree
 pub mod Leaving
 pub mod Trees
 pub mod Meaning

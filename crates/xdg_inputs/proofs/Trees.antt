@@ -7,7 +7,9 @@ use Rattle.xdg_base.specs.declared.faults.Stop.TheVariants as stops
 use Rattle.xdg_base.specs.Places.{line_of, column_of}
 use Rattle.xdg_ast.specs.declared.grammar.Grammar.{Grammar}
 use Rattle.xdg_ast.specs.Derives.{Reads}
-use Rattle.xdg_inputs.specs.GrammarTexts.{IsUnreadable, IsReadAs, ReadsAs, TellsTree}
+use Rattle.xdg_base.specs.Told.{Gives}
+use Rattle.xdg_base.proofs.Told.{same_value, same_error, no_error, no_value}
+use Rattle.xdg_inputs.specs.GrammarTexts.{IsUnreadable, IsReadAs, TellsTree}
 use Rattle.xdg_io.specs.Files.{HasFile}
 use Rattle.xdg_inputs.specs.Places.{line_column}
 use Rattle.xdg_inputs.specs.Refusals.{Stops, refusal_of}
@@ -17,7 +19,7 @@ use Rattle.xdg_inputs.specs.declared.refusals.Refusal.{Refusal}
 
 -- what `read_tree` says of its answer
 abbrev pub Only : List ℕ → Result Grammar Stop → Type 0
-Only text result = (answer : Result Grammar Fault) → IsReadAs text answer → ReadsAs answer result
+Only text result = (answer : Result Grammar Fault) → IsReadAs text answer → Gives answer result
 
 -- a file has one text
 pub same_text : (files : List ℕ → Option (List ℕ)) (name s t : List ℕ) → files name ≡ Some s → files name ≡ Some t → s ≡ t
@@ -31,12 +33,12 @@ first_byte text f e = ap (λ n. record { line = line_of text n; column = column_
 
 same_read : (text : List ℕ) (tree : Grammar) (b : ReadText) → Only text (Ok tree) → b.text ≡ text → Reads b.text b.tree → b ≡ record { text = text; tree = tree }
 same_read text tree b only e r =
-    let t : b.tree ≡ tree = only (Ok b.tree) (subst (λ z. Reads z b.tree) e r) in
+    let t : b.tree ≡ tree = same_value b.tree tree (only (Ok b.tree) (subst (λ z. Reads z b.tree) e r)) in
     ap (λ z. record { text = z; tree = b.tree }) e ∙ ap (λ z. record { text = text; tree = z }) t
 
 never_bad : (text : List ℕ) (tree : Grammar) (f : Fault) → length text ≤ grammar_limit → Only text (Ok tree) → IsBadText text f → ⊥
 never_bad text tree f within only (too_long long e) = omega (arith, within, long)
-never_bad text tree f within only (unreadable small u) = only (Err f) u
+never_bad text tree f within only (unreadable small u) = no_value tree f (only (Err f) u)
 
 pub tree_accepted : (files : List ℕ → Option (List ℕ)) (name text : List ℕ) (tree : Grammar) → files name ≡ Some text → length text ≤ grammar_limit → Reads text tree → Only text (Ok tree)
     → Accepts ReadText (HasBadText files name) (HasTree files name) (record { text = text; tree = tree })
@@ -50,14 +52,14 @@ tree_accepted files name text tree file within reads only = record {
 
 one_bad : (text : List ℕ) (f g : Fault) → length text ≤ grammar_limit → Only text (Err (stops.Fault f)) → IsBadText text g → g ≡ f
 one_bad text f g within only (too_long long e) = absurd (omega (arith, within, long))
-one_bad text f g within only (unreadable small u) = only (Err g) u
+one_bad text f g within only (unreadable small u) = same_error g f (only (Err g) u)
 
 tree_rejected : (files : List ℕ → Option (List ℕ)) (name text : List ℕ) (f : Fault) → files name ≡ Some text → length text ≤ grammar_limit → IsUnreadable text f → Only text (Err (stops.Fault f))
     → Rejects ReadText (HasBadText files name) (HasTree files name) text f
 tree_rejected files name text f file within u only = record {
   is = record { file = file; because = unreadable within u };
   one = λ t g q. let e = same_text files name t text q.file file in (e, one_bad text f g within only (subst (λ z. IsBadText z g) e q.because));
-  never = λ b h. only (Ok b.tree) (subst (λ z. Reads z b.tree) (same_text files name b.text text h.file file) h.reads);
+  never = λ b h. no_error b.tree f (only (Ok b.tree) (subst (λ z. Reads z b.tree) (same_text files name b.text text h.file file) h.reads));
 }
 
 pub tree_stops : (Told : Type 0) (before after : ℕ) (files : List ℕ → Option (List ℕ)) (name text : List ℕ) (stop : Stop) → (Told → files name ≡ Some text) → length text ≤ grammar_limit → TellsTree text (Err stop) → Only text (Err stop)

@@ -3,7 +3,8 @@
 ghost use Rattle.std.specs.Prelude.{◌≤◌, Result, length};
 ghost use Rattle.xdg_ast.specs.declared.grammar.Grammar as trees;
 ghost use Rattle.xdg_base.specs.declared.faults.Fault as faults;
-ghost use Rattle.xdg_inputs.specs.GrammarTexts.{IsReadAs, ReadsAs, TellsTree};
+ghost use Rattle.xdg_base.specs.Told.{Gives};
+ghost use Rattle.xdg_inputs.specs.GrammarTexts.{IsReadAs, TellsTree};
 
 use std::alloc::Global;
 use xdg_ast::Grammar;
@@ -20,7 +21,7 @@ use xdg_parse::parse;
 pub fn read_tree(alloc: Global, text: &[u8]) -> Result<Grammar, Stop>
     requires { length text.now ≤ 4194304 }
     ensures tells { TellsTree text.now result }
-    ensures only { (answer : Result trees.Grammar faults.Fault) → IsReadAs text.now answer → ReadsAs answer result }
+    ensures only { (answer : Result trees.Grammar faults.Fault) → IsReadAs text.now answer → Gives answer result }
 {
     let tokens = match tokens(alloc, text) {
         Ok(tokens) => tokens,

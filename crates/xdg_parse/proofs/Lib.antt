@@ -21,3 +21,4 @@ pub mod Whole
 pub mod Fronts
 pub mod Unique
 pub mod Once
+pub mod Grammars
