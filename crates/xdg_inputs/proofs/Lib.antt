@@ -5,6 +5,7 @@ pub mod Trees
 pub mod Meaning
 pub mod Writing
 pub mod Wording
+pub mod Taking
 pub mod Sentencing
 pub mod Analysing
 pub mod Telling

@@ -1,11 +1,12 @@
 -- Which texts have words of a grammar, which inputs are sentences of it, and with which fault the others are refused.
-use Rattle.std.specs.Prelude.{◌≡◌, ℕ, ◌<◌, ◌≤◌, ◌+◌, Bool, List, length, Some, None, IsUtf8}
+use Rattle.std.specs.Prelude.{◌≡◌, ℕ, ◌<◌, ◌≤◌, ◌+◌, Bool, List, length, Option, Some, None, IsUtf8}
 use Rattle.std.specs.Str.{IsValidUpTo}
 use Rattle.xdg_base.specs.declared.faults.Cause.TheVariants as causes
 use Rattle.xdg_base.specs.declared.faults.Fault.{Fault}
 use Rattle.xdg_base.specs.declared.faults.Stop.{Stop}
 use Rattle.xdg_base.specs.declared.faults.Stop.TheVariants as stops
 use Rattle.xdg_problem.specs.declared.parts.Parts.{Parts}
+use Rattle.xdg_problem.specs.declared.parts.SentenceWord.{SentenceWord}
 use Rattle.xdg_linear.specs.Segments.{words_in}
 use Rattle.xdg_packed.specs.Entries.{IsWordPlace}
 use Rattle.xdg_build.specs.Grammars.{Grammar}
@@ -57,26 +58,34 @@ StopsWords m segment text stops.OutOfMemory = Unit {0}
 abbrev pub sentence_limit : ℕ
 sentence_limit = 65536
 
--- an input is no sentence of a grammar: it is too long, or else it isn't UTF-8, or else its words are refused
-pub data IsNoSentence (g : Grammar) (segment : Bool) (input : List ℕ) (refused : Fault) : Type 0 where
-  too_long : sentence_limit < length input → refused ≡ fault causes.TooLong 0 (sentence_limit + 1) → IsNoSentence g segment input refused
-  no_text : (at : ℕ) → length input ≤ sentence_limit → (IsUtf8 input → ⊥) → IsValidUpTo input at → refused ≡ fault causes.BadUtf8 at 0
-      → IsNoSentence g segment input refused
-  no_words : length input ≤ sentence_limit → IsUtf8 input → refusal g (words_in segment input) ≡ Some refused → IsNoSentence g segment input refused
+-- why a grammar refuses words, if it does
+abbrev pub Refusing : Type 0
+Refusing = Grammar → List SentenceWord → Option Fault
 
--- an input is a sentence of a grammar
-pub record IsSentence (g : Grammar) (segment : Bool) (input : List ℕ) : Type 0 where
+-- an input is refused: it is too long for a sentence, or else it isn't UTF-8, or else its words are refused
+pub data IsNoInput (why : Refusing) (g : Grammar) (segment : Bool) (input : List ℕ) (refused : Fault) : Type 0 where
+  too_long : sentence_limit < length input → refused ≡ fault causes.TooLong 0 (sentence_limit + 1) → IsNoInput why g segment input refused
+  no_text : (at : ℕ) → length input ≤ sentence_limit → (IsUtf8 input → ⊥) → IsValidUpTo input at → refused ≡ fault causes.BadUtf8 at 0
+      → IsNoInput why g segment input refused
+  no_words : length input ≤ sentence_limit → IsUtf8 input → why g (words_in segment input) ≡ Some refused → IsNoInput why g segment input refused
+
+-- an input is taken
+pub record IsInput (why : Refusing) (g : Grammar) (segment : Bool) (input : List ℕ) : Type 0 where
   pub within : length input ≤ sentence_limit
   pub text : IsUtf8 input
-  pub known : refusal g (words_in segment input) ≡ None
+  pub known : why g (words_in segment input) ≡ None
 
--- the input is refused
-pub record IsBadSentence (m : Meaning) (segment : Bool) (input text : List ℕ) (refused : Fault) : Type 0 where
+-- an input is refused as a text, by the grammar and where its entries say their words
+pub record IsBadInput (why : Refusing) (m : Meaning) (segment : Bool) (input text : List ℕ) (refused : Fault) : Type 0 where
   pub dim : ℕ
   pub field : ℕ
   pub place : IsWordPlace m.table dim field
   pub text_is : text ≡ input
-  pub because : IsNoSentence (with_words m dim field) segment input refused
+  pub because : IsNoInput why (with_words m dim field) segment input refused
+
+-- the input is no sentence
+abbrev pub IsBadSentence : Meaning → Bool → List ℕ → List ℕ → Fault → Type 0
+IsBadSentence = IsBadInput refusal
 
 -- The input is a sentence, and this is the problem that it makes: its analyses are those of the grammar and the words, and its
 -- solutions are the grammar's.
@@ -84,6 +93,6 @@ pub record HasProblem (m : Meaning) (segment : Bool) (input : List ℕ) (parts :
   pub dim : ℕ
   pub field : ℕ
   pub place : IsWordPlace m.table dim field
-  pub sentence : IsSentence (with_words m dim field) segment input
+  pub sentence : IsInput refusal (with_words m dim field) segment input
   pub parts_are : parts ≡ compiled (with_words m dim field) (words_in segment input)
   pub keeps : KeepsSolutions (with_words m dim field) (words_in segment input) parts

@@ -1,5 +1,5 @@
 -- What a drill leaves, from what its steps left.
-use Rattle.std.proofs.Common.{◌≡◌, ◌∙◌, ◌≤◌, inl, inr, ℕ, List, [], length, refl, sym, ap, subst, arith, Ok, Err, Some}
+use Rattle.std.proofs.Common.{◌≡◌, ◌∙◌, ◌≤◌, inl, inr, ℕ, List, [], length, refl, sym, ap, subst, Ok, Err, Some}
 use Rattle.std.specs.Prelude.{◌≢◌, Option}
 use Rattle.xdg_ast.specs.declared.grammar.Grammar.{Grammar}
 use Rattle.xdg_ast.specs.Derives.{Reads}
@@ -12,7 +12,7 @@ use Rattle.xdg_searches.specs.Generated.{grammar_text}
 use Rattle.xdg_inputs.specs.Meanings.{Meaning}
 use Rattle.xdg_inputs.specs.GrammarTexts.{TellsTree}
 use Rattle.xdg_io.specs.Held.{Appends, AppendsFront}
-use Rattle.xdg_io.specs.Rose.{Rose}
+use Rattle.xdg_io.proofs.Counts.{still}
 use Rattle.xdg_problem.specs.declared.parts.Parts.{Parts}
 use Rattle.xdg_inputs.specs.Outcomes.{MeaningThen}
 use Rattle.xdg_searches.specs.Outcomes.{DrillOf, DrillSentence, Drilled, drill_line, generated, status_of}
@@ -73,12 +73,6 @@ module _ (number : ℕ) (text : List ℕ) (is : text ≡ grammar_text number) (w
       (subst (Stops (Unit {0}) 0 0 ReadText (HasBadText (generated number) []) (HasTree (generated number) [])) (sym r) (tree_stops (Unit {0}) 0 0 (generated number) [] text stop (λ told. file) within tells only)) written
 
 -- ---- what is refused reads no device
-
--- no count rises from zero to zero
-
-still : Rose 0 0 → ⊥
-still (inl less) = omega (arith, less)
-still (inr full) = omega (arith, full)
 
 unread_stop : (A : Type 0) (Refused : List ℕ → Fault → Type 0) (Has : A → Type 0) (refusal : Refusal) → Stops (Unit {0}) 0 0 A Refused Has refusal → refusal ≡ refusals.Read → ⊥
 unread_stop A Refused Has refusal s e = still (subst (Stops (Unit {0}) 0 0 A Refused Has) e s)

@@ -1,7 +1,9 @@
 use Rattle.std.proofs.Common.{sym, subst}
-use Rattle.xdg_inputs.specs.Answers.{grammar_in, meaning_of}
+use Rattle.xdg_inputs.specs.Answers.{meaning_of}
 use Rattle.xdg_io.specs.Left.{TakesAll}
-use Rattle.xdg_arrange.proofs.Listing.{input_found, input_quiet, input_read, input_stops, input_taken, long_stops}
+use Rattle.xdg_inputs.proofs.Taking.{input_quiet, input_read, input_stops, input_taken}
+use Rattle.xdg_arrange.specs.Lists.{HasList, IsBadList}
+use Rattle.xdg_arrange.proofs.Listing.{input_found, long_stops}
 use Rattle.xdg_arrange.proofs.lists.read_list.Goals as goal
 
 pub returns-in-Err-TooLong-clause-refused : goal.returns-in-Err-TooLong-clause-refused
@@ -11,20 +13,20 @@ returns-in-Err-TooLong-clause-refused g c =
 
 pub returns-clause-found : goal.returns-clause-found
 returns-clause-found g c =
-    input_found (meaning_of c.args.expanded.now) c.args.segment (g.S.Source.left c.args.source.now) (g.S.Source.left c.read_all.new.source) c.deref.result.now (g.S.Source.faults c.args.source.now) (g.S.Source.faults c.read_all.new.source) (grammar_in c.args.expanded.now) c.list_in.result
+    input_found c.args.expanded.now c.args.segment (g.S.Source.left c.args.source.now) (g.S.Source.left c.read_all.new.source) c.deref.result.now c.list_in.result
     (subst (TakesAll (g.S.Source.left c.args.source.now) (g.S.Source.left c.read_all.new.source)) (sym c.deref.ensures.value) c.in-Ok.ensures.all) c.list_in.ensures.found
 
 pub returns-clause-refused : goal.returns-clause-refused
 returns-clause-refused g c =
-    input_stops (meaning_of c.args.expanded.now) c.args.segment (g.S.Source.left c.args.source.now) (g.S.Source.left c.read_all.new.source) c.deref.result.now (g.S.Source.faults c.args.source.now) (g.S.Source.faults c.read_all.new.source) c.list_in.result
+    input_stops (IsBadList (meaning_of c.args.expanded.now) c.args.segment) (HasList (meaning_of c.args.expanded.now) c.args.segment) (g.S.Source.left c.args.source.now) (g.S.Source.left c.read_all.new.source) c.deref.result.now (g.S.Source.faults c.args.source.now) (g.S.Source.faults c.read_all.new.source) c.list_in.result
     (subst (TakesAll (g.S.Source.left c.args.source.now) (g.S.Source.left c.read_all.new.source)) (sym c.deref.ensures.value) c.in-Ok.ensures.all) c.list_in.ensures.refused
 
 pub returns-clause-failed : goal.returns-clause-failed
 returns-clause-failed g c =
-    input_read (meaning_of c.args.expanded.now) c.args.segment (g.S.Source.left c.args.source.now) (g.S.Source.left c.read_all.new.source) c.deref.result.now (g.S.Source.faults c.args.source.now) (g.S.Source.faults c.read_all.new.source) c.list_in.result c.list_in.ensures.refused
+    input_read (IsBadList (meaning_of c.args.expanded.now) c.args.segment) (HasList (meaning_of c.args.expanded.now) c.args.segment) (g.S.Source.left c.args.source.now) (g.S.Source.left c.read_all.new.source) c.deref.result.now (g.S.Source.faults c.args.source.now) (g.S.Source.faults c.read_all.new.source) c.list_in.result c.list_in.ensures.refused
 
 pub returns-clause-all : goal.returns-clause-all
-returns-clause-all g c = input_taken (meaning_of c.args.expanded.now) c.args.segment (g.S.Source.left c.args.source.now) (g.S.Source.left c.read_all.new.source) c.in-Ok.input.items (g.S.Source.faults c.args.source.now) (g.S.Source.faults c.read_all.new.source) c.list_in.result c.in-Ok.ensures.all
+returns-clause-all g c = input_taken (g.S.Source.left c.args.source.now) (g.S.Source.left c.read_all.new.source) c.in-Ok.input.items c.list_in.result c.in-Ok.ensures.all
 
 pub returns-clause-quiet : goal.returns-clause-quiet
 returns-clause-quiet g c = input_quiet c.list_in.result (g.S.Source.faults c.args.source.now) (g.S.Source.faults c.read_all.new.source) c.in-Ok.ensures.quiet
