@@ -21,7 +21,7 @@ alike-before (t ∷ ts) = (seen-before t.kind t.text, alike-before ts)
 
 starts-lifted : (us : List Lexeme) → Starts seen_rules (seen_all us) → Starts rules_of us
 starts-lifted us s =
-    let found = (rules_rule 0 s.2.0).bears.by (seen_all us ++ s.0) (seen_all us ++ seen_all (map before s.0)) s.1
+    let found = (rules_rule 0 s.2.0).bears.by (seen_all us ++ s.0) (seen_all us ++ seen_all (map before s.0)) s.1.rules
     (alike-both (seen_all us) (seen_all us) s.0 (seen_all (map before s.0)) (alike-self (seen_all us)) (alike-before s.0)) s.2.1 in
     (map before s.0, record { rules = found.0 }, (s.2.0, subst (λ ts. (rules s.2.0).means ts found.0) (sym (map-append seen us (map before s.0))) found.1))
 

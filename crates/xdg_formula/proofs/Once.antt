@@ -20,7 +20,7 @@ use Rattle.xdg_formula.specs.Words.{seen_all}
 use Rattle.xdg_formula.proofs.Lawful.{rules_rule}
 use Rattle.xdg_formula.proofs.Lifted.{refused-lifted, shallow-back}
 
-pub readable : Readable rules seen_rules
+unfoldable pub readable : Readable rules seen_rules
 readable = record {
   law = λ d n. (rules_rule d n).rule.law;
   steady = λ n. (rules_rule n n).rule.steady;

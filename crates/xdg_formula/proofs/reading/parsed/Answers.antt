@@ -7,6 +7,7 @@ use Rattle.xdg_parse.proofs.Whole.{whole-tells, part-tells, stop-tells, deep-tel
 use Rattle.xdg_formula.proofs.reading.parsed.Goals as goal
 
 pub returns-in-None : goal.returns-in-None
+unfolding readable
 returns-in-None c = (whole-tells rules seen_rules readable (lexemes_of c.args.tokens.now) c.args.end _ c.new-cursor.ensures _ _ c.in-Ok.ensures (sym c.in-None.ensures)).0
 
 pub returns-in-Some : goal.returns-in-Some
