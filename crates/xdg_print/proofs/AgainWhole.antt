@@ -14,7 +14,7 @@ use Rattle.xdg_ast.specs.declared.grammar.StatementKind.TheVariants as s
 use Rattle.xdg_ast.specs.declared.grammar.Grammar.{Grammar}
 use Rattle.xdg_ast.specs.Language.{Language, span_of, is, token, made}
 use Rattle.xdg_ast.specs.Grammar.{Params, Term, Expr, DimPart, name_of, inside, name, term, expr, preset, class_param, class_params, params_of, body, class_tail, parts, statement_kind, statement, statements}
-use Rattle.xdg_ast.specs.Derives.{DerivesWithin}
+use Rattle.xdg_ast.specs.Derives.{grammars}
 use Rattle.xdg_ast.specs.Words.{Word, word_of, mark, constant, IsSpellable, AreSpellable}
 use Rattle.xdg_ast.specs.Trees.{name_word, term_words}
 use Rattle.xdg_ast.specs.Canon.{Line, line, indented, part_words, preset_words, class_param_words, body_words, statement_words, statement_lines, line_text, lines_of, canon}
@@ -168,9 +168,9 @@ same_at g h e = (
 )
 
 -- The words of a grammar that was read from spellable tokens are spellable, and all tokens with these words are read as the same grammar.
-pub derives_again : (n : ℕ) (ts : List Lexeme) (g : Grammar) → DerivesWithin n ts g → AreSpellable (map word_of ts)
+pub derives_again : (n : ℕ) (ts : List Lexeme) (g : Grammar) → grammars n ts g → AreSpellable (map word_of ts)
     → AreSpellable (flat_map (λ line. line.words) (lines_of g))
-    × ((us : List Lexeme) → map word_of us ≡ flat_map (λ line. line.words) (lines_of g) → (h : Grammar) × DerivesWithin n us h × Same g h × (canon h ≡ canon g))
+    × ((us : List Lexeme) → map word_of us ≡ flat_map (λ line. line.words) (lines_of g) → (h : Grammar) × grammars n us h × Same g h × (canon h ≡ canon g))
 derives_again n ts g d sp =
     let kept = at_words (sym (lines_are g.statements)) ((statements_keep n).all.by ts g.statements d.0 sp) in (
       kept.spellable,
