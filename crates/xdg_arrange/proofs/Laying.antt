@@ -7,7 +7,7 @@ use Rattle.xdg_text.specs.Blocks.{shown}
 use Rattle.xdg_split.specs.Printed.{blocks}
 use Rattle.xdg_text.specs.declared.form.Form.TheVariants as forms
 use Rattle.xdg_split.proofs.Boxing.{boxed_listing}
-use Rattle.xdg_split.proofs.FoundSoFar.{all_answers, blocks_found, first_answers, map_more, spent_answers}
+use Rattle.xdg_split.proofs.FoundSoFar.{all_answers, blocks_found, first_answers, spent_answers}
 use Rattle.xdg_arrange.specs.Found.{Adds, Finds, led_block, led_blocks}
 use Rattle.xdg_arrange.proofs.Finding.{finds_of}
 use Rattle.xdg_io.specs.Held.{Appends, AppendsFront}

@@ -1,5 +1,5 @@
 -- The words that an input gives: accepted or rejected.
-use Rattle.std.proofs.Common.{◌≡◌, ℕ, ◌<◌, ◌≤◌, ◌+◌, Bool, List, ◌++◌, length, length-append, Some, None, Ok, Err, refl, sym, ◌∙◌, ap, ap₂, subst, arith}
+use Rattle.std.proofs.Common.{◌≡◌, ℕ, ◌≤◌, ◌+◌, Bool, List, ◌++◌, length, length-append, Some, None, Ok, Err, refl, sym, ◌∙◌, ap, ap₂, subst, arith}
 use Rattle.std.specs.Prelude.{Option, Result, IsUtf8, IfOk}
 use Rattle.xdg_arrange.specs.Lists.{HasList, IsBadList, IsRefused, Listed, refusal, refusing}
 use Rattle.xdg_base.specs.declared.faults.Cause.TheVariants as causes

@@ -9,13 +9,12 @@ use Rattle.xdg_build.specs.Compiled.{compiled}
 use Rattle.xdg_build.specs.Solutions.{KeepsSolutions}
 use Rattle.xdg_build.specs.Grammars.{Grammar}
 use Rattle.xdg_io.specs.Held.{Appends, AppendsFront}
-use Rattle.xdg_io.proofs.Written.{appends_both, appends_nothing, front_of_first, front_of_second}
+use Rattle.xdg_io.proofs.Written.{appends_both, front_of_first, front_of_second}
 use Rattle.xdg_linear.specs.Ranks.{words_at}
 use Rattle.xdg_facts.specs.declared.Ending.{Ending}
 use Rattle.xdg_facts.specs.declared.Ending.TheVariants as endings
 use Rattle.xdg_inputs.specs.Runs.{Ends}
 use Rattle.xdg_inputs.specs.declared.status.Status.{Status}
-use Rattle.xdg_inputs.specs.declared.status.Status.TheVariants as statuses
 use Rattle.xdg_problem.specs.declared.analysis.Analysis.{Analysis}
 use Rattle.xdg_problem.specs.declared.parts.SentenceWord.{SentenceWord}
 

@@ -1,5 +1,5 @@
 -- An input, whose words are refused or taken, and what a source gives of it.
-use Rattle.std.proofs.Common.{◌≡◌, inl, inr, ℕ, ◌+◌, ◌<◌, ◌≤◌, Bool, List, [], length, Some, Ok, Err, refl, sym, ◌∙◌, ap, subst, arith}
+use Rattle.std.proofs.Common.{◌≡◌, ℕ, ◌+◌, ◌<◌, ◌≤◌, Bool, List, [], length, Some, Ok, Err, refl, sym, ◌∙◌, ap, subst, arith}
 use Rattle.std.specs.Prelude.{◌≢◌, Option, Result, IsUtf8, IfOk, IfErr, MatchResult}
 use Rattle.std.specs.Str.{IsValidUpTo}
 use Rattle.xdg_facts.proofs.Texts.{one_place}

@@ -1,5 +1,5 @@
 -- What the decisions of a box cost at the least, and the rules that a bound on costs is.
-use Rattle.std.specs.Prelude.{◌≡◌, ℕ, zero, suc, ◌+◌, ◌≤◌, ◌&&◌, Bool, cond, not, List, [], Option, Some, None, filter, length, Contains, slice_index_or}
+use Rattle.std.specs.Prelude.{ℕ, zero, suc, ◌+◌, ◌≤◌, ◌&&◌, Bool, cond, not, List, [], Option, Some, None, filter, length, Contains, slice_index_or}
 use Rattle.std.specs.List.{sum_by}
 use Prim.Native.Nat.{min}
 use Rattle.xdg_problem.specs.declared.analysis.Edge.{Edge}

@@ -1,4 +1,4 @@
-use Rattle.std.proofs.Common.{◌∙◌, ◌++◌, arith, map, refl, subst, sym}
+use Rattle.std.proofs.Common.{◌∙◌, arith, map, refl, subst, sym}
 use Rattle.std.specs.Prelude.{codes}
 use Rattle.xdg_split.proofs.Ending.{done_of, failed_of}
 use Rattle.xdg_split.proofs.FoundSoFar.{analysis_is}

@@ -1,6 +1,5 @@
 use Rattle.std.proofs.Common.{◌≡◌, ◌<◌, ◌⊎◌, inl, inr, map, sym, subst, rules}
 use Rattle.std.specs.String.{string_bytes}
-use Rattle.xdg_command.specs.declared.commands.Command.TheVariants as commands
 use Rattle.xdg_text.specs.Lines.{usage_line}
 use Rattle.xdg_top.specs.Outcomes.{CommandOf, IsUsage, OutcomeOf}
 use Rattle.xdg_top.specs.Runs.{EndsWith, IsRefusedFile, ReadsInput}
