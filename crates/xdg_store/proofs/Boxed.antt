@@ -3,7 +3,7 @@ use Rattle.std.proofs.Common.{◌≡◌, ◌≢◌, ℕ, ◌<◌, ◌≤◌, inl
 use Rattle.std.specs.Prelude.{sum}
 use Rattle.std.specs.List.{AllByRecursion, flat_map}
 use Rattle.std.proofs.lemmas.Bool.{cases_eq}
-use Rattle.std.proofs.lemmas.List.{length-map, length-replicate, length-set, get_or-set_same, get_or-set_other}
+use Rattle.std.proofs.lemmas.List.{length-map, length-replicate, length-set}
 use Rattle.std.proofs.lemmas.List.Elements.{recursion_from_All}
 use Rattle.std.proofs.lemmas.List.Sums.{sum_by-cons}
 use Rattle.xdg_problem.specs.declared.analysis.Edge.{Edge}
@@ -17,7 +17,7 @@ use Rattle.xdg_problem.specs.Vectors.{attr_sizes, shape}
 use Rattle.xdg_problem.proofs.Ordered.{each_append, each_flat_map, each_map, each_of_all, each_weaker}
 use Rattle.xdg_store.specs.States.{values_in, remaining}
 use Rattle.xdg_store.proofs.Counting.{Filled}
-use Rattle.xdg_problem.proofs.BoxPlaces.{has_decision}
+use Rattle.xdg_problem.proofs.BoxWithout.{without_has}
 
 -- ---- what has a value
 
@@ -28,20 +28,12 @@ has_place (x ∷ row) (suc v) h = let e = has_place row v h in omega (arith, e)
 
 -- ---- a value is taken that isn't the last of its decision
 
-pub kept_beside : (box : List (List Bool)) (d v x : ℕ) → Has box d x → x ≢ v → Has (without box d v) d x
-kept_beside box d v x h n =
-    ap (λ row. get_or row x false) (get_or-set_same box d (set (get_or box d []) v false) [] (has_decision box d x h))
-    ∙ get_or-set_other (get_or box d []) v x false false n ∙ h
-
-pub kept_elsewhere : (box : List (List Bool)) (d v e x : ℕ) → Has box e x → e ≢ d → Has (without box d v) e x
-kept_elsewhere box d v e x h n = ap (λ row. get_or row x false) (get_or-set_other box d e (set (get_or box d []) v false) [] n) ∙ h
-
 pub filled_taken : (box : List (List Bool)) (d v x : ℕ) → Filled box → Has box d x → x ≢ v → Filled (without box d v)
 filled_taken box d v x f h n e l =
     let s = length-set box d (set (get_or box d []) v false) in
     elim (cases_eq e d) [
-      | inl same ↦ (x, subst (λ i. Has (without box d v) i x) (sym same) (kept_beside box d v x h n))
-      | inr other ↦ (let g = f e (omega (arith, l, s)) in (g.0, kept_elsewhere box d v e g.0 g.1 other))
+      | inl same ↦ (x, (without_has box d v e x).1 (subst (λ i. Has box i x) (sym same) h, λ at. n))
+      | inr other ↦ (let g = f e (omega (arith, l, s)) in (g.0, (without_has box d v e g.0).1 (g.1, λ same. absurd (other same))))
     ]
 
 -- ---- how many values the decisions have at first

@@ -8,12 +8,12 @@ use Rattle.xdg_problem.specs.declared.parts.DimPlan.{DimPlan}
 use Rattle.xdg_problem.specs.declared.parts.Parts.{Parts}
 use Rattle.xdg_problem.specs.Analyses.{IsPlace}
 use Rattle.xdg_problem.specs.Arguments.{attr_count, no_plan}
-use Rattle.xdg_problem.specs.Boxes.{May, Must, entry_decision, attr_decision, edge_decision, place_in}
-use Rattle.xdg_problem.specs.Places.{edge, nodes, places}
+use Rattle.xdg_problem.specs.Boxes.{May, Must, entry_decision, attr_decision, edge_decision}
+use Rattle.xdg_problem.specs.Places.{edge, nodes}
 use Rattle.xdg_problem.specs.Problems.{IsProblem}
 use Rattle.xdg_problem.proofs.AttrPlaces.{attr_within}
 use Rattle.xdg_problem.proofs.BoxPlaces.{has_decision}
-use Rattle.xdg_problem.proofs.PlaceOrder.{place_is}
+use Rattle.xdg_problem.proofs.PlaceFound.{same_place}
 use Rattle.xdg_problem.proofs.PlacePlans.{dim_within, plan_read}
 use Rattle.xdg_trail.specs.Trailed.{Trailed, past}
 use Rattle.xdg_store.specs.Across.{AreFull, AreKept, AreMothers, Fits, FitsIn, Forbids, Forces, IsFull, IsKept, OnlyOthers, Renews, RenewsAll, edge_at, in_may, in_must, mothers_at, no_mothers, row_count}
@@ -37,19 +37,11 @@ use Rattle.xdg_store.proofs.Noting.{IsOneStep, Leaves, LeavesOne, one_step, same
 use Rattle.xdg_store.proofs.Histories.{cut_last, history_cut, history_length, known_of, seen}
 use Rattle.xdg_store.proofs.Daughters.{out_is_place}
 use Rattle.xdg_store.proofs.Deciding.{has_bits}
-use Rattle.xdg_store.proofs.Located.{place_found}
 use Rattle.xdg_store.proofs.Pairs.{IsPair, edge_is_pair, may_has, may_read, must_has, must_read}
 use Rattle.xdg_store.proofs.Starting.{ones_set}
 use Rattle.xdg_facts.specs.Rises.{has}
 
 -- ---- decisions that are apart
-
-pub same_place : (parts : Parts) (e f : Edge) → IsPlace parts e → IsPlace parts f → edge_decision parts f ≡ edge_decision parts e → f ≡ e
-same_place parts e f is other same =
-    let a = place_found (places parts) e (place_is parts e is) in
-    let b = place_found (places parts) f (place_is parts f other) in
-    let q : place_in (places parts) f ≡ place_in (places parts) e = omega (arith, same) in
-    sym b.1 ∙ get_or_default (places parts) (place_in (places parts) f) f e b.0 ∙ ap (λ i. get_or (places parts) i e) q ∙ a.1
 
 pub not_entry : (parts : Parts) (e : Edge) (node : ℕ) → IsProblem parts → node < nodes parts → edge_decision parts e ≢ entry_decision node
 not_entry parts e node p l same = (let each = p.candidates_each in omega (arith, each, l, same))

@@ -7,6 +7,7 @@ use Rattle.std.proofs.lemmas.Bool.{cases_eq, cases_lt, eq-eqb, eqb-true, false�
 use Rattle.std.proofs.lemmas.List.{get_or_default, get_or-set_other, get_or-set_same, length-set}
 use Rattle.std.proofs.lemmas.Nat.{one_shl}
 use Rattle.std.proofs.lemmas.Nat.Bits.{bit_at_above, bit_at_and, bit_at_clear_other, bit_at_clear_same, bit_at_ones, bit_at_ones_above, bit_at_set_same}
+use Rattle.xdg_facts.proofs.Rising.{contains_of_has}
 use Rattle.xdg_facts.proofs.Truths.{either_true, or_false, or_here}
 use Rattle.xdg_facts.specs.Rises.{has, Rises}
 use Rattle.xdg_nodeset.specs.Nodes.{IsNodes}
@@ -63,7 +64,7 @@ all_bits count wanted most least is label =
 
 -- ---- how many nodes a set has
 
-some_in : (nodes : List ℕ) → 0 < length nodes → IsSome (λ m. IsTrue (has nodes m))
+pub some_in : (nodes : List ℕ) → 0 < length nodes → IsSome (λ m. IsTrue (has nodes m))
 some_in [] l = absurd (omega (arith, l))
 some_in (a ∷ nodes) l = (a, or_here (a == a) (has nodes a) (eq-eqb a a refl))
 
@@ -81,10 +82,6 @@ two_in (a ∷ b ∷ nodes) rises l = (
   either_true (a == b) (has (b ∷ nodes) b) (or_here (b == b) (has nodes b) (eq-eqb b b refl)),
 )
 
-one_node : (nodes : List ℕ) (m : ℕ) → has nodes m ≡ true → 0 < length nodes
-one_node [] m h = absurd (false≢true h)
-one_node (a ∷ nodes) m h = omega arith
-
 two_nodes : (nodes : List ℕ) (m k : ℕ) → m ≢ k → has nodes m ≡ true → has nodes k ≡ true → 1 < length nodes
 two_nodes [] m k differ h i = absurd (false≢true h)
 two_nodes (a ∷ []) m k differ h i = absurd (differ (sym (eqb-true a m (sym (or_false (a == m)) ∙ h)) ∙ eqb-true a k (sym (or_false (a == k)) ∙ i)))
@@ -95,7 +92,7 @@ marks_of nodes label count old some more is size some_is some_rest more_is more_
   here = record {
     some = (
       λ h. some_in nodes (let l = ltb-true 0 count (some_is.0 h) in omega (arith, l, size)),
-      λ (m, h). some_is.1 (lt-ltb 0 count (let l = one_node nodes m h in omega (arith, l, size))),
+      λ (m, h). some_is.1 (lt-ltb 0 count (let l = (contains_of_has nodes m h).1 in omega (arith, l, size))),
     );
     more = (
       λ h. two_in nodes is.rises (let l = ltb-true 1 count (more_is.0 h) in omega (arith, l, size)),

@@ -1,8 +1,6 @@
 -- Where the bits of an entry, of an attribute and of an edge stand among those of all decisions.
-use Rattle.std.proofs.Common.{◌≡◌, ℕ, ◌<◌, ◌+◌, ◌*◌, true, cond, inl, inr, List, [], ◌∷◌, ◌++◌, length, get_or, take, map, ap, sym, ◌∙◌, arith, subst, zero, suc, refl, length-append}
-use Rattle.std.specs.Prelude.{Contains}
+use Rattle.std.proofs.Common.{◌≡◌, ℕ, ◌<◌, ◌+◌, ◌*◌, List, [], ◌∷◌, ◌++◌, length, get_or, take, map, ap, sym, ◌∙◌, arith, zero, suc, refl, length-append}
 use Rattle.std.specs.List.{flat_map}
-use Rattle.std.proofs.lemmas.Bool.{cases_Bool}
 use Rattle.std.proofs.lemmas.Nat.{row_fits}
 use Rattle.std.proofs.lemmas.List.{get_or-map, get_or_append_left, get_or-append-add, length-map}
 use Rattle.xdg_base.specs.declared.ids.EntryNo.{EntryNo}
@@ -13,12 +11,11 @@ use Rattle.xdg_problem.specs.declared.parts.Parts.{Parts}
 use Rattle.xdg_problem.specs.Analyses.{IsPlace}
 use Rattle.xdg_problem.specs.Arguments.{no_plan, no_attr, attr_count, value_count, attr_place}
 use Rattle.xdg_problem.specs.Boxes.{entry_decision, attr_decision, edge_decision, place_in}
-use Rattle.xdg_problem.specs.Places.{numbers_from, below, nodes, places, same_edge}
+use Rattle.xdg_problem.specs.Places.{numbers_from, below, nodes, places}
 use Rattle.xdg_problem.specs.Vectors.{attr_sizes, first_place}
 use Rattle.xdg_problem.proofs.AttrPlaces.{attr_within}
 use Rattle.xdg_problem.proofs.Counted.{length_attrs_of}
-use Rattle.xdg_problem.proofs.Edges.{same_edge_equal, same_edge_itself}
-use Rattle.xdg_problem.proofs.Ordered.{contains_cases, contains_none}
+use Rattle.xdg_problem.proofs.PlaceFound.{place_found}
 use Rattle.xdg_problem.proofs.PlaceOrder.{place_is}
 use Rattle.xdg_store.specs.Layout.{entry_row, attr_row, block, entry_bits, row_bits, attr_bits, pair_bits, bits_of}
 use Rattle.xdg_store.proofs.Sizes.{attr_lengths}
@@ -116,18 +113,6 @@ attr_at n dim (plan ∷ plans) (suc d) node attr l m k =
     ∙ get_or-append-add (plan_bits n dim plan) (attr_bits n (suc dim) plans) (length (attr_sizes n (take d plans)) + (node * w + attr)) []
     ∙ attr_at n (suc dim) plans d node attr (omega arith) m k
     ∙ ap (λ i. numbers_from (attr_row n i node attr) (length (get_or (get_or plans d no_plan).attrs attr no_attr).values)) z
-
--- ---- edges
-
-pub place_found : (xs : List Edge) (e : Edge) → Contains xs e → (place_in xs e < length xs) × (get_or xs (place_in xs e) e ≡ e)
-place_found [] e c = absurd (contains_none e c)
-place_found (x ∷ xs) e c = elim (cases_Bool (same_edge x e)) [
-  | inl t ↦ subst (λ b. (cond b 0 (suc (place_in xs e)) < suc (length xs)) × (get_or (x ∷ xs) (cond b 0 (suc (place_in xs e))) e ≡ e)) (sym t) (omega arith, same_edge_equal x e t)
-  | inr f ↦ subst (λ b. (cond b 0 (suc (place_in xs e)) < suc (length xs)) × (get_or (x ∷ xs) (cond b 0 (suc (place_in xs e))) e ≡ e)) (sym f) (elim (contains_cases x xs e c) [
-    | inl s ↦ absurd (let t : same_edge x e ≡ true = ap (same_edge x) (sym s) ∙ same_edge_itself x in cc)
-    | inr h ↦ (let r = place_found xs e h in ((let q = r.0 in omega (arith, q)), r.1))
-  ])
-]
 
 -- ---- all
 

@@ -17,7 +17,7 @@ use Rattle.xdg_store.proofs.Apart.{bits_apart}
 use Rattle.xdg_store.proofs.Counting.{remaining_inside, remaining_taken}
 use Rattle.xdg_store.proofs.Deciding.{HasBits, own_bits}
 use Rattle.xdg_store.proofs.Histories.{length-states, present, seen}
-use Rattle.xdg_store.proofs.Leaving.{others_stay}
+use Rattle.xdg_problem.proofs.BoxWithout.{lies_without}
 use Rattle.xdg_store.proofs.Noting.{LeavesAll, block_step}
 use Rattle.xdg_store.proofs.Removals.{box_sizes, has_bit, has_size}
 use Rattle.xdg_store.proofs.Separate.{box_alike}
@@ -27,10 +27,7 @@ use Rattle.xdg_store.proofs.Separate.{box_alike}
 -- a box in another that has a value more has less values
 remaining_less : (new old : List (List Bool)) (d v : ℕ) → LiesIn new old → Has old d v → (Has new d v → ⊥) → remaining new + 1 ≤ remaining old
 remaining_less new old d v inside h gone =
-    let a = remaining_inside new (without old d v) (λ e x k. others_stay old d v e x (inside e x k) (elim (cases_eq e d) [
-      | inl same ↦ inr (λ q. gone (subst (λ i. Has new i v) same (subst (λ i. Has new e i) q k)))
-      | inr n ↦ inl n
-    ])) in
+    let a = remaining_inside new (without old d v) (lies_without new old d v inside gone) in
     let b = remaining_taken old d v h in
     omega (arith, a, b)
 
