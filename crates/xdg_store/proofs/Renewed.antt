@@ -1,16 +1,14 @@
 -- Edges by their daughters.
-use Rattle.std.proofs.Common.{◌≡◌, ◌≢◌, ◌⊎◌, ℕ, ◌<◌, ◌≤◌, ◌+◌, ◌*◌, ◌/◌, ◌%◌, inl, inr, Bool, not, List, [], length, get_or, set, refl, ap, sym, ◌∙◌, arith, subst}
+use Rattle.std.proofs.Common.{◌≡◌, ◌≢◌, ◌⊎◌, ℕ, ◌<◌, ◌+◌, ◌*◌, ◌/◌, ◌%◌, inl, inr, Bool, not, List, [], ◌∷◌, ◌++◌, length, get_or, set, take, refl, ap, sym, ◌∙◌, arith, subst}
 use Rattle.std.specs.Prelude.{◌&&◌, ◌==◌, Contains, nat_lt}
-use Rattle.std.proofs.lemmas.Bool.{and_from, and_parts, cases_eq, cases_lt, eqb-false, lt-ltb, ltb-true, ne_eqb, not-true}
+use Rattle.std.proofs.lemmas.Bool.{and_from, and_parts, cases_eq, eqb-false, lt-ltb, ltb-true, ne_eqb, not-true}
 use Rattle.std.proofs.lemmas.Nat.{div-mul-add, mod-mul-add}
-use Rattle.std.proofs.lemmas.List.{get_or_default, get_or-set_other, get_or-set_same, length-set}
-use Rattle.xdg_base.specs.declared.ids.AttrId.{AttrId}
-use Rattle.xdg_base.specs.declared.ids.DimId.{DimId}
-use Rattle.xdg_base.specs.declared.ids.NodeId.{NodeId}
+use Rattle.std.proofs.lemmas.List.{get_or-set_other, get_or-set_same, length-set, take_more}
+use Rattle.std.proofs.lemmas.List.Elements.{Contains-push_cases}
 use Rattle.xdg_facts.specs.Rises.{has}
 use Rattle.xdg_problem.specs.declared.analysis.Edge.{Edge}
 use Rattle.xdg_problem.proofs.Edges.{edge_equal}
-use Rattle.xdg_store.specs.Across.{Fits, FitsIn, IsFull, IsKept, OnlyOthers, Renews, RenewsAll, RenewsBy, RenewsOf, Sets, daughter_at, edge_at, in_may, in_must, mothers_at}
+use Rattle.xdg_store.specs.Across.{Fits, FitsIn, IsFull, IsKept, OnlyOthers, Renews, RenewsAll, RenewsOf, Sets, daughter_at, edge_at, in_may, in_must, mothers_at}
 use Rattle.xdg_store.specs.declared.across.Mothers.{Mothers}
 use Rattle.xdg_store.specs.declared.decision.Decision.{Decision}
 use Rattle.xdg_store.specs.declared.decision.Decision.TheVariants as decisions
@@ -51,10 +49,6 @@ kept_beside n words e f possible certain old new p q renews here kept = elim (ca
     moved : (edge_at n e ≢ edge_at n f) ⊎ (e.mother.0 ≢ f.mother.0) → e ≢ f → IsKept n words new e
     moved w differ = let k = kept differ in record { may = renews.may.others (edge_at n e) e.mother.0 w ∙ k.may; must = renews.must.others (edge_at n e) e.mother.0 w ∙ k.must }
 
--- by words
-kept_here : (n : ℕ) (words : List ℕ) (e : Edge) (old new : List Mothers) → RenewsBy n words e old new → IsKept n words new e
-kept_here n words e old new renews = record { may = renews.may.here; must = renews.must.here }
-
 -- its mother is another node
 pub others_stay : (has_mother : List Mothers → ℕ → ℕ → Bool) (n : ℕ) (e : Edge) (wanted : Bool) (old new : List Mothers) → Sets has_mother n e wanted old new → e.mother.0 < n → e.mother.0 ≢ daughter_at n (edge_at n e) → OnlyOthers has_mother n old → OnlyOthers has_mother n new
 others_stay has_mother n e wanted old new sets l differ only place mother h = elim (cases_eq place (edge_at n e)) [
@@ -75,74 +69,52 @@ renews_both n e possible certain possible' certain' old mid new a b first second
 
 -- ---- the edges of some decisions
 
--- those of the first decisions, so many, are made anew
-pub record RenewedUpTo (n : ℕ) (words : List ℕ) (changed : List Decision) (old new : List Mothers) (count : ℕ) : Type 0 where
-  pub count_stays : length new ≡ length old
-  pub each : (e : Edge) → Fits n (length old) e → IsKept n words old e ⊎ ((k : ℕ) × (k < count) × (get_or changed k (decisions.Place e) ≡ decisions.Place e)) → IsKept n words new e
+pub renews_none : (n : ℕ) (words : List ℕ) (rows : List Mothers) → RenewsAll n words [] rows rows
+renews_none n words rows = record {
+  count = refl;
+  each = λ e fits w. elim w [
+    | inl kept ↦ kept
+    | inr (k, l, is) ↦ absurd (omega (arith, l))
+  ];
+}
 
-module _ (n : ℕ) (words : List ℕ) (changed : List Decision) (old : List Mothers) where
-  pub upto_start : RenewedUpTo n words changed old old 0
-  upto_start = record { count_stays = refl; each = λ e fits w. started e w }
-    where
-      started : (e : Edge) → IsKept n words old e ⊎ ((k : ℕ) × (k < 0) × (get_or changed k (decisions.Place e) ≡ decisions.Place e)) → IsKept n words old e
-      started e (inl kept) = kept
-      started e (inr (k, l, is)) = absurd (omega (arith, l))
-
-  abbrev edge_in : Edge → Decision → Edge
-  edge_in default (decisions.Entry node) = default
-  edge_in default (decisions.Attr dim node attr) = default
-  edge_in default (decisions.Place e) = e
-
-  no_edge_entry : (node : NodeId) (e : Edge) → decisions.Entry node ≡ decisions.Place e → ⊥
-  no_edge_entry node e same = cc
-
-  no_edge_attr : (dim : DimId) (node : NodeId) (attr : AttrId) (e : Edge) → decisions.Attr dim node attr ≡ decisions.Place e → ⊥
-  no_edge_attr dim node attr e same = cc
-
-  module _ (mid new : List Mothers) (i : ℕ) (so_far : RenewedUpTo n words changed old mid i) where
-    -- what was kept by then, unless it is the decision at i that is one on the edge
-    kept_then : (decision default : Decision) → i < length changed → get_or changed i default ≡ decision → (e : Edge) → Fits n (length old) e → IsKept n words old e ⊎ ((k : ℕ) × (k < i + 1) × (get_or changed k (decisions.Place e) ≡ decisions.Place e)) → IsKept n words mid e ⊎ (decision ≡ decisions.Place e)
-    kept_then decision default l is e fits (inl kept) = inl (so_far.each e fits (inl kept))
-    kept_then decision default l is e fits (inr (k, m, at)) = elim (cases_lt k i) [
-      | inl less ↦ inl (so_far.each e fits (inr (k, less, at)))
-      | inr more ↦ inr (let q : i ≡ k = omega (arith, m, more) in sym is ∙ get_or_default changed i default (decisions.Place e) l ∙ ap (λ j. get_or changed j (decisions.Place e)) q ∙ at)
+module _ (n : ℕ) (words : List ℕ) (done : List Decision) (old mid new : List Mothers) (so_far : RenewsAll n words done old mid) where
+  -- with one more
+  module _ (decision : Decision) where
+    -- an edge is kept by then, unless the decision is the one on it
+    kept_then : (e : Edge) → Fits n (length old) e → IsKept n words old e ⊎ Contains (done ++ decision ∷ []) (decisions.Place e) → IsKept n words mid e ⊎ (decision ≡ decisions.Place e)
+    kept_then e fits (inl kept) = inl (so_far.each e fits (inl kept))
+    kept_then e fits (inr among) = elim (Contains-push_cases done decision (decisions.Place e) among) [
+      | inl before ↦ inl (so_far.each e fits (inr before))
+      | inr is ↦ inr is
     ]
 
-    pub upto_turn : (decision default : Decision) → i < length changed → get_or changed i default ≡ decision → FitsIn n (length old) (length words) decision → RenewsOf n words decision mid new → RenewedUpTo n words changed old new (i + 1)
-    upto_turn (decisions.Entry node) default l is fits same = subst (λ rows. RenewedUpTo n words changed old rows (i + 1)) (sym same) (record {
-      count_stays = so_far.count_stays;
-      each = λ e p w. elim (kept_then (decisions.Entry node) default l is e p w) [
+    rows_stay : ((e : Edge) → decision ≡ decisions.Place e → ⊥) → new ≡ mid → RenewsAll n words (done ++ decision ∷ []) old new
+    rows_stay none same = subst (RenewsAll n words (done ++ decision ∷ []) old) (sym same) (record {
+      count = so_far.count;
+      each = λ e fits w. elim (kept_then e fits w) [
         | inl kept ↦ kept
-        | inr q ↦ absurd (no_edge_entry node e q)
+        | inr is ↦ absurd (none e is)
       ];
     })
-    upto_turn (decisions.Attr dim node attr) default l is fits same = subst (λ rows. RenewedUpTo n words changed old rows (i + 1)) (sym same) (record {
-      count_stays = so_far.count_stays;
-      each = λ e p w. elim (kept_then (decisions.Attr dim node attr) default l is e p w) [
-        | inl kept ↦ kept
-        | inr q ↦ absurd (no_edge_attr dim node attr e q)
-      ];
-    })
-    upto_turn (decisions.Place f) default l is fits renews = record {
-      count_stays = renews.count ∙ so_far.count_stays;
-      each = λ e p w. kept_beside n words e f _ _ mid new (there e p) (there f fits.0) renews (kept_here n words f mid new renews) (λ differ. elim (kept_then (decisions.Place f) default l is e p w) [
-        | inl kept ↦ kept
-        | inr q ↦ absurd (differ (sym (ap (edge_in f) q)))
-      ]);
-    }
-      where
-        there : (e : Edge) → Fits n (length old) e → Fits n (length mid) e
-        there e p = subst (λ rows. Fits n rows e) (sym so_far.count_stays) p
 
-  pub upto_end : (new : List Mothers) (i : ℕ) → length changed ≤ i → RenewedUpTo n words changed old new i → RenewsAll n words changed old new
-  upto_end new i most so_far = record {
-    count = so_far.count_stays;
-    each = λ e fits w. so_far.each e fits (widened e w);
-  }
-    where
-      widened : (e : Edge) → IsKept n words old e ⊎ Contains changed (decisions.Place e) → IsKept n words old e ⊎ ((k : ℕ) × (k < i) × (get_or changed k (decisions.Place e) ≡ decisions.Place e))
-      widened e (inl kept) = inl kept
-      widened e (inr (k, l, is)) = inr (k, omega (arith, l, most), is)
+  renews_more : (decision : Decision) → FitsIn n (length old) (length words) decision → RenewsOf n words decision mid new → RenewsAll n words (done ++ decision ∷ []) old new
+  renews_more (decisions.Entry node) fits same = rows_stay (decisions.Entry node) (λ e q. cc) same
+  renews_more (decisions.Attr dim node attr) fits same = rows_stay (decisions.Attr dim node attr) (λ e q. cc) same
+  renews_more (decisions.Place f) fits renews =
+      let there : (e : Edge) → Fits n (length old) e → Fits n (length mid) e = λ e p. subst (λ rows. Fits n rows e) (sym so_far.count) p in
+      record {
+        count = renews.count ∙ so_far.count;
+        each = λ e p w. kept_beside n words e f _ _ mid new (there e p) (there f fits.0) renews (record { may = renews.may.here; must = renews.must.here }) (λ differ. elim (kept_then (decisions.Place f) e p w) [
+          | inl kept ↦ kept
+          | inr is ↦ absurd (let same : e ≡ f = cc in differ same)
+        ]);
+      }
+
+pub renews_turn : (n : ℕ) (words : List ℕ) (changed : List Decision) (old mid new : List Mothers) (i : ℕ) → RenewsAll n words (take i changed) old mid → (decision default : Decision) → i < length changed → get_or changed i default ≡ decision
+    → FitsIn n (length old) (length words) decision → RenewsOf n words decision mid new → RenewsAll n words (take (i + 1) changed) old new
+renews_turn n words changed old mid new i so_far decision default l is fits renews =
+    subst (λ ds. RenewsAll n words ds old new) (sym (take_more changed i default l ∙ ap (λ d. take i changed ++ d ∷ []) is)) (renews_more n words (take i changed) old mid new so_far decision fits renews)
 
 -- ---- the start
 
