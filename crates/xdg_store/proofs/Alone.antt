@@ -41,12 +41,6 @@ alone_first words start size value result within is exact = (
 
 -- ---- loops over decisions
 
-pub one_more : (P : ℕ → Type 0) (n : ℕ) → ((k : ℕ) → k < n → P k) → P n → (k : ℕ) → k < n + 1 → P k
-one_more P n before here k l = elim (cases_eq k n) [
-  | inl same ↦ subst P (sym same) here
-  | inr other ↦ before k (omega (arith, l, other))
-]
-
 pub stops : (P : ℕ → Type 0) (n k : ℕ) (result : Bool) → k < n → (P k → result ≡ true) → result ≡ false → ((j : ℕ) → j < n → P j) → ⊥
 stops P n k result l exact is all = (let t = exact (all k l) in cc)
 

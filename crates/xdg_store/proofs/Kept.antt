@@ -112,9 +112,8 @@ module _ (parts : Parts) (p : IsProblem parts) where
   -- ---- a removal
 
   same_but : (change : Change) (t u : Trailed) (turns d : ℕ) → IsOneStep change (seen parts t turns) (seen parts u turns) d → SameBut (box_in (bits_of parts) t.words) (box_in (bits_of parts) u.words) d
-  same_but changes.Same t u turns d step e n = ap (λ s. get_or s.now e []) step
   same_but changes.Changed t u turns d step e n = step.1 e n
-  same_but changes.Emptied t u turns d step e n = ap (λ s. get_or s.now e []) step
+  same_but change t u turns d step e n = ap (λ s. get_or s.now e []) step
 
   -- of no edge
   kept_like : (t u : List ℕ) (rows : List Mothers) → ((e : Edge) → IsPlace parts e → get_or (box_in (bits_of parts) u) (edge_decision parts e) [] ≡ get_or (box_in (bits_of parts) t) (edge_decision parts e) []) → AreKept parts t rows

@@ -33,9 +33,8 @@ one_step changes.Changed old new d v (has, other, more) =
 one_step changes.Emptied old new d v (has, only, same) = same
 
 pub block_step : (change : Change) (old new : State) (d : ℕ) (Goes : ℕ → Type 0) → RemovesAll change old new d Goes → IsOneStep change old new d
-block_step changes.Same old new d Goes r = r.1
 block_step changes.Changed old new d Goes r = (r.1.grown, r.1.others)
-block_step changes.Emptied old new d Goes r = r.1
+block_step change old new d Goes r = r.1
 
 -- what a removal of values of a decision leaves of a store
 pub record Leaves (parts : Parts) (change : Change) (t u : Trailed) (turns : ℕ) (decision : Decision) (Removal : State → State → ℕ → Type 0) : Type 0 where
@@ -79,8 +78,6 @@ module _ (parts : Parts) where
       (is, same)
 
   pub noted_steps : (change : Change) (old new : State) (removed : List Decision) (decision : Decision) (room : ℕ) → Known old → IsDecision parts decision → AreSteps parts old.history removed room → IsOneStep change old new (number_of parts decision) → AreSteps parts new.history (noted change removed decision) room
-  noted_steps changes.Same old new removed decision room known is steps same = subst (λ s. AreSteps parts s.history removed room) (sym same) steps
-  noted_steps changes.Emptied old new removed decision room known is steps same = subst (λ s. AreSteps parts s.history removed room) (sym same) steps
   noted_steps changes.Changed old new removed decision room known is steps (more, same) =
       let c = steps.count in
       let a = length-append old.history (new.now ∷ []) in
@@ -93,13 +90,12 @@ module _ (parts : Parts) where
         ];
         most = steps.most;
       })
+  noted_steps change old new removed decision room known is steps same = subst (λ s. AreSteps parts s.history removed room) (sym same) steps
 
   -- ---- room
 
   step_room : (change : Change) (t u : Trailed) (turns : ℕ) (removed : List Decision) (d room : ℕ) → Keeps parts u → AreSteps parts (oldest (bits_of parts) (past t)) removed room
       → IsOneStep change (seen parts t turns) (seen parts u turns) d → change ≡ changes.Changed → length removed < room
-  step_room changes.Same t u turns removed d room keeps steps step is = cc
-  step_room changes.Emptied t u turns removed d room keeps steps step is = cc
   step_room changes.Changed t u turns removed d room keeps steps (more, others) is =
       let box = box_in (bits_of parts) u.words in
       let now = present (shape parts) (sum (shape parts)) (bits_of parts) u keeps.sound in
@@ -112,6 +108,7 @@ module _ (parts : Parts) where
       let same : length (oldest (bits_of parts) (past u)) ≡ length (oldest (bits_of parts) (past t) ++ (box ∷ [])) = ap length more in
       let most = steps.most in
       omega (arith, count, left, size, before, after, one, same, most)
+  step_room change t u turns removed d room keeps steps step is = cc
 
   -- ---- the start, and going back
 

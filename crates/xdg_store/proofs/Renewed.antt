@@ -1,5 +1,5 @@
 -- Edges by their daughters.
-use Rattle.std.proofs.Common.{◌≡◌, ◌≢◌, ◌⊎◌, ℕ, ◌<◌, ◌+◌, ◌*◌, ◌/◌, ◌%◌, inl, inr, Bool, not, List, [], ◌∷◌, ◌++◌, length, get_or, set, take, refl, ap, sym, ◌∙◌, arith, subst}
+use Rattle.std.proofs.Common.{◌≡◌, ◌≢◌, ◌⊎◌, ℕ, ◌<◌, ◌+◌, ◌*◌, ◌/◌, ◌%◌, inl, inr, Bool, not, List, [], ◌∷◌, ◌++◌, length, get_or, set, take, refl, ap, sym, ◌∙◌, arith, below_more, subst}
 use Rattle.std.specs.Prelude.{◌&&◌, ◌==◌, Contains, nat_lt}
 use Rattle.std.proofs.lemmas.Bool.{and_from, and_parts, cases_eq, eqb-false, lt-ltb, ltb-true, ne_eqb, not-true}
 use Rattle.std.proofs.lemmas.Nat.{div-mul-add, mod-mul-add}
@@ -134,8 +134,6 @@ pub one_set : {X : Type 0} (P : ℕ → X → Type 0) (xs : List X) (k : ℕ) (x
     → (length (set xs k x) ≡ count) × ((i : ℕ) → i < k + 1 → P i (get_or (set xs k x) i none))
 one_set P xs k x none same l here before = (
   length-set xs k x ∙ same,
-  λ i m. elim (cases_eq i k) [
-    | inl e ↦ subst (λ j. P j (get_or (set xs k x) j none)) (sym e) (subst (P k) (sym (get_or-set_same xs k x none (omega (arith, l, same)))) here)
-    | inr other ↦ subst (P i) (sym (get_or-set_other xs k i x none other)) (before i (omega (arith, m, other)))
-  ],
+  below_more (λ i. P i (get_or (set xs k x) i none)) k (λ i m. subst (P i) (sym (get_or-set_other xs k i x none (λ e. omega (arith, e, m)))) (before i m))
+      (subst (P k) (sym (get_or-set_same xs k x none (omega (arith, l, same)))) here),
 )
