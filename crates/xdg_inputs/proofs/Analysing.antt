@@ -24,9 +24,10 @@ use Rattle.xdg_inputs.specs.Analyses.{Analysed, HasAnalysis, HasBadAnalysis, IsN
 use Rattle.xdg_inputs.specs.Grammars.{with_words}
 use Rattle.xdg_inputs.specs.Judging.{IsJudged, IsNotJudged, no_memory, word_unknown, not_fit, analysed_of, of_words}
 use Rattle.xdg_inputs.specs.Refusals.{RejectsAt, Stops, refusal_of}
-use Rattle.xdg_inputs.specs.Stages.{Accepts, Rejects}
+use Rattle.xdg_inputs.specs.Stages.{Accepts}
 use Rattle.xdg_inputs.specs.declared.analysis.Judgeable.{Judgeable}
 use Rattle.xdg_inputs.specs.declared.refusals.Refusal.{Refusal}
+use Rattle.xdg_inputs.proofs.Settling.{Judges, Settles, settled}
 use Rattle.xdg_inputs.proofs.Wording.{grammar_is}
 use Rattle.xdg_inputs.proofs.Trees.{first_byte, same_text, told_file}
 
@@ -37,138 +38,117 @@ OneReading text ours = (answer : Result AnalysisText Fault) → reading.IsAnswer
 abbrev pub OneFit : Parts → AnalysisText → Result Analysis Fault → Type 0
 OneFit parts t ours = (answer : Result Analysis Fault) → fitting.IsAnswer parts t answer → answer ≡ ours
 
--- ---- each way in which a text is no analysis, of one that is read
+-- ---- a text, and what it is an analysis of
 
--- a text whose reading is a fault
-fault_of_reading : (g : Grammar) (text : List ℕ) (f h : Fault) → length text ≤ analysis_limit → OneReading text (Err f) → IsNoAnalysis g text h → h ≡ f
-fault_of_reading g text f h within one (too_long long e) = absurd (omega (arith, within, long))
-fault_of_reading g text f h within one (unreadable small r) = let e : ◌≡◌ {A = Result AnalysisText Fault} (Err h) (Err f) = one (Err h) r in cc
-fault_of_reading g text f h within one (unknown_word t w small r e d) = absurd (let e : ◌≡◌ {A = Result AnalysisText Fault} (Ok t) (Err f) = one (Ok t) r in cc)
-fault_of_reading g text f h within one (unfit t small r e s) = absurd (let e : ◌≡◌ {A = Result AnalysisText Fault} (Ok t) (Err f) = one (Ok t) r in cc)
+-- the text is of this analysis of its words, whose problem is this
+record IsIn (g : Grammar) (text : List ℕ) (b : Analysed) : Type 0 where
+  pub within : length text ≤ analysis_limit
+  pub read : AnalysisText
+  pub reads : reading.IsAnswer text (Ok read)
+  pub known : refusal g read.words ≡ None
+  pub parts_are : b.parts ≡ compiled g read.words
+  pub fits : fitting.IsAnswer b.parts read (Ok b.analysis)
+  pub keeps : KeepsSolutions g read.words b.parts
 
-same_reading : (text : List ℕ) (t u : AnalysisText) → OneReading text (Ok t) → reading.IsAnswer text (Ok u) → u ≡ t
-same_reading text t u one r = let e : ◌≡◌ {A = Result AnalysisText Fault} (Ok u) (Ok t) = one (Ok u) r in cc
+module _ (g : Grammar) (text : List ℕ) where
+  abbrev Verdict : Result Analysed Fault → Type 0
+  Verdict (Ok b) = IsIn g text b
+  Verdict (Err f) = IsNoAnalysis g text f
 
-not_refused : (text : List ℕ) (t : AnalysisText) (h : Fault) → OneReading text (Ok t) → reading.IsAnswer text (Err h) → ⊥
-not_refused text t h one r = let e : ◌≡◌ {A = Result AnalysisText Fault} (Err h) (Ok t) = one (Err h) r in cc
+  -- a verdict by what is read of the text, and by what its words are refused for
+  abbrev ByWords : AnalysisText → Option Fault → Result Analysed Fault → Type 0
+  ByWords t (Some w) verdict = verdict ≡ Err (fault causes.NotAnalysis w.at 0)
+  ByWords t None (Ok b) = (b.parts ≡ compiled g t.words) × fitting.IsAnswer (compiled g t.words) t (Ok b.analysis)
+  ByWords t None (Err f) = fitting.IsAnswer (compiled g t.words) t (Err f)
 
--- a text with a word without entry
-fault_of_word : (g : Grammar) (text : List ℕ) (t : AnalysisText) (w h : Fault) → length text ≤ analysis_limit → OneReading text (Ok t) → refusal g t.words ≡ Some w → IsNoAnalysis g text h → h ≡ fault causes.NotAnalysis w.at 0
-fault_of_word g text t w h within one known (too_long long e) = absurd (omega (arith, within, long))
-fault_of_word g text t w h within one known (unreadable small r) = absurd (not_refused text t h one r)
-fault_of_word g text t w h within one known (unknown_word u v small r e d) =
-    let same : Some v ≡ Some w = sym (subst (λ z. refusal g z.words ≡ Some v) (same_reading text t u one r) e) ∙ known in
-    let is : v ≡ w = cc in
-    d ∙ ap (λ z. fault causes.NotAnalysis z.at 0) is
-fault_of_word g text t w h within one known (unfit u small r e s) =
-    absurd (let same : None ≡ Some w = sym (subst (λ z. refusal g z.words ≡ None) (same_reading text t u one r) e) ∙ known in cc)
+  abbrev ByReading : Result AnalysisText Fault → Result Analysed Fault → Type 0
+  ByReading (Ok t) verdict = ByWords t (refusal g t.words) verdict
+  ByReading (Err f) verdict = verdict ≡ Err f
 
--- a text that doesn't fit
-fault_of_fit : (g : Grammar) (text : List ℕ) (t : AnalysisText) (f h : Fault) → length text ≤ analysis_limit → OneReading text (Ok t) → refusal g t.words ≡ None → OneFit (compiled g t.words) t (Err f) → IsNoAnalysis g text h → h ≡ f
-fault_of_fit g text t f h within one known fits (too_long long e) = absurd (omega (arith, within, long))
-fault_of_fit g text t f h within one known fits (unreadable small r) = absurd (not_refused text t h one r)
-fault_of_fit g text t f h within one known fits (unknown_word u v small r e d) =
-    absurd (let same : Some v ≡ None = sym (subst (λ z. refusal g z.words ≡ Some v) (same_reading text t u one r) e) ∙ known in cc)
-fault_of_fit g text t f h within one known fits (unfit u small r e s) =
-    let is : ◌≡◌ {A = Result Analysis Fault} (Err h) (Err f) = fits (Err h) (subst (λ z. fitting.IsAnswer (compiled g z.words) z (Err h)) (same_reading text t u one r) s) in cc
+  by_reading : (read : Result AnalysisText Fault) → length text ≤ analysis_limit → OneReading text read → (verdict : Result Analysed Fault) → Verdict verdict → ByReading read verdict
+  by_reading read within one (Ok b) v =
+      let fits : fitting.IsAnswer (compiled g v.read.words) v.read (Ok b.analysis) = subst (λ z. fitting.IsAnswer z v.read (Ok b.analysis)) v.parts_are v.fits in
+      subst (λ r. ByReading r (Ok b)) (one (Ok v.read) v.reads) (subst (λ k. ByWords v.read k (Ok b)) (sym v.known) (v.parts_are, fits))
+  by_reading read within one (Err h) (too_long long e) = absurd (omega (arith, within, long))
+  by_reading read within one (Err h) (unreadable small r) = subst (λ o. ByReading o (Err h)) (one (Err h) r) refl
+  by_reading read within one (Err h) (unknown_word t w small r e d) = subst (λ o. ByReading o (Err h)) (one (Ok t) r) (subst (λ k. ByWords t k (Err h)) (sym e) (ap Err d))
+  by_reading read within one (Err h) (unfit t small r e s) = subst (λ o. ByReading o (Err h)) (one (Ok t) r) (subst (λ k. ByWords t k (Err h)) (sym e) s)
 
--- a text that fits
-no_fault : (g : Grammar) (text : List ℕ) (t : AnalysisText) (a : Analysis) (h : Fault) → length text ≤ analysis_limit → OneReading text (Ok t) → refusal g t.words ≡ None → OneFit (compiled g t.words) t (Ok a) → IsNoAnalysis g text h → ⊥
-no_fault g text t a h within one known fits (too_long long e) = omega (arith, within, long)
-no_fault g text t a h within one known fits (unreadable small r) = not_refused text t h one r
-no_fault g text t a h within one known fits (unknown_word u v small r e d) = let same : Some v ≡ None = sym (subst (λ z. refusal g z.words ≡ Some v) (same_reading text t u one r) e) ∙ known in cc
-no_fault g text t a h within one known fits (unfit u small r e s) =
-    let is : ◌≡◌ {A = Result Analysis Fault} (Err h) (Ok a) = fits (Err h) (subst (λ z. fitting.IsAnswer (compiled g z.words) z (Err h)) (same_reading text t u one r) s) in cc
+  by_words : (t : AnalysisText) (known : Option Fault) → length text ≤ analysis_limit → OneReading text (Ok t) → refusal g t.words ≡ known → (verdict : Result Analysed Fault) → Verdict verdict → ByWords t known verdict
+  by_words t known within one is verdict v = subst (λ k. ByWords t k verdict) is (by_reading (Ok t) within one verdict v)
 
-long_fault : (g : Grammar) (text : List ℕ) (h : Fault) → analysis_limit < length text → IsNoAnalysis g text h → h ≡ fault causes.TooLong 0 (analysis_limit + 1)
-long_fault g text h long (too_long more e) = e
-long_fault g text h long (unreadable small r) = absurd (omega (arith, long, small))
-long_fault g text h long (unknown_word t w small r e d) = absurd (omega (arith, long, small))
-long_fault g text h long (unfit t small r e s) = absurd (omega (arith, long, small))
+  -- what comes of an analysis that fits, or of a fault
+  abbrev fitted : AnalysisText → Result Analysis Fault → Result Analysed Fault
+  fitted t (Ok a) = Ok (record { parts = compiled g t.words; analysis = a })
+  fitted t (Err f) = Err f
+
+  by_fit : (t : AnalysisText) (fit : Result Analysis Fault) → OneFit (compiled g t.words) t fit → (verdict : Result Analysed Fault) → ByWords t None verdict → verdict ≡ fitted t fit
+  by_fit t fit one (Ok b) v = ap (λ z. Ok (record { parts = z; analysis = b.analysis })) v.0 ∙ ap (fitted t) (one (Ok b.analysis) v.1)
+  by_fit t fit one (Err h) v = ap (fitted t) (one (Err h) v)
+
+  only_long : analysis_limit < length text → (verdict : Result Analysed Fault) → Verdict verdict → verdict ≡ Err (fault causes.TooLong 0 (analysis_limit + 1))
+  only_long long (Ok b) v = absurd (let within = v.within in omega (arith, long, within))
+  only_long long (Err h) (too_long more e) = ap Err e
+  only_long long (Err h) (unreadable small r) = absurd (omega (arith, long, small))
+  only_long long (Err h) (unknown_word t w small r e d) = absurd (omega (arith, long, small))
+  only_long long (Err h) (unfit t small r e s) = absurd (omega (arith, long, small))
 
 -- ---- steps
 
 module _ (made : Expanded) (right : HasRightLexicon made) (files : List ℕ → Option (List ℕ)) (name text : List ℕ) (file : files name ≡ Some text) where
-  -- what is refused here is refused of this text
-  of_text : (t : List ℕ) (h : Fault) → HasBadAnalysis files name (meaning_of made) t h → (t ≡ text) × IsNoAnalysis (grammar_in made) text h
-  of_text t h q =
-      let e = same_text files name t text q.file file in
-      (e, subst (λ z. IsNoAnalysis z text h) (grammar_is made q.dim q.field right q.place) (subst (λ z. IsNoAnalysis (with_words (meaning_of made) q.dim q.field) z h) e q.because))
+  abbrev g : Grammar
+  g = grammar_in made
 
-  has_bad : (f : Fault) → IsNoAnalysis (grammar_in made) text f → HasBadAnalysis files name (meaning_of made) text f
-  has_bad f bad = record { dim = made.lexicon.dim; field = made.lexicon.field; place = right.placed.place; file = file; because = bad }
+  abbrev Settled : Result Analysed Fault → Type 0
+  Settled = Settles Analysed (HasBadAnalysis files name (meaning_of made)) (HasAnalysis files name (meaning_of made)) text
 
-  -- a fault that is the only one, where nothing is accepted
-  rejected : (f : Fault) → IsNoAnalysis (grammar_in made) text f → ((h : Fault) → IsNoAnalysis (grammar_in made) text h → h ≡ f) → ((b : Analysed) → HasAnalysis files name (meaning_of made) b → ⊥)
-      → Rejects Analysed (HasBadAnalysis files name (meaning_of made)) (HasAnalysis files name (meaning_of made)) text f
-  rejected f bad one never = record { is = has_bad f bad; one = λ t h q. let o = of_text t h q in (o.0, one h o.1); never = never }
-
-  -- what is accepted here is read from this text
-  read_here : (b : Analysed) → (h : HasAnalysis files name (meaning_of made) b) → reading.IsAnswer text (Ok h.read)
-  read_here b h = subst (λ z. reading.IsAnswer z (Ok h.read)) (same_text files name h.bytes text h.file file) h.reads
-
-  known_here : (b : Analysed) → (h : HasAnalysis files name (meaning_of made) b) → refusal (grammar_in made) h.read.words ≡ None
-  known_here b h = subst (λ z. refusal z h.read.words ≡ None) (grammar_is made h.dim h.field right h.place) h.known
-
-  parts_here : (b : Analysed) → (h : HasAnalysis files name (meaning_of made) b) → b.parts ≡ compiled (grammar_in made) h.read.words
-  parts_here b h = h.parts_are ∙ ap (λ z. compiled z h.read.words) (grammar_is made h.dim h.field right h.place)
-
-  pub reading_rejected : (f : Fault) → length text ≤ analysis_limit → reading.IsAnswer text (Err f) → OneReading text (Err f) → Rejects Analysed (HasBadAnalysis files name (meaning_of made)) (HasAnalysis files name (meaning_of made)) text f
-  reading_rejected f within is one = rejected f (unreadable within is) (λ h bad. fault_of_reading _ text f h within one bad)
-      (λ b h. let e : ◌≡◌ {A = Result AnalysisText Fault} (Ok h.read) (Err f) = one (Ok h.read) (read_here b h) in cc)
-
-  pub word_rejected : (t : AnalysisText) (w : Fault) → length text ≤ analysis_limit → reading.IsAnswer text (Ok t) → OneReading text (Ok t) → refusal (grammar_in made) t.words ≡ Some w
-      → Rejects Analysed (HasBadAnalysis files name (meaning_of made)) (HasAnalysis files name (meaning_of made)) text (fault causes.NotAnalysis w.at 0)
-  word_rejected t w within is one known = rejected (fault causes.NotAnalysis w.at 0) (unknown_word t w within is known refl) (λ h bad. fault_of_word _ text t w h within one known bad)
-      (λ b h. let e : None ≡ Some w = sym (subst (λ z. refusal (grammar_in made) z.words ≡ None) (same_reading text t h.read one (read_here b h)) (known_here b h)) ∙ known in cc)
-
-  pub fit_rejected : (t : AnalysisText) (f : Fault) → length text ≤ analysis_limit → reading.IsAnswer text (Ok t) → OneReading text (Ok t) → refusal (grammar_in made) t.words ≡ None
-      → fitting.IsAnswer (compiled (grammar_in made) t.words) t (Err f) → OneFit (compiled (grammar_in made) t.words) t (Err f)
-      → Rejects Analysed (HasBadAnalysis files name (meaning_of made)) (HasAnalysis files name (meaning_of made)) text f
-  fit_rejected t f within is one known misfit fits = rejected f (unfit t within is known misfit) (λ h bad. fault_of_fit _ text t f h within one known fits bad)
-      (λ b h.
-      let g = grammar_in made in
-      let same = same_reading text t h.read one (read_here b h) in
-      let here : fitting.IsAnswer (compiled g h.read.words) h.read (Ok b.analysis) = subst (λ z. fitting.IsAnswer z h.read (Ok b.analysis)) (parts_here b h) h.fits in
-      let e : ◌≡◌ {A = Result Analysis Fault} (Ok b.analysis) (Err f) = fits (Ok b.analysis) (subst (λ z. fitting.IsAnswer (compiled g z.words) z (Ok b.analysis)) same here) in cc)
+  judges : Judges Analysed (HasBadAnalysis files name (meaning_of made)) (HasAnalysis files name (meaning_of made)) text (Verdict g text)
+  judges = record {
+    has = λ b v. record {
+      dim = made.lexicon.dim;
+      field = made.lexicon.field;
+      place = right.placed.place;
+      bytes = text;
+      file = file;
+      within = v.within;
+      read = v.read;
+      reads = v.reads;
+      known = v.known;
+      parts_are = v.parts_are;
+      fits = v.fits;
+      keeps = v.keeps;
+    };
+    had = λ b h.
+        let there : IsIn (with_words (meaning_of made) h.dim h.field) h.bytes b = record { within = h.within; read = h.read; reads = h.reads; known = h.known; parts_are = h.parts_are; fits = h.fits; keeps = h.keeps } in
+        subst (λ z. IsIn z text b) (grammar_is made h.dim h.field right h.place) (subst (λ z. IsIn (with_words (meaning_of made) h.dim h.field) z b) (same_text files name h.bytes text h.file file) there);
+    refuses = λ f bad. record { dim = made.lexicon.dim; field = made.lexicon.field; place = right.placed.place; file = file; because = bad };
+    refused = λ t h q.
+        let e = same_text files name t text q.file file in
+        (e, subst (λ z. IsNoAnalysis z text h) (grammar_is made q.dim q.field right q.place) (subst (λ z. IsNoAnalysis (with_words (meaning_of made) q.dim q.field) z h) e q.because));
+  }
 
   pub long_rejected : analysis_limit < length text → RejectsAt Analysed (HasBadAnalysis files name (meaning_of made)) (HasAnalysis files name (meaning_of made)) (fault causes.TooLong 0 (analysis_limit + 1)) (record { line = 1; column = 1 })
   long_rejected long = record {
     text = text;
-    rejects = rejected (fault causes.TooLong 0 (analysis_limit + 1)) (too_long long refl) (λ h bad. long_fault _ text h long bad)
-        (λ b h. let e = ap length (same_text files name h.bytes text h.file file) in let w = h.within in omega (arith, e, w, long));
+    rejects = settled judges (Err (fault causes.TooLong 0 (analysis_limit + 1))) (too_long long refl) (only_long g text long);
     place_is = first_byte text (fault causes.TooLong 0 (analysis_limit + 1)) refl;
   }
 
-  pub analysis_accepted : (t : AnalysisText) (parts : Parts) (a : Analysis) → length text ≤ analysis_limit → reading.IsAnswer text (Ok t) → OneReading text (Ok t) → refusal (grammar_in made) t.words ≡ None
-      → parts ≡ compiled (grammar_in made) t.words → fitting.IsAnswer parts t (Ok a) → OneFit parts t (Ok a) → KeepsSolutions (grammar_in made) t.words parts
-      → Accepts Analysed (HasBadAnalysis files name (meaning_of made)) (HasAnalysis files name (meaning_of made)) (record { parts = parts; analysis = a })
-  analysis_accepted t parts a within is one known parts_are fits fits_one keeps =
-      let g = grammar_in made in
-      record {
-        has = record {
-          dim = made.lexicon.dim;
-          field = made.lexicon.field;
-          place = right.placed.place;
-          bytes = text;
-          file = file;
-          within = within;
-          read = t;
-          reads = is;
-          known = known;
-          parts_are = parts_are;
-          fits = fits;
-          keeps = keeps;
-        };
-        one = λ b h.
-            let same = same_reading text t h.read one (read_here b h) in
-            let parts_same : b.parts ≡ parts = parts_here b h ∙ ap (λ z. compiled g z.words) same ∙ sym parts_are in
-            let here : fitting.IsAnswer parts t (Ok b.analysis) = subst (λ z. fitting.IsAnswer parts z (Ok b.analysis)) same (subst (λ z. fitting.IsAnswer z h.read (Ok b.analysis)) parts_same h.fits) in
-            let e : ◌≡◌ {A = Result Analysis Fault} (Ok b.analysis) (Ok a) = fits_one (Ok b.analysis) here in
-            let analysis_same : b.analysis ≡ a = cc in
-            ap (λ z. record { parts = z; analysis = b.analysis }) parts_same ∙ ap (λ z. record { parts = parts; analysis = z }) analysis_same;
-        never = λ u h q. no_fault g text t a h within one known (subst (λ z. OneFit z t (Ok a)) parts_are fits_one) (of_text u h q).1;
-      }
+  reading_rejected : (f : Fault) → length text ≤ analysis_limit → reading.IsAnswer text (Err f) → OneReading text (Err f) → Settled (Err f)
+  reading_rejected f within is one = settled judges (Err f) (unreadable within is) (by_reading g text (Err f) within one)
+
+  module _ (t : AnalysisText) (within : length text ≤ analysis_limit) (is : reading.IsAnswer text (Ok t)) (one : OneReading text (Ok t)) where
+    word_rejected : (w : Fault) → refusal g t.words ≡ Some w → Settled (Err (fault causes.NotAnalysis w.at 0))
+    word_rejected w known = settled judges (Err (fault causes.NotAnalysis w.at 0)) (unknown_word t w within is known refl) (by_words g text t (Some w) within one known)
+
+    fit_rejected : (f : Fault) → refusal g t.words ≡ None → fitting.IsAnswer (compiled g t.words) t (Err f) → OneFit (compiled g t.words) t (Err f) → Settled (Err f)
+    fit_rejected f known misfit fits = settled judges (Err f) (unfit t within is known misfit) (λ x v. by_fit g text t (Err f) fits x (by_words g text t None within one known x v))
+
+    analysis_accepted : (b : Analysed) → refusal g t.words ≡ None → b.parts ≡ compiled g t.words → fitting.IsAnswer b.parts t (Ok b.analysis) → OneFit b.parts t (Ok b.analysis) → KeepsSolutions g t.words b.parts → Settled (Ok b)
+    analysis_accepted b known parts_are fits fits_one keeps =
+        settled judges (Ok b) (record { within = within; read = t; reads = is; known = known; parts_are = parts_are; fits = fits; keeps = keeps }) (λ x v.
+        by_fit g text t (Ok b.analysis) (subst (λ z. OneFit z t (Ok b.analysis)) parts_are fits_one) x (by_words g text t None within one known x v)
+        ∙ ap (λ z. Ok (record { parts = z; analysis = b.analysis })) (sym parts_are))
 
 -- ---- what the calls leave
 
@@ -210,8 +190,8 @@ module _ (made : Expanded) (right : HasRightLexicon made) (told : Option (List �
   judging_stops : (t : AnalysisText) (stop : Stop) → reading.IsAnswer text (Ok t) → OneReading text (Ok t) → IsNotJudged (grammar_in made) t stop
       → Stops (told ≡ Some files) old new Analysed (HasBadAnalysis files name (meaning_of made)) (HasAnalysis files name (meaning_of made)) (refusal_of text stop)
   judging_stops t stops.OutOfMemory is one no_memory = tt
-  judging_stops t (stops.Fault f) is one (word_unknown w known) = λ k. record { text = text; rejects = word_rejected made right files name text (told_file told files name text k has) t w within is one known; place_is = refl }
-  judging_stops t (stops.Fault f) is one (not_fit h known misfit fits) = λ k. record { text = text; rejects = fit_rejected made right files name text (told_file told files name text k has) t f within is one known misfit fits; place_is = refl }
+  judging_stops t (stops.Fault f) is one (word_unknown w known) = λ k. record { text = text; rejects = word_rejected made right files name text (told_file told files name text k has) t within is one w known; place_is = refl }
+  judging_stops t (stops.Fault f) is one (not_fit h known misfit fits) = λ k. record { text = text; rejects = fit_rejected made right files name text (told_file told files name text k has) t within is one f known misfit fits; place_is = refl }
 
   -- so does a text that isn't judged
   pub unjudged_stops : (read : List ℕ) (t : AnalysisText) (stop : Stop) (refusal : Refusal) → read ≡ text → reading.Tells read (Ok t) → ((answer : Result AnalysisText Fault) → reading.IsAnswer read answer → Gives answer (Ok t)) → IsNotJudged (grammar_in made) t stop → refusal ≡ refusal_of text stop
@@ -224,5 +204,5 @@ module _ (made : Expanded) (right : HasRightLexicon made) (told : Option (List �
   pub judged_accepted : (read : List ℕ) (t : AnalysisText) (judgeable : Judgeable) → told ≡ Some files → read ≡ text → reading.Tells read (Ok t) → ((answer : Result AnalysisText Fault) → reading.IsAnswer read answer → Gives answer (Ok t)) → IsJudged (grammar_in made) t judgeable
       → Accepts Analysed (HasBadAnalysis files name (meaning_of made)) (HasAnalysis files name (meaning_of made)) (analysed_of judgeable)
   judged_accepted read t judgeable k e tells only j =
-      analysis_accepted made right files name text (told_file told files name text k has) t judgeable.problem judgeable.analysis within (subst (λ z. reading.Tells z (Ok t)) e tells)
-      (λ answer a. only answer (subst (λ z. reading.IsAnswer z answer) (sym e) a)) j.known j.parts_are j.fits j.one j.keeps
+      analysis_accepted made right files name text (told_file told files name text k has) t within (subst (λ z. reading.Tells z (Ok t)) e tells)
+      (λ answer a. only answer (subst (λ z. reading.IsAnswer z answer) (sym e) a)) (analysed_of judgeable) j.known j.parts_are j.fits j.one j.keeps

@@ -3,6 +3,7 @@ mod OneMeaning
 pub mod Leaving
 pub mod Trees
 pub mod Meaning
+mod Settling
 pub mod Writing
 pub mod Wording
 pub mod Taking

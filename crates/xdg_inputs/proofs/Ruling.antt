@@ -1,17 +1,12 @@
 -- A problem with rules.
-use Rattle.std.proofs.Common.{◌≡◌, ◌↔◌, ◌∙◌, ℕ, ◌<◌, ◌≤◌, List, [], ◌∷◌, length, length-append, map, Ok, Err, refl, sym, ap, subst, arith}
+use Rattle.std.proofs.Common.{◌≡◌, ◌↔◌, ◌∙◌, ◌≤◌, List, [], ◌∷◌, length, length-append, refl, sym, ap, subst, arith}
 use Rattle.std.specs.Prelude.{All, IfOk, Result}
 use Rattle.std.specs.List.{AllZip}
-use Rattle.std.proofs.lemmas.List.{append-nil, length-map}
+use Rattle.std.proofs.lemmas.List.{append-nil}
 use Rattle.std.proofs.lemmas.List.Elements.{All-cons, All-head, All-nil, All-tail}
-use Rattle.xdg_base.specs.declared.ids.EntryNo.{EntryNo}
-use Rattle.xdg_build.specs.Compiled.{candidates_of, compiled}
-use Rattle.xdg_build.specs.Plans.{plan_at}
-use Rattle.xdg_build.proofs.Numbered.{each_below}
-use Rattle.xdg_packed.specs.Entries.{AreEntries}
-use Rattle.xdg_formula.specs.Tables.{dims_at}
+use Rattle.xdg_build.proofs.Lawful.{compiled_for}
 use Rattle.xdg_build.specs.Formulas.{formulas_of}
-use Rattle.xdg_build.specs.Problems.{IsFor, IsPlanOf}
+use Rattle.xdg_build.specs.Problems.{IsFor}
 use Rattle.xdg_build.specs.Says.{KeepsEach}
 use Rattle.xdg_build.specs.Truths.{RuleHolds}
 use Rattle.xdg_formula.specs.declared.tree.Rule.{Rule}
@@ -20,13 +15,11 @@ use Rattle.xdg_inputs.specs.Answers.{grammar_in}
 use Rattle.xdg_inputs.specs.declared.expanding.Expanded.{Expanded}
 use Rattle.xdg_build.specs.Grammars.{Grammar}
 use Rattle.xdg_inputs.specs.Made.{IsMade}
-use Rattle.xdg_packed.specs.Lexicon.{numbers_of, word_of, words_of}
 use Rattle.xdg_problem.specs.declared.analysis.Analysis.{Analysis}
 use Rattle.xdg_problem.specs.declared.formula.Formula.{Formula}
 use Rattle.xdg_problem.specs.declared.parts.Group.{Group}
 use Rattle.xdg_problem.specs.declared.parts.Parts.{Parts}
 use Rattle.xdg_problem.specs.declared.parts.Principle.TheVariants as principles
-use Rattle.xdg_problem.specs.declared.parts.SentenceWord.{SentenceWord}
 use Rattle.xdg_problem.specs.Analyses.{IsAnalysis}
 use Rattle.xdg_problem.specs.Claims.{Suits}
 use Rattle.xdg_problem.specs.Further.{rules_of, use_of, with_uses}
@@ -37,23 +30,9 @@ use Rattle.xdg_problem.proofs.FurtherLawful.{rule_relation, rules_lawful}
 use Rattle.xdg_problem.proofs.FurtherUses.{relation_still}
 use Rattle.xdg_inputs.specs.Ruled.{IsUseOf, KeepsRules, ruled}
 use Rattle.xdg_facts.proofs.Lists.{zip_length}
+use Rattle.xdg_facts.proofs.Options.{if_ok}
 
 -- ---- a problem is one of its grammar
-
-plans_are : (g : Grammar) (used : List ℕ) → AllZip IsPlanOf (dims_at g.table.dims used) (map (plan_at g g.table.dims) used)
-plans_are g [] = tt
-plans_are g (k ∷ used) = (record { name = refl; labels = refl; attrs = refl }, plans_are g used)
-
--- the entries of a word are entries of the lexicon
-word_below : (g : Grammar) (word : SentenceWord) → All (λ (no : EntryNo). no.0 < length g.lexicon.entries) (numbers_of (words_of g.lexicon) word.text)
-word_below g word = subst (λ n. All (λ (no : EntryNo). no.0 < n) (numbers_of (words_of g.lexicon) word.text)) (length-map g.lexicon.entries (word_of g.lexicon.dim g.lexicon.field)) (each_below (words_of g.lexicon) word.text)
-
-words_below : (g : Grammar) (words : List SentenceWord) → All (All (λ (no : EntryNo). no.0 < length g.lexicon.entries)) (candidates_of g words)
-words_below g [] = All-nil (All (λ (no : EntryNo). no.0 < length g.lexicon.entries))
-words_below g (word ∷ words) = All-cons (All (λ (no : EntryNo). no.0 < length g.lexicon.entries)) (numbers_of (words_of g.lexicon) word.text) (candidates_of g words) (word_below g word) (words_below g words)
-
-compiled_for : (g : Grammar) (words : List SentenceWord) → AreEntries g.table g.lexicon.entries → IsFor g.table g.lexicon (compiled g words)
-compiled_for g words entries = record { dims = plans_are g g.table.used; entries = entries; candidates = words_below g words }
 
 pub made_for : (made : Expanded) (parts : Parts) → HasRightLexicon made → IsMade (grammar_in made) parts → IsFor made.checked.types made.lexicon parts
 made_for made parts right of = subst (IsFor made.checked.types made.lexicon) (sym of.is) (compiled_for (grammar_in made) of.words right.right.entries)
@@ -63,16 +42,13 @@ made_for made parts right of = subst (IsFor made.checked.types made.lexicon) (sy
 module _ (g : Grammar) (parts : Parts) where
   pub each_suits : (rules : List Rule) (formulas : List Formula) → KeepsEach g.table g.lexicon parts rules formulas → All (Suits parts) formulas
   each_suits [] [] keeps = All-nil (Suits parts)
-  each_suits [] (formula ∷ formulas) keeps = absurd keeps
-  each_suits (rule ∷ rules) [] keeps = absurd keeps
   each_suits (rule ∷ rules) (formula ∷ formulas) keeps = All-cons (Suits parts) formula formulas keeps.0.suits (each_suits rules formulas keeps.1)
+  each_suits _ _ keeps = absurd keeps
 
   -- the formulas are true where the rules are
   same_truths : (a : Analysis) → IsAnalysis parts a → (rules : List Rule) (formulas : List Formula) → KeepsEach g.table g.lexicon parts rules formulas
       → All (FormulaHolds parts a) formulas ↔ All (RuleHolds g.table g.lexicon (nodes parts) a) rules
   same_truths a fits [] [] keeps = (λ all. All-nil (RuleHolds g.table g.lexicon (nodes parts) a), λ all. All-nil (FormulaHolds parts a))
-  same_truths a fits [] (formula ∷ formulas) keeps = absurd keeps
-  same_truths a fits (rule ∷ rules) [] keeps = absurd keeps
   same_truths a fits (rule ∷ rules) (formula ∷ formulas) keeps =
       let here = keeps.0.same a fits in
       let later = same_truths a fits rules formulas keeps.1 in
@@ -81,12 +57,11 @@ module _ (g : Grammar) (parts : Parts) where
         λ all. All-cons Q rule rules (here.0 (All-head P formula formulas all)) (later.0 (All-tail P formula formulas all)),
         λ all. All-cons P formula formulas (here.1 (All-head Q rule rules all)) (later.1 (All-tail Q rule rules all)),
       )
+  same_truths a fits _ _ keeps = absurd keeps
 
   -- the use of a rule's formula
   use_kept : (uses : List Group) (rules : List Rule) (formulas : List Formula) → KeepsEach g.table g.lexicon parts rules formulas → AllZip (IsUseOf g parts (with_uses parts uses)) rules (rules_of parts formulas)
   use_kept uses [] [] keeps = tt
-  use_kept uses [] (formula ∷ formulas) keeps = absurd keeps
-  use_kept uses (rule ∷ rules) [] keeps = absurd keeps
   use_kept uses (rule ∷ rules) (formula ∷ formulas) keeps = (
     λ a fits.
         let still = relation_still parts uses (use_of parts (principles.Rule formula)) a in
@@ -95,6 +70,7 @@ module _ (g : Grammar) (parts : Parts) where
         (λ r. same.0 (own.0 (still.0 r)), λ h. still.1 (own.1 (same.1 h))),
     use_kept uses rules formulas keeps.1,
   )
+  use_kept uses _ _ keeps = absurd keeps
 
   -- without rules the problem stays
   no_rules : KeepsRules g [] parts parts
@@ -126,25 +102,21 @@ none_ruled g rules parts e = subst (λ (z : List Rule). parts ≡ ruled g z part
 pub none_keeps : (g : Grammar) (rules : List Rule) (parts : Parts) → rules ≡ [] → KeepsRules g rules parts parts
 none_keeps g rules parts e = subst (λ (z : List Rule). KeepsRules g z parts parts) (sym e) (no_rules g parts)
 
--- with rules, of which there are some
-some_ruled : (g : Grammar) (rules : List Rule) (parts made : Parts) (formulas : List Formula) → (rules ≡ [] → ⊥) → made ≡ with_uses parts (rules_of parts formulas) → formulas ≡ formulas_of g.table g.lexicon parts rules → made ≡ ruled g rules parts
-some_ruled g [] parts made formulas some e f = absurd (some refl)
-some_ruled g (rule ∷ rules) parts made formulas some e f = e ∙ ap (λ (z : List Formula). with_uses parts (rules_of parts z)) f
+-- with rules, of which there are some, a call that may lack memory makes it
 
-some_keeps : (g : Grammar) (rules : List Rule) (parts made : Parts) (formulas : List Formula) → IsProblem parts → made ≡ with_uses parts (rules_of parts formulas) → KeepsEach g.table g.lexicon parts rules formulas → KeepsRules g rules parts made
-some_keeps g rules parts made formulas problem e keeps = subst (KeepsRules g rules parts) (sym e) (some_rules g parts rules formulas problem keeps)
-
--- a call that may lack memory makes it
+some_ruled : (g : Grammar) (rules : List Rule) (parts : Parts) → (rules ≡ [] → ⊥) → with_uses parts (rules_of parts (formulas_of g.table g.lexicon parts rules)) ≡ ruled g rules parts
+some_ruled g [] parts some = absurd (some refl)
+some_ruled g (rule ∷ rules) parts some = refl
 
 pub made_ruled : {E : Type 0} (g : Grammar) (rules : List Rule) (parts : Parts) (formulas : List Formula) (result : Result Parts E) → (rules ≡ [] → ⊥) → formulas ≡ formulas_of g.table g.lexicon parts rules → IfOk result (λ made. made ≡ with_uses parts (rules_of parts formulas))
     → IfOk result (λ made. made ≡ ruled g rules parts)
-made_ruled g rules parts formulas (Ok made) some f e = some_ruled g rules parts made formulas some e f
-made_ruled g rules parts formulas (Err stop) some f e = tt
+made_ruled g rules parts formulas result some f =
+    if_ok (λ made. made ≡ with_uses parts (rules_of parts formulas)) (λ made. made ≡ ruled g rules parts) result (λ made e. e ∙ ap (λ z. with_uses parts (rules_of parts z)) f ∙ some_ruled g rules parts some)
 
 pub made_keeps : {E : Type 0} (g : Grammar) (rules : List Rule) (parts : Parts) (formulas : List Formula) (result : Result Parts E) → IsProblem parts → KeepsEach g.table g.lexicon parts rules formulas → IfOk result (λ made. made ≡ with_uses parts (rules_of parts formulas))
     → IfOk result (KeepsRules g rules parts)
-made_keeps g rules parts formulas (Ok made) problem keeps e = some_keeps g rules parts made formulas problem e keeps
-made_keeps g rules parts formulas (Err stop) problem keeps e = tt
+made_keeps g rules parts formulas result problem keeps =
+    if_ok (λ made. made ≡ with_uses parts (rules_of parts formulas)) (KeepsRules g rules parts) result (λ made e. subst (KeepsRules g rules parts) (sym e) (some_rules g parts rules formulas problem keeps))
 
 -- ---- what is kept
 

@@ -15,7 +15,7 @@ pub returns-in-Ok-lexicon-clause-tells : goal.returns-in-Ok-lexicon-clause-tells
 returns-in-Ok-lexicon-clause-tells c = made_tells c.args.tree c.in-Ok.table c.in-Ok-check.checked c.in-Ok-lexicon.lexicon.entries c.in-Ok.ensures.tells c.in-Ok-check.ensures.tells c.in-Ok-lexicon.ensures.tells
 
 pub returns-in-Ok-lexicon-clause-only : goal.returns-in-Ok-lexicon-clause-only
-returns-in-Ok-lexicon-clause-only c = made_only c.args.tree c.in-Ok.table c.in-Ok-check.checked c.in-Ok-lexicon.lexicon c.in-Ok.ensures.only c.in-Ok-check.ensures.only c.in-Ok-lexicon.ensures.only
+returns-in-Ok-lexicon-clause-only c = made_only c.args.tree c.in-Ok.table c.in-Ok-check.checked c.in-Ok.ensures.only c.in-Ok-check.ensures.only c.in-Ok-lexicon.lexicon c.in-Ok-lexicon.ensures.only
 
 pub returns-in-Ok-lexicon-clause-classes : goal.returns-in-Ok-lexicon-clause-classes
 returns-in-Ok-lexicon-clause-classes c = as_many_classes c.args.tree c.in-Ok.table c.in-Ok-check.checked c.in-Ok-check.ensures.tells
@@ -24,4 +24,4 @@ pub returns-in-Err-lexicon-clause-tells : goal.returns-in-Err-lexicon-clause-tel
 returns-in-Err-lexicon-clause-tells c = expand_tells c.args.tree c.in-Ok.table c.in-Ok-check.checked c.in-Err-lexicon.stop c.in-Ok.ensures.tells c.in-Ok-check.ensures.tells c.in-Err-lexicon.ensures.tells
 
 pub returns-in-Err-lexicon-clause-only : goal.returns-in-Err-lexicon-clause-only
-returns-in-Err-lexicon-clause-only c = expand_only_tell c.args.tree c.in-Ok.table c.in-Ok-check.checked c.in-Err-lexicon.stop c.in-Ok.ensures.only c.in-Ok-check.ensures.only c.in-Err-lexicon.ensures.only
+returns-in-Err-lexicon-clause-only c = expand_only_tell c.args.tree c.in-Ok.table c.in-Ok-check.checked c.in-Ok.ensures.only c.in-Ok-check.ensures.only c.in-Err-lexicon.stop c.in-Err-lexicon.ensures.only
