@@ -20,7 +20,6 @@ use Rattle.xdg_facts.specs.declared.Ending.TheVariants as endings
 use Rattle.xdg_facts.proofs.Drawing.{ending_of}
 use Rattle.xdg_problem.specs.declared.analysis.Analysis.{Analysis}
 use Rattle.xdg_problem.specs.declared.parts.Parts.{Parts}
-use Rattle.xdg_problem.specs.Analyses.{IsAnalysis}
 use Rattle.xdg_problem.specs.Problems.{IsProblem}
 use Rattle.xdg_problem.specs.Vectors.{analysis_of, shape, vector}
 use Rattle.xdg_problem.proofs.SolutionLists.{analyses_back}
@@ -111,10 +110,6 @@ module _ (lead : List ℕ) (parts : Parts) (budget : ℕ) (s t : Streamed) (coun
 
   -- a vector more was found
   module _ (step : Advances s steps.Found t) where
-    -- it stands for an analysis of the arrangement
-    pub last_fits : IsAnalysis parts (analysis_of parts t.last)
-    last_fits = subst (λ p. IsAnalysis p (analysis_of p t.last)) f.problem (step.found refl).3.solution.fits
-
     -- the number stays in range
     pub in_range : count + 1 ≤ budget
     in_range =

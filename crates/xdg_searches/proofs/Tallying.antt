@@ -13,7 +13,6 @@ use Rattle.xdg_facts.specs.declared.Ending.{Ending}
 use Rattle.xdg_facts.specs.declared.Ending.TheVariants as endings
 use Rattle.xdg_facts.proofs.Drawing.{ending_of}
 use Rattle.xdg_problem.specs.declared.parts.Parts.{Parts}
-use Rattle.xdg_problem.specs.Analyses.{IsAnalysis}
 use Rattle.xdg_problem.specs.Problems.{IsProblem}
 use Rattle.xdg_problem.specs.Vectors.{analysis_of, shape, vector}
 use Rattle.xdg_problem.proofs.OneList.{some_solution_list}
@@ -94,10 +93,6 @@ module _ (parts : Parts) (budget : ℕ) (s t : Streamed) (analyses broken : ℕ)
 
   -- a vector more was found
   module _ (step : Advances s steps.Found t) where
-    -- it stands for an analysis of the sentence
-    pub last_fits : IsAnalysis parts (analysis_of parts t.last)
-    last_fits = subst (λ p. IsAnalysis p (analysis_of p t.last)) k.problem (step.found refl).3.solution.fits
-
     -- the numbers stay in range
     pub in_range : (analyses + 1 ≤ budget) × (broken + 1 ≤ budget)
     in_range =

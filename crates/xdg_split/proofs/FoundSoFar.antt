@@ -3,7 +3,7 @@ use Rattle.std.proofs.Common.{◌≡◌, inl, inr, ℕ, ◌≤◌, ◌+◌, List
 use Rattle.std.specs.Prelude.{Option}
 use Rattle.std.specs.Option.{option_eq}
 use Rattle.std.proofs.lemmas.Bool.{eqb-true}
-use Rattle.std.proofs.lemmas.List.{length-map}
+use Rattle.std.proofs.lemmas.List.{length-map, map-append}
 use Rattle.xdg_base.specs.declared.ids.EntryNo.{EntryNo}
 use Rattle.xdg_io.specs.Held.{Appends}
 use Rattle.xdg_io.proofs.Written.{appends_both}
@@ -15,7 +15,6 @@ use Rattle.xdg_facts.proofs.Ordered.{three_cases}
 use Rattle.xdg_problem.specs.declared.analysis.Analysis.{Analysis}
 use Rattle.xdg_problem.specs.declared.analysis.Edge.{Edge}
 use Rattle.xdg_problem.specs.declared.parts.Parts.{Parts}
-use Rattle.xdg_problem.specs.Analyses.{IsAnalysis}
 use Rattle.xdg_problem.specs.Vectors.{shape, analysis_of}
 use Rattle.xdg_rules.specs.Boxed.{Boxed}
 use Rattle.xdg_stream.specs.declared.search.Step.{Step}
@@ -52,8 +51,7 @@ blocks_more : (form : Form) (parts : Parts) (number : ℕ) (list : List Analysis
 blocks_more form parts number list a = blocks_front form parts number list (a ∷ []) ∙ ap (λ z. blocks form parts number list ++ z) (append-nil (shown form parts (number + length list) a))
 
 pub map_more : (parts : Parts) (found : List (List ℕ)) (x : List ℕ) → map (analysis_of parts) (found ++ x ∷ []) ≡ map (analysis_of parts) found ++ analysis_of parts x ∷ []
-map_more parts [] x = refl
-map_more parts (y ∷ found) x = ap (λ z. analysis_of parts y ∷ z) (map_more parts found x)
+map_more parts found x = map-append (analysis_of parts) found (x ∷ [])
 
 -- the block of one more vector
 pub blocks_found : (form : Form) (parts : Parts) (found : List (List ℕ)) (x : List ℕ) (count : ℕ) → count ≡ length found + 1 → blocks form parts 1 (map (analysis_of parts) (found ++ x ∷ [])) ≡ blocks form parts 1 (map (analysis_of parts) found) ++ shown form parts count (analysis_of parts x)
@@ -130,10 +128,6 @@ module _ {form : Form} {wanted : Option ℕ} {parts : Parts} {start : List ℕ} 
 
   -- a vector more was found
   module _ (step : Advances s steps.Found t) where
-    -- it stands for an analysis of the sentence
-    pub found_fits : IsAnalysis parts (analysis_of parts t.last)
-    found_fits = subst (λ p. IsAnalysis p (analysis_of p t.last)) f.problem (step.found refl).3.solution.fits
-
     -- as many as were found are answers of a search that wants so many
     pub found_answered : Answered endings.First (shape parts) (Boxed parts) start budget (Some (length (f.found ++ t.last ∷ []))) (f.found ++ t.last ∷ [])
     found_answered = first_answers (Some (length (f.found ++ t.last ∷ []))) parts start budget t (f.found ++ t.last ∷ []) (step.given.0 ∙ f.problem) (step.given.1 ∙ f.begun) (step.given.2 ∙ f.spends) (step.charged f.found f.so_far) refl

@@ -2,7 +2,7 @@
 use Rattle.std.proofs.Common.{◌≡◌, ℕ, ◌<◌, ◌≤◌, inl, inr, Bool, true, false, List, [], ◌∷◌, ◌++◌, length, map, take, zero, suc, refl, ap, sym, ◌∙◌, subst, arith, append-nil, length-append, Some, None}
 use Rattle.std.specs.Prelude.{Option}
 use Rattle.std.proofs.Math.Seq.{take-length}
-use Rattle.std.proofs.lemmas.List.{length-map, length-take, length-take-le, take-map, take-take}
+use Rattle.std.proofs.lemmas.List.{length-map, length-take, length-take-le, take-append-le, take-map, take-take}
 use Rattle.xdg_split.proofs.Boxing.{boxed_listing}
 use Rattle.xdg_facts.specs.Endings.{IsAt, IsBelow, IsEnding}
 use Rattle.xdg_facts.specs.Whole.{reach}
@@ -22,11 +22,6 @@ use Rattle.xdg_split.specs.Splits.Reaches.{all, some}
 use Rattle.xdg_split.proofs.Reaching.{all_reach, not_both, one_reach, reach_both, reach_stopped, some_lists, some_reach}
 
 -- ---- lists
-
-pub take_front : (n : ℕ) (f g : List Analysis) → n ≤ length f → take n (f ++ g) ≡ take n f
-take_front zero f g l = refl
-take_front (suc n) [] g l = absurd (omega (arith, l))
-take_front (suc n) (a ∷ f) g l = ap (λ z. a ∷ z) (take_front n f g (omega (arith, l)))
 
 take_behind : (n : ℕ) (f g : List Analysis) → take n (f ++ take n g) ≡ take n (f ++ g)
 take_behind n f g = within n n f g (omega arith) where
@@ -106,20 +101,17 @@ seen_of : (later : Ending) (n : ℕ) (w : Bool) (r s g : List Analysis) → Ends
 seen_of endings.First n w r s g e long =
     let l = length-append r s in
     (omega (arith, l, e.0), ap (λ z. take n (r ++ z)) e.1 ∙ take_behind n r s)
-seen_of endings.Complete n w r s g e long = (subst (λ z. n ≤ length (r ++ z)) e.1 long, ap (λ z. take n (r ++ z)) e.1)
-seen_of endings.Spent n w r s g e long = (subst (λ z. n ≤ length (r ++ z)) e.1 long, ap (λ z. take n (r ++ z)) e.1)
+seen_of later n w r s g e long = (subst (λ z. n ≤ length (r ++ z)) e.1 long, ap (λ z. take n (r ++ z)) e.1)
 
 -- fewer than wanted are found together, so the later ones ended otherwise, and so do all
 below_of : (later : Ending) (n : ℕ) (w : Bool) (r s g : List Analysis) → Ends later (Some n) w s g → length (r ++ g) < n → Ends later (Some n) w (r ++ s) (r ++ g)
 below_of endings.First n w r s g e less =
     absurd (let k = ap length e.1 in let t = length-take-le n s e.0 in let l = length-append r g in omega (arith, k, t, l, less))
-below_of endings.Complete n w r s g e less = (e.0, ap (λ z. r ++ z) e.1, subst (λ z. length (r ++ z) < n) e.1 less)
-below_of endings.Spent n w r s g e less = (e.0, ap (λ z. r ++ z) e.1, subst (λ z. length (r ++ z) < n) e.1 less)
+below_of later n w r s g e less = (e.0, ap (λ z. r ++ z) e.1, subst (λ z. length (r ++ z) < n) e.1 less)
 
 none_of : (later : Ending) (w : Bool) (r s g : List Analysis) → Ends later None w s g → Ends later None w (r ++ s) (r ++ g)
 none_of endings.First w r s g e = absurd e
-none_of endings.Complete w r s g e = (e.0, ap (λ z. r ++ z) e.1, tt)
-none_of endings.Spent w r s g e = (e.0, ap (λ z. r ++ z) e.1, tt)
+none_of later w r s g e = (e.0, ap (λ z. r ++ z) e.1, tt)
 
 cut_ends : (wanted : Option ℕ) (r s g found : List Analysis) (w : Bool) (later ending : Ending) → Ends later wanted w s g → IsCut wanted later (r ++ g) ending found → Ends ending wanted w (r ++ s) found
 cut_ends None r s g found w later ending e cut =
@@ -154,7 +146,7 @@ first_stopped : (wanted : Option ℕ) (jobs others : List Asked) (found : List A
 first_stopped None jobs others found w v r s x y e = absurd e
 first_stopped (Some n) jobs others found true v r s x y e =
     let l = length-append r s in
-    record { whole = v; reached = r ++ s; reach = reach_both jobs others v r s x y; end = (omega (arith, l, e.0), e.1 ∙ sym (take_front n r s e.0)) }
+    record { whole = v; reached = r ++ s; reach = reach_both jobs others v r s x y; end = (omega (arith, l, e.0), e.1 ∙ sym (take-append-le n r s e.0)) }
 first_stopped (Some n) jobs others found false v r s x y e = record { whole = false; reached = r; reach = reach_stopped jobs others r x; end = e }
 
 pub split_stopped : (wanted : Option ℕ) (jobs others : List Asked) (ending : Ending) (found : List Analysis) (v : Bool) (s : List Analysis) → (ending ≡ endings.Complete → ⊥) → IsSplit wanted jobs ending found → Reach others v s → IsSplit wanted (jobs ++ others) ending found
@@ -177,21 +169,14 @@ not_complete e ending is other c = other (sym is ∙ c)
 
 one_end : (wanted : Option ℕ) (w : Bool) (r : List Analysis) (e h : Ending) (f g : List Analysis) → Ends e wanted w r f → Ends h wanted w r g → (e ≡ h) × (f ≡ g)
 one_end None w r endings.First h f g x y = absurd x
-one_end None w r endings.Complete endings.First f g x y = absurd y
-one_end None w r endings.Complete endings.Complete f g x y = (refl, x.1 ∙ sym y.1)
-one_end None w r endings.Complete endings.Spent f g x y = not_both (sym x.0 ∙ y.0)
-one_end None w r endings.Spent endings.First f g x y = absurd y
-one_end None w r endings.Spent endings.Complete f g x y = not_both (sym y.0 ∙ x.0)
-one_end None w r endings.Spent endings.Spent f g x y = (refl, x.1 ∙ sym y.1)
+one_end None w r e endings.First f g x y = absurd y
 one_end (Some n) w r endings.First endings.First f g x y = (refl, x.1 ∙ sym y.1)
-one_end (Some n) w r endings.First endings.Complete f g x y = absurd (omega (arith, x.0, y.2))
-one_end (Some n) w r endings.First endings.Spent f g x y = absurd (omega (arith, x.0, y.2))
-one_end (Some n) w r endings.Complete endings.First f g x y = absurd (omega (arith, y.0, x.2))
-one_end (Some n) w r endings.Complete endings.Complete f g x y = (refl, x.1 ∙ sym y.1)
-one_end (Some n) w r endings.Complete endings.Spent f g x y = not_both (sym x.0 ∙ y.0)
-one_end (Some n) w r endings.Spent endings.First f g x y = absurd (omega (arith, y.0, x.2))
-one_end (Some n) w r endings.Spent endings.Complete f g x y = not_both (sym y.0 ∙ x.0)
-one_end (Some n) w r endings.Spent endings.Spent f g x y = (refl, x.1 ∙ sym y.1)
+one_end (Some n) w r endings.First h f g x y = absurd (omega (arith, x.0, y.2))
+one_end (Some n) w r e endings.First f g x y = absurd (omega (arith, y.0, x.2))
+one_end wanted w r endings.Complete endings.Complete f g x y = (refl, x.1 ∙ sym y.1)
+one_end wanted w r endings.Complete endings.Spent f g x y = not_both (sym x.0 ∙ y.0)
+one_end wanted w r endings.Spent endings.Complete f g x y = not_both (sym y.0 ∙ x.0)
+one_end wanted w r endings.Spent endings.Spent f g x y = (refl, x.1 ∙ sym y.1)
 
 one_split : (jobs : List Asked) → AreProblems jobs → (wanted : Option ℕ) (e h : Ending) (f g : List Analysis) → IsSplit wanted jobs e f → IsSplit wanted jobs h g → (e ≡ h) × (f ≡ g)
 one_split jobs are wanted e h f g x y =

@@ -5,7 +5,8 @@ use Rattle.xdg_split.proofs.FoundSoFar.{analysis_is}
 use Rattle.xdg_problem.specs.Analyses.{IsAnalysis}
 use Rattle.xdg_text.specs.Lines.{line}
 use Rattle.xdg_text.specs.Words.{word_text}
-use Rattle.xdg_arrange.proofs.Laying.{adds_spent, adds_whole, block_failed, in_range, laid_more, laid_none, last_fits}
+use Rattle.xdg_arrange.proofs.Laying.{adds_spent, adds_whole, block_failed, in_range, laid_more, laid_none}
+use Rattle.xdg_stream.proofs.Streaming.{found_fits}
 use Rattle.xdg_arrange.proofs.searching.print_found.Goals as goal
 
 pub draw-init : goal.draw-init
@@ -27,7 +28,7 @@ write_found-written-requires g c =
     let step = c.in-Found.ensures.step in
     let new = c.advance.new.self in
     let is = analysis_is c.args.problem.now new.parts new.last c.entries.result.now c.attrs.result.now c.edges.result.now (step.given.0 ∙ f.problem) c.entries.ensures c.attrs.ensures c.edges.ensures in
-    subst (IsAnalysis c.args.problem.now) (sym is) (last_fits (line (codes "arrangement") (map word_text c.args.lead.now)) c.args.problem.now c.args.stream.now.budget c.draw.stream new c.draw.count _ _ f step)
+    subst (IsAnalysis c.args.problem.now) (sym is) (found_fits f.problem step)
 
 pub returns-then-is_err-clause-written : goal.returns-then-is_err-clause-written
 returns-then-is_err-clause-written g c =

@@ -1,5 +1,6 @@
 use Rattle.std.proofs.Common.{◌∙◌, arith, refl}
-use Rattle.xdg_searches.proofs.Tallying.{complete_counts, in_range, last_fits, spent_counts, tallied_more, tallied_none}
+use Rattle.xdg_searches.proofs.Tallying.{complete_counts, in_range, spent_counts, tallied_more, tallied_none}
+use Rattle.xdg_stream.proofs.Streaming.{found_fits}
 use Rattle.xdg_searches.proofs.counting.count_found.Goals as goal
 
 pub draw-init : goal.draw-init
@@ -8,7 +9,7 @@ draw-init g c = tallied_none c.args.problem.now c.args.stream.now.budget c.args.
 pub is_last_broken-requires : goal.is_last_broken-requires
 is_last_broken-requires g c = record {
   given = c.in-Found.ensures.step.given.0 ∙ c.draw.invariant.problem;
-  fits = last_fits c.args.problem.now c.args.stream.now.budget c.draw.stream c.advance.new.self c.draw.analyses c.draw.broken c.draw.invariant c.in-Found.ensures.step;
+  fits = found_fits c.draw.invariant.problem c.in-Found.ensures.step;
 }
 
 pub overflow_add-analyses : goal.overflow_add-analyses
