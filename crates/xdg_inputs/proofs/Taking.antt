@@ -67,7 +67,7 @@ module _ {A : Type 0} (why : Refusing) (made : Expanded) (right : HasRightLexico
 pub all_taken : (told new : Option (List ℕ)) (bytes input : List ℕ) → TakesAll told new bytes → told ≡ Some input → (bytes ≡ input) × (new ≡ Some [])
 all_taken told new bytes input takes e = subst (λ z. TakesAll z new bytes) e takes
 
-module _ {A B : Type 0} (Bad : List ℕ → List ℕ → Fault → Type 0) (Has : List ℕ → A → Type 0) (told new : Option (List ℕ)) (bytes : List ℕ) (before after : ℕ) where
+module _ {A : Type 0} (Bad : List ℕ → List ℕ → Fault → Type 0) (Has : List ℕ → A → Type 0) (told new : Option (List ℕ)) (bytes : List ℕ) (before after : ℕ) where
   -- what stops a call for some bytes
   abbrev Stopped : Refusal → Type 0
   Stopped refusal = Stops (Unit {0}) 0 0 A (Bad bytes) (Has bytes) refusal
@@ -78,12 +78,12 @@ module _ {A B : Type 0} (Bad : List ℕ → List ℕ → Fault → Type 0) (Has 
   stops_here (refusals.Text f p) takes s input = λ e. subst (λ z. RejectsAt A (Bad z) (Has z) f p) (all_taken told new bytes input takes e).0 (s tt)
 
   -- stops it for the input too
-  pub input_stops : (result : Result B Refusal) → TakesAll told new bytes → IfErr result Stopped → IfErr result (λ refusal. (input : List ℕ) → Stops (told ≡ Some input) before after A (Bad input) (Has input) refusal)
+  pub input_stops : {B : Type 0} (result : Result B Refusal) → TakesAll told new bytes → IfErr result Stopped → IfErr result (λ refusal. (input : List ℕ) → Stops (told ≡ Some input) before after A (Bad input) (Has input) refusal)
   input_stops (Ok b) takes s = tt
   input_stops (Err refusal) takes s = stops_here refusal takes s
 
   -- and no device fails behind the reading
-  pub input_read : (result : Result B Refusal) → IfErr result Stopped → IfErr result (λ refusal. refusal ≡ refusals.Read → Rose before after)
+  pub input_read : {B : Type 0} (result : Result B Refusal) → IfErr result Stopped → IfErr result (λ refusal. refusal ≡ refusals.Read → Rose before after)
   input_read (Ok b) s = tt
   input_read (Err refusal) s = λ e. absurd (still (subst Stopped e s))
 

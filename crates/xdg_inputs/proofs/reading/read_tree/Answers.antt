@@ -8,7 +8,7 @@ pub returns-in-Err-clause-only : goal.returns-in-Err-clause-only
 returns-in-Err-clause-only c = refused_only grammars c.args.text.now c.in-Err.stop c.in-Err.ensures.only
 
 pub returns-clause-tells : goal.returns-clause-tells
-returns-clause-tells c = tree_tells grammars c.args.text.now (lexemes_of c.in-Ok.tokens.now) _ refl c.parse.result c.in-Ok.ensures.tells c.parse.ensures.tells
+returns-clause-tells c = tree_tells grammars c.args.text.now (lexemes_of c.in-Ok.tokens) _ refl c.parse.result c.in-Ok.ensures.tells c.parse.ensures.tells
 
 pub returns-clause-only : goal.returns-clause-only
-returns-clause-only c = tree_only grammars c.args.text.now (lexemes_of c.in-Ok.tokens.now) _ refl c.parse.result c.in-Ok.ensures.only c.parse.ensures.only
+returns-clause-only c = tree_only grammars c.args.text.now (lexemes_of c.in-Ok.tokens) _ refl c.parse.result c.in-Ok.ensures.only c.parse.ensures.only
