@@ -15,7 +15,7 @@ use Rattle.xdg_problem.specs.Features.{in_row, out_row, set_row, map_row}
 use Rattle.xdg_problem.specs.Paths.{edges_on, edges_into, edges_out_of, edges_joining, mothers, roots, IsDaughterBy, IsDaughterByAny, Above, AboveByFirst, AboveByLast}
 use Rattle.xdg_problem.specs.Places.{nodes}
 use Rattle.xdg_problem.specs.Relations.{IsKept}
-use Rattle.xdg_problem.proofs.PairsMapped.{pairs_mapped}
+use Rattle.xdg_facts.proofs.InOrder.{pairs_mapped}
 use Rattle.xdg_problem.proofs.Tuples.{tuples_of, tuples}
 use Rattle.xdg_build.specs.Principles.{StartsBy, EndsBy}
 

@@ -26,7 +26,7 @@ use Rattle.xdg_problem.specs.Names.{IsOfTexts}
 use Rattle.xdg_problem.specs.Paths.{edges_on, IsDaughter, IsDaughterBy}
 use Rattle.xdg_problem.specs.Relations.{Relation}
 use Rattle.xdg_problem.specs.Vectors.{entry_places}
-use Rattle.xdg_problem.proofs.Tuples.{none_kept, one_kept, two_kept, three_kept, chosen_kept}
+use Rattle.xdg_facts.proofs.Each.{none_kept, one_kept, two_kept, three_kept, chosen_kept}
 use Rattle.xdg_types.specs.Table.{ArePlaces, typed}
 use Rattle.xdg_principles.specs.declared.building.Arg.{Arg}
 use Rattle.xdg_principles.specs.declared.building.Arg.TheVariants as arg
@@ -56,7 +56,7 @@ use Rattle.xdg_build.proofs.Conditions.{Kept, AreWithin}
 use Rattle.xdg_build.proofs.Told as told
 use Rattle.xdg_build.proofs.Told.{Given, IsTold, on_feature}
 use Rattle.xdg_build.proofs.FeatureRows.{same_number, Names, names_number, names_some, same_texts, element, element_right, element_small, member_names, members_below, valency_allows, IsMapRow, map_row_is}
-use Rattle.xdg_facts.proofs.Facts.{both_steps, then_iff}
+use Rattle.xdg_facts.proofs.Facts.{both_steps}
 use Rattle.xdg_facts.specs.Membership.{In}
 use Rattle.xdg_terms.proofs.Meant.{one_place}
 use Rattle.xdg_problem.specs.Principles.{feature_dim, conditions_for}
@@ -346,7 +346,7 @@ module _ (g : Grammar) (words : List SentenceWord) (a : Analysis) (u : Principle
 
   map_asks : (M : List (List ℕ) → Type 0) (s : Shape) (row : List ℕ) (A B : Type 0) → HasRow M s row → A ↔ B → ((some : List (List ℕ)) → M some → A) ↔ (0 < length row → B)
   map_asks M s row A B has same =
-      then_iff ((some : List (List ℕ)) → M some → A) (((some : List (List ℕ)) × M some) → A) (0 < length row → B) (some_curried M A) (kept.where_some ((some : List (List ℕ)) × M some) row A B (some_is M s row has) same)
+      both_steps (some_curried M A) (kept.where_some ((some : List (List ℕ)) × M some) row A B (some_is M s row has) same)
 
   -- ---- principle by principle
 
@@ -388,7 +388,7 @@ module _ (g : Grammar) (words : List SentenceWord) (a : Analysis) (u : Principle
 
   -- a principle with one condition
   one : (A : Type 0) (condition : Condition) → A ↔ C condition → A ↔ All C (condition ∷ [])
-  one A condition same = then_iff A (C condition) (All C (condition ∷ [])) same (one_kept C condition)
+  one A condition same = both_steps same (one_kept C condition)
 
   -- the value of an attribute of the shared type is among those of a row of that type
   value_in : (i : ℕ) (member : IsTypedMember g.table u shared sorts.Attribute nth.First (typings.One elements.Shared) i) (key : List ℕ) (v : ℕ) → v < n → attr_of G 0 ≡ i → argument u key ≡ Some (arg.Attr i)

@@ -15,7 +15,7 @@ use Rattle.xdg_ast.specs.Misnamed.{IsUnknown}
 use Rattle.xdg_types.specs.NameFaults.{unknown, foreign, repeats, different}
 use Rattle.xdg_types.specs.Parts.{Statement, keys}
 use Rattle.xdg_types.specs.Table.{Table}
-use Rattle.xdg_names.proofs.Listing.{Lists, lists_tell, lists_as, lists_both, lists_each, lists_when}
+use Rattle.xdg_names.proofs.Listing.{lists_tell}
 use Rattle.xdg_types.proofs.Listings.{joined_each, mapped, swapped}
 use Rattle.xdg_types.proofs.Optional.{lists_one, lists_option}
 use Rattle.xdg_types.proofs.Distinct.{same_known, of_different, to_different}
@@ -32,6 +32,7 @@ use Rattle.xdg_facts.proofs.Options.{none_some}
 use Rattle.xdg_facts.specs.Membership.{In}
 use Rattle.xdg_facts.proofs.In.{in_flat_map, flat_map_in, in_map, map_in}
 use Rattle.xdg_ast.specs.Texts.{texts}
+use Rattle.xdg_facts.proofs.Parts.{Lists, lists_as, lists_both, lists_each, lists_when}
 
 -- ---- parameters without default
 

@@ -1,11 +1,11 @@
 -- What an operation on bits does to the numbers that they stand for.
-use Rattle.std.proofs.Common.{◌≡◌, ℕ, ◌<◌, ◌≤◌, ◌-◌, ◌*◌, ◌%◌, ◌^◌, List, [], ◌∷◌, refl, ap, ap₂, sym, ◌∙◌, arith, inl, inr, bit_and, bit_or}
-use Rattle.std.specs.Prelude.{Bool, true, false, not, ◌&&◌, ◌||◌, ◌==◌, filter, cond, nat_lt}
+use Rattle.std.proofs.Common.{◌≡◌, ℕ, ◌<◌, ◌≤◌, ◌-◌, ◌*◌, ◌%◌, ◌^◌, [], ◌∷◌, refl, ap, ap₂, sym, ◌∙◌, arith, inl, inr, bit_and, bit_or}
+use Rattle.std.specs.Prelude.{Bool, true, false, not, ◌&&◌, ◌||◌, ◌==◌, filter, nat_lt}
 use Rattle.std.specs.Int.{w128, trailing_zeros, leading_zeros}
 use Rattle.std.proofs.lemmas.Nat.{pow_pos, one_shl, or_lt, le_or_l, and_le_l}
 use Rattle.std.proofs.lemmas.Nat.Bits.{bit_at_mask_inside}
 use Rattle.std.proofs.Math.Bool.{and-true}
-use Rattle.std.proofs.lemmas.Bool.{cases_lt, cond_both, eq-eqb, ne_eqb}
+use Rattle.std.proofs.lemmas.Bool.{cases_lt, eq-eqb, ne_eqb}
 use Rattle.xdg_domain.specs.Cards.{cards, IsCards, with_card, common}
 use Rattle.xdg_facts.specs.Rises.{has, numbers_below}
 use Rattle.xdg_facts.specs.BitSets.{is_set, members}
@@ -13,6 +13,7 @@ use Rattle.xdg_facts.proofs.Truths.{apart}
 use Rattle.std.specs.Int.Bits.{or_zero_l}
 use Rattle.xdg_facts.proofs.BitMembers.{has_members, empty_bits, with_bits, meet_bits, lowest_bit, highest_bit}
 use Rattle.xdg_facts.proofs.Rising.{numbers_agree, has_beyond, has_exact, has_tested, numbers_whole, none_of, but, rises_of, first_of}
+use Rattle.xdg_facts.proofs.Filters.{filter_both}
 
 -- the bit of a number that stands there is set
 standing : (b k : ℕ) → has (members b) k ≡ true → is_set b k ≡ true
@@ -76,18 +77,9 @@ with_has b n within = has_exact 128 (λ m. (m == n) || has (members b) m) (λ m 
 
 -- ---- the numbers of both
 
-filter_twice : (p q : ℕ → Bool) (xs : List ℕ) → filter q (filter p xs) ≡ filter (λ n. p n && q n) xs
-filter_twice p q [] = refl
-filter_twice p q (x ∷ xs) =
-    let rest = filter_twice p q xs in
-    let later = filter (λ n. p n && q n) xs in
-    cond_both (p x) (x ∷ filter p xs) (filter p xs) (λ s. filter q s ≡ cond (p x && q x) (x ∷ later) later)
-    (λ t. ap (λ s. cond (q x) (x ∷ s) s) rest ∙ sym (ap (λ b. cond (b && q x) (x ∷ later) later) t))
-    (λ t. rest ∙ sym (ap (λ b. cond (b && q x) (x ∷ later) later) t))
-
 numbers_twice : (bound : ℕ) (p q : ℕ → Bool) → filter q (numbers_below bound p) ≡ numbers_below bound (λ n. p n && q n)
 unfolding numbers_below
-numbers_twice bound p q = filter_twice p q _
+numbers_twice bound p q = filter_both q p _
 
 pub common_bits : (a b : ℕ) → members (bit_and a b) ≡ common (members a) (members b)
 common_bits a b = meet_bits a b ∙ sym (ap (filter (has (members b))) (numbers_whole 128 (is_set a)) ∙ numbers_twice 128 (has (members a)) (has (members b)))

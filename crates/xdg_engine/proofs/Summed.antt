@@ -10,8 +10,8 @@ use Rattle.xdg_problem.specs.declared.parts.Parts.{Parts}
 use Rattle.xdg_problem.specs.Boxes.{edge_decision}
 use Rattle.xdg_problem.specs.Paths.{edges_out_of}
 use Rattle.xdg_problem.specs.Places.{places}
-use Rattle.xdg_problem.proofs.FilterFacts.{count_of_filter, filter_alike}
-use Rattle.xdg_problem.proofs.Ordered.{contains_head}
+use Rattle.xdg_facts.proofs.Filters.{count_of_filter, filter_alike}
+use Rattle.xdg_facts.proofs.Contained.{contains_head}
 use Rattle.xdg_rules.specs.Bounds.{sum_below, must_places}
 use Rattle.xdg_rules.specs.Rules.{has, must_edges}
 use Rattle.xdg_rules.proofs.Summing.{below_same}

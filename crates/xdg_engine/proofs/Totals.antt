@@ -13,7 +13,7 @@ use Rattle.xdg_problem.specs.Costs.{CostLists, entry_cost, label_cost}
 use Rattle.xdg_problem.specs.Paths.{IsDaughterBy, edges_out_of}
 use Rattle.xdg_problem.specs.Places.{nodes, places}
 use Rattle.xdg_problem.specs.Problems.{IsProblem}
-use Rattle.xdg_problem.proofs.FilterFacts.{filter_contained}
+use Rattle.xdg_facts.proofs.Filters.{filter_contained}
 use Rattle.xdg_problem.proofs.PlaceOrder.{is_place}
 use Rattle.xdg_problem.proofs.PlacePlans.{dim_within}
 use Rattle.xdg_graph.specs.declared.which.Which.TheVariants as whichs

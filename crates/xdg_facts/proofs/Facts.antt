@@ -1,8 +1,5 @@
 -- Facts on what has no room of its own.
 use Rattle.std.proofs.Common.{◌↔◌}
 
-pub then_iff : (A B C : Type 0) → A ↔ B → B ↔ C → A ↔ C
-then_iff A B C f g = (λ a. g.0 (f.0 a), λ c. f.1 (g.1 c))
-
 pub both_steps : {A B C : Type 0} → A ↔ B → B ↔ C → A ↔ C
 both_steps f g = (λ a. g.0 (f.0 a), λ c. f.1 (g.1 c))

@@ -20,3 +20,10 @@ pub mod In
 pub mod Weights
 pub mod Rising
 pub mod BitMembers
+pub mod Each
+pub mod InOrder
+pub mod Contained
+pub mod Filters
+pub mod Keeping
+pub mod Decided
+pub mod Parts

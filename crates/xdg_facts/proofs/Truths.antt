@@ -86,3 +86,18 @@ choose b x y h = rw h refl
 pub apart : {A : Type 0} (t : Bool) → t ≡ true → t ≡ false → A
 apart true e f = absurd (omega (arith, ap {B = ℕ} (λ b. cond b 1 0) f))
 apart false e f = absurd (omega (arith, ap {B = ℕ} (λ b. cond b 1 0) e))
+
+pub and_given : (a b : Bool) → (b ≡ true → a ≡ true) → (a && b) ≡ b
+and_given true b h = refl
+and_given false true h = h refl
+and_given false false h = refl
+
+pub and_true : (a b : Bool) → b ≡ true → (a && b) ≡ a
+and_true true b h = h
+and_true false b h = refl
+
+pub and_3 : (a b c : Bool) → a ≡ true → b ≡ true → c ≡ true → (a && b && c) ≡ true
+and_3 a b c x y z = rw (x, y, z) refl
+
+pub and_4 : (a b c d : Bool) → a ≡ true → b ≡ true → c ≡ true → d ≡ true → (a && b && c && d) ≡ true
+and_4 a b c d x y z w = rw (x, y, z, w) refl

@@ -12,10 +12,10 @@ use Rattle.xdg_problem.specs.Boxes.{IsBox}
 use Rattle.xdg_problem.specs.Paths.{Above, IsDaughter}
 use Rattle.xdg_problem.specs.Places.{nodes}
 use Rattle.xdg_problem.specs.Vectors.{shape}
-use Rattle.xdg_problem.proofs.Looking.{any_of}
+use Rattle.xdg_facts.proofs.Contained.{any_of}
+use Rattle.xdg_facts.proofs.Keeping.{strictly_length}
 use Rattle.xdg_problem.proofs.PlaceOrder.{is_place}
 use Rattle.xdg_problem.proofs.Walks.{above_in, above_trans, closed_above, daughter_above}
-use Rattle.xdg_rules.proofs.Keeping.{strictly_length}
 use Rattle.xdg_graph.specs.declared.which.Which.{Which}
 use Rattle.xdg_graph.specs.Edges.{edges_of}
 use Rattle.xdg_graph.proofs.Edges.{which_exact}

@@ -20,7 +20,7 @@ use Rattle.xdg_problem.specs.Problems.{IsProblem, IsGroup, IsSuited}
 use Rattle.xdg_problem.specs.Tests.{Test, IsTestOf, linked}
 use Rattle.xdg_problem.specs.Truths.{bound, unbound, AreNodes}
 use Rattle.xdg_problem.specs.Vectors.{shape}
-use Rattle.xdg_problem.proofs.FilterFacts.{filter_alike}
+use Rattle.xdg_facts.proofs.Filters.{filter_alike}
 use Rattle.xdg_rules.specs.Rules.{has, may_edges, must_edges, FailsTest, TakesBy, Takes, IsClosedFor}
 use Rattle.xdg_rules.specs.Worths.{Makes, MakesEach, MakesSome, RuleFalse}
 use Rattle.xdg_problem.proofs.Bindings.{bound_nodes}

@@ -11,7 +11,7 @@ use Rattle.xdg_problem.specs.Paths.{IsDaughter, IsDaughterBy}
 use Rattle.xdg_problem.specs.Places.{edge, nodes}
 use Rattle.xdg_problem.specs.Vectors.{shape}
 use Rattle.xdg_problem.proofs.Edges.{edge_equal}
-use Rattle.xdg_problem.proofs.Looking.{any_of}
+use Rattle.xdg_facts.proofs.Contained.{any_of}
 use Rattle.xdg_problem.proofs.PlaceOrder.{is_place, place_is}
 use Rattle.xdg_rules.specs.Rules.{IsPlaceOn}
 use Rattle.xdg_rules.proofs.Shrinking.{may_exact, must_exact}

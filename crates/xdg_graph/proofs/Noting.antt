@@ -11,7 +11,7 @@ use Rattle.xdg_problem.specs.Boxes.{IsBox}
 use Rattle.xdg_problem.specs.Paths.{Above, IsDaughter}
 use Rattle.xdg_problem.specs.Places.{nodes}
 use Rattle.xdg_problem.specs.Vectors.{shape}
-use Rattle.xdg_problem.proofs.Looking.{any_of}
+use Rattle.xdg_facts.proofs.Contained.{any_of}
 use Rattle.xdg_problem.proofs.PlaceOrder.{is_place}
 use Rattle.xdg_graph.specs.declared.which.Which.{Which}
 use Rattle.xdg_graph.specs.Edges.{IsBlank, edges_of}

@@ -16,7 +16,7 @@ use Rattle.xdg_judge.specs.declared.paths.Way.TheVariants as ways
 use Rattle.xdg_judge.specs.declared.links.Links.{Links}
 use Rattle.xdg_judge.specs.Joining.{IsLed}
 use Rattle.xdg_judge.specs.Links.{AreLinks}
-use Rattle.xdg_problem.proofs.PairsMapped.{pairs_mapped}
+use Rattle.xdg_facts.proofs.InOrder.{pairs_mapped}
 use Rattle.xdg_judge.proofs.Meeting.{led_exact}
 use Rattle.xdg_judge.proofs.Ways.{last_exact}
 use Rattle.xdg_facts.proofs.Facts.{both_steps}

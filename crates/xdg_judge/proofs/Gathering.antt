@@ -7,8 +7,8 @@ use Rattle.std.proofs.lemmas.List.Elements.{filter-append, All-contains, Contain
 use Rattle.xdg_problem.specs.declared.analysis.Edge.{Edge}
 use Rattle.xdg_problem.specs.Paths.{edges_on}
 use Rattle.xdg_judge.specs.Reached.{AreWithin}
-use Rattle.xdg_problem.proofs.FilterFacts.{filter_contained}
-use Rattle.xdg_problem.proofs.Looking.{any_of}
+use Rattle.xdg_facts.proofs.Filters.{filter_contained}
+use Rattle.xdg_facts.proofs.Contained.{any_of}
 
 -- one edge more
 pub any_more : (P : Edge → Type 0) (xs : List Edge) (y : Edge) → Any P (xs ++ y ∷ []) ↔ (Any P xs ⊎ P y)

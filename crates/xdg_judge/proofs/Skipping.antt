@@ -11,7 +11,7 @@ use Rattle.xdg_problem.specs.Paths.{Above, IsDaughterBy}
 use Rattle.xdg_judge.specs.declared.links.Links.{Links}
 use Rattle.xdg_judge.specs.Links.{AreLinks}
 use Rattle.xdg_nodeset.specs.Tables.{In}
-use Rattle.xdg_problem.proofs.PairsMapped.{pairs_mapped}
+use Rattle.xdg_facts.proofs.InOrder.{pairs_mapped}
 use Rattle.xdg_facts.specs.Rises.{has}
 
 is_between : (u v w : ℕ) → IsBetween u v w → (nat_lt (min u v) w && nat_lt w (max u v)) ≡ true

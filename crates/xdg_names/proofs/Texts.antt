@@ -25,6 +25,11 @@ later : (found : Option ℕ) (place : ℕ) → option_map suc found ≡ Some pla
 later None place e = absurd (true≢false (sym (ap is_some e)))
 later (Some before) place e = (before, refl, cc)
 
+-- the place, counted from the text with that number
+abbrev pub counted_from : ℕ → Option ℕ → Option ℕ
+counted_from start None = None
+counted_from start (Some n) = Some (start + n)
+
 -- ---- one list
 
 -- what the test finds stands there, and the other way round

@@ -15,7 +15,7 @@ mod walk;
 
 pub use graph::{Components, Use};
 pub use index::Index;
-pub use listed::has_text;
+pub use listed::{has_text, place_of};
 pub use meeting::closing;
 pub use numbering::components;
 pub use order::{earlier, is_before};

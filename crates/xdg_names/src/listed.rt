@@ -1,7 +1,7 @@
 //! Texts in a list.
 
 ghost use Rattle.std.specs.Prelude.{◌≡◌};
-ghost use Rattle.xdg_base.specs.Texts.{has_text};
+ghost use Rattle.xdg_names.specs.Texts.{has_text, place_of};
 
 use xdg_base::Text;
 
@@ -15,4 +15,17 @@ pub fn has_text(texts: &[Text], text: &str) -> bool
         }
     }
     false
+}
+
+/// The place of a text in a list, from 0: the first, where it stands there more than once. The time is linear in the list, as that of
+/// [`has_text`].
+pub fn place_of(texts: &[Text], text: &str) -> Option<usize>
+    ensures { result ≡ place_of texts.now text.now }
+{
+    for (place, other) in texts.iter().enumerate() {
+        if other.as_str() == text {
+            return Some(place);
+        }
+    }
+    None
 }

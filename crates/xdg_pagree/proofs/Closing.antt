@@ -12,7 +12,7 @@ use Rattle.xdg_problem.specs.Boxes.{Has, entry_decision, edge_decision}
 use Rattle.xdg_problem.specs.Features.{set_row, map_row}
 use Rattle.xdg_problem.specs.Places.{edge, nodes}
 use Rattle.xdg_problem.specs.Tests.{Test, IsTestOf, allowed_value, agreeing, governed}
-use Rattle.xdg_problem.proofs.Deciding.{decided_contains}
+use Rattle.xdg_facts.proofs.Decided.{decided_contains}
 use Rattle.xdg_problem.proofs.PlaceOrder.{is_place}
 use Rattle.xdg_rules.specs.Rules.{IsDecided, TestDecided, TestPasses, IsClosedFor, attr_of_node, value_in}
 use Rattle.xdg_propcore.proofs.ByRules.{NoRule, PassesAll, closed_by}

@@ -8,10 +8,10 @@ use Rattle.xdg_problem.specs.declared.parts.Parts.{Parts}
 use Rattle.xdg_problem.specs.Arguments.{first_dim}
 use Rattle.xdg_problem.specs.Boxes.{Has, LiesIn, entry_decision, edge_decision}
 use Rattle.xdg_problem.specs.Places.{places}
-use Rattle.xdg_problem.proofs.FilterFacts.{filter_both, filter_contained}
-use Rattle.xdg_problem.proofs.Ordered.{contains_filter}
+use Rattle.xdg_facts.proofs.Filters.{filter_both, filter_contained}
+use Rattle.xdg_facts.proofs.Contained.{contains_filter}
+use Rattle.xdg_facts.proofs.Keeping.{filter_on}
 use Rattle.xdg_rules.specs.Rules.{has, HasNoneWithin, IsGreatest, IsLeast, may_edges, must_edges}
-use Rattle.xdg_rules.proofs.Keeping.{filter_on}
 use Rattle.xdg_rules.proofs.Shrinking.{may_be, must_be}
 use Rattle.xdg_pgraph.specs.Bundles.{EdgeAt, IsBundleDone, IsOpen, count_of, near_node, numbers_of}
 use Rattle.xdg_pgraph.specs.declared.bundle.Way.{Way}

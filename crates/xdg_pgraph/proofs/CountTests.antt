@@ -14,12 +14,12 @@ use Rattle.xdg_problem.specs.Features.{in_row, out_row}
 use Rattle.xdg_problem.specs.Paths.{edges_into, edges_out_of}
 use Rattle.xdg_problem.specs.Places.{nodes, places}
 use Rattle.xdg_problem.specs.Tests.{Test, Counts, looks_at, out_count, in_count}
-use Rattle.xdg_problem.proofs.FilterFacts.{count_of_filter}
+use Rattle.xdg_facts.proofs.Filters.{count_of_filter}
+use Rattle.xdg_facts.proofs.Contained.{any_passes, list_any_of}
+use Rattle.xdg_facts.proofs.Keeping.{less_length}
 use Rattle.xdg_problem.proofs.PlaceOrder.{is_place}
 use Rattle.xdg_rules.specs.Rules.{has, IsDecided, HasNoneWithin, TestDecided, TestPasses, ValencyEntry, may_edges, must_edges, value_in}
 use Rattle.xdg_propcore.proofs.SeenEdges.{value_has}
-use Rattle.xdg_rules.proofs.Among.{any_passes, list_any_of}
-use Rattle.xdg_rules.proofs.Keeping.{less_length}
 use Rattle.xdg_rules.proofs.Shrinking.{may_be, must_be, must_test}
 
 -- a number of a list lies between two others, or none does

@@ -12,7 +12,7 @@ use Rattle.xdg_problem.specs.Boxes.{Has, LiesIn, edge_decision}
 use Rattle.xdg_problem.specs.Paths.{Above, mothers, roots}
 use Rattle.xdg_problem.specs.Places.{nodes, places}
 use Rattle.xdg_rules.specs.Rules.{has, IsPlaceOn, OneMother, NoCycle, OneLabel, may_edges, must_edges}
-use Rattle.xdg_rules.proofs.Keeping.{filter_on}
+use Rattle.xdg_facts.proofs.Keeping.{filter_on}
 use Rattle.xdg_rules.proofs.Shrinking.{may_be, must_be}
 use Rattle.xdg_pgraph.specs.Musts.{ByMusts}
 use Rattle.xdg_pgraph.specs.Ruling.{ForRoot, ForOthers}

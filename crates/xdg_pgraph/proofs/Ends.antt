@@ -14,9 +14,10 @@ use Rattle.xdg_problem.specs.Arguments.{label_count}
 use Rattle.xdg_problem.specs.Paths.{IsDaughterBy, edges_out_of}
 use Rattle.xdg_problem.specs.Places.{edge, places}
 use Rattle.xdg_problem.proofs.Edges.{edge_equal}
-use Rattle.xdg_problem.proofs.FilterFacts.{filter_contained}
-use Rattle.xdg_problem.proofs.Looking.{any_of}
-use Rattle.xdg_problem.proofs.Ordered.{Ordered, each_both, each_filter, each_passed, ordered_filter, contains_filter, contains_map}
+use Rattle.xdg_facts.proofs.Filters.{filter_contained}
+use Rattle.xdg_facts.proofs.Contained.{any_of, contains_filter, contains_map}
+use Rattle.xdg_facts.proofs.InOrder.{Ordered, ordered_filter}
+use Rattle.xdg_facts.proofs.Each.{each_both, each_filter, each_passed}
 use Rattle.xdg_problem.proofs.PlaceOrder.{places_ordered}
 use Rattle.xdg_rules.proofs.Shrinking.{may_be, must_be}
 use Rattle.xdg_store.specs.States.{State}

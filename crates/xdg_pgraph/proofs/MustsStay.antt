@@ -14,14 +14,16 @@ use Rattle.xdg_problem.specs.Paths.{mothers}
 use Rattle.xdg_problem.specs.Places.{below, nodes, places}
 use Rattle.xdg_problem.specs.Problems.{IsProblem}
 use Rattle.xdg_problem.specs.Vectors.{shape}
-use Rattle.xdg_problem.proofs.Ordered.{contains_filter, each_contained, numbers_within}
+use Rattle.xdg_problem.proofs.Ordered.{numbers_within}
 use Rattle.xdg_problem.proofs.PlaceOrder.{is_place}
 use Rattle.xdg_rules.specs.Rules.{has, IsClosedFor, Takes, may_edges, must_edges}
 use Rattle.xdg_facts.specs.Rises.{has as has_node}
 use Rattle.xdg_facts.proofs.Truths.{same_flag}
 use Rattle.xdg_rules.proofs.Among.{free_root, is_root, root_contained, root_free}
 use Rattle.xdg_rules.proofs.DecidingBoxes.{decided_edges}
-use Rattle.xdg_rules.proofs.Keeping.{filter_on, less_length}
+use Rattle.xdg_facts.proofs.Contained.{contains_filter}
+use Rattle.xdg_facts.proofs.Each.{each_contained}
+use Rattle.xdg_facts.proofs.Keeping.{filter_on, less_length}
 use Rattle.xdg_rules.proofs.Shrinking.{may_among, may_is, may_of, must_be, must_is, must_less, must_test}
 use Rattle.xdg_store.specs.Decisions.{IsDecision}
 use Rattle.xdg_store.specs.Naming.{Names}

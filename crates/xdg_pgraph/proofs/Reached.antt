@@ -7,7 +7,7 @@ use Rattle.xdg_nodeset.proofs.TableSets.{both, none_in}
 use Rattle.xdg_problem.specs.declared.analysis.Edge.{Edge}
 use Rattle.xdg_problem.specs.declared.parts.Parts.{Parts}
 use Rattle.xdg_problem.specs.Paths.{Above, IsDaughter}
-use Rattle.xdg_problem.proofs.Looking.{any_of}
+use Rattle.xdg_facts.proofs.Contained.{any_of}
 use Rattle.xdg_rules.specs.Rules.{IsPlaceOn, NoCycle, may_edges, must_edges}
 use Rattle.xdg_rules.proofs.Shrinking.{may_exact}
 use Rattle.xdg_propcore.proofs.Aimed.{ByOne}

@@ -3,7 +3,9 @@ use Rattle.std.proofs.Common.{◌≡◌, ℕ, ◌<◌, ◌≤◌, inl, inr, List
 use Rattle.std.specs.Prelude.{Contains}
 use Rattle.std.specs.List.{AllByRecursion}
 use Rattle.xdg_nodeset.specs.Nodes.{IsNodes}
-use Rattle.xdg_problem.proofs.Ordered.{Ordered, each_contained, each_weaker, each_both, each_map, contains_head, contains_cases, contains_none}
+use Rattle.xdg_facts.proofs.InOrder.{Ordered}
+use Rattle.xdg_facts.proofs.Each.{each_contained, each_weaker, each_both, each_map}
+use Rattle.xdg_facts.proofs.Contained.{contains_head, contains_cases, contains_none}
 use Rattle.xdg_facts.proofs.Lists.{contains_more}
 use Rattle.xdg_facts.specs.Rises.{Rises}
 

@@ -10,12 +10,15 @@ use Rattle.xdg_nodeset.proofs.TableSets.{both}
 use Rattle.xdg_problem.specs.declared.analysis.Edge.{Edge}
 use Rattle.xdg_problem.specs.Paths.{roots}
 use Rattle.xdg_problem.specs.Places.{below}
-use Rattle.xdg_problem.proofs.Ordered.{contains_filter, contains_numbers, each_contained, numbers_ordered, numbers_within, ordered_filter}
+use Rattle.xdg_problem.proofs.Ordered.{contains_numbers, numbers_ordered, numbers_within}
 use Rattle.xdg_rules.proofs.Among.{free_root, is_root, root_contained, root_free}
 use Rattle.xdg_pgraph.specs.declared.entered.Roots.TheVariants as rootss
 use Rattle.xdg_pgraph.specs.Entering.{Enters}
 use Rattle.xdg_pgraph.specs.Seeking.{RootsAre}
 use Rattle.xdg_pgraph.proofs.Rising.{nodes_rising, rising_same}
+use Rattle.xdg_facts.proofs.Contained.{contains_filter}
+use Rattle.xdg_facts.proofs.Each.{each_contained}
+use Rattle.xdg_facts.proofs.InOrder.{ordered_filter}
 
 module _ (edges : List Edge) (n : ℕ) (all some set : List ℕ) (whole : (k : ℕ) → has all k ≡ nat_lt k n) (free : (k : ℕ) → has set k ≡ (has all k && not (has some k))) (is : IsNodes set) (t : (k : ℕ) → IsTrue (has some k) ↔ Enters (Contains edges) k) where
   set_root : (v : ℕ) → Contains set v → Contains (roots n edges) v

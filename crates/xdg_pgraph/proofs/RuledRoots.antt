@@ -7,7 +7,7 @@ use Rattle.xdg_problem.specs.declared.parts.Parts.{Parts}
 use Rattle.xdg_problem.specs.Arguments.{first_dim}
 use Rattle.xdg_problem.specs.Paths.{roots}
 use Rattle.xdg_problem.specs.Places.{below, nodes}
-use Rattle.xdg_problem.proofs.Ordered.{contains_head, each_contained, numbers_within}
+use Rattle.xdg_problem.proofs.Ordered.{numbers_within}
 use Rattle.xdg_rules.proofs.Among.{root_contained}
 use Rattle.xdg_rules.specs.Rules.{IsPlaceOn, must_edges}
 use Rattle.xdg_store.specs.States.{State}
@@ -20,6 +20,8 @@ use Rattle.xdg_pgraph.specs.Planes.{IsPlane}
 use Rattle.xdg_pgraph.specs.Seeking.{Aims, ToNode, RootsAre}
 use Rattle.xdg_pgraph.specs.Ruling.{RunsFor, ForRoot}
 use Rattle.xdg_pgraph.proofs.Ruled.{runs_none, runs_turn}
+use Rattle.xdg_facts.proofs.Contained.{contains_head}
+use Rattle.xdg_facts.proofs.Each.{each_contained}
 
 -- a node that is the only root is a node
 pub root_within : (n : ℕ) (edges : List Edge) (found : Roots) (w : ℕ) → RootsAre (roots n edges) found → found ≡ rootss.One w → w < n

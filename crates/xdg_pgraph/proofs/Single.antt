@@ -12,12 +12,13 @@ use Rattle.xdg_problem.specs.Boxes.{IsBox, LiesIn, edge_decision}
 use Rattle.xdg_problem.specs.Paths.{mothers, roots}
 use Rattle.xdg_problem.specs.Places.{nodes}
 use Rattle.xdg_problem.specs.Vectors.{shape}
-use Rattle.xdg_problem.proofs.FilterFacts.{filter_contained}
-use Rattle.xdg_problem.proofs.Ordered.{ordered_filter, contains_head, contains_none}
+use Rattle.xdg_facts.proofs.Filters.{filter_contained}
+use Rattle.xdg_facts.proofs.InOrder.{ordered_filter}
+use Rattle.xdg_facts.proofs.Contained.{contains_head, contains_none}
+use Rattle.xdg_facts.proofs.Keeping.{counts_one, counts_two}
 use Rattle.xdg_problem.proofs.PlaceOrder.{places_ordered, is_place}
 use Rattle.xdg_rules.specs.Rules.{OnlyMother, may_edges}
 use Rattle.xdg_rules.proofs.Among.{roots_among}
-use Rattle.xdg_rules.proofs.Keeping.{counts_one, counts_two}
 use Rattle.xdg_rules.proofs.Shrinking.{may_be, may_among}
 use Rattle.xdg_store.specs.States.{State, Known}
 use Rattle.xdg_propcore.specs.Passes.{Progress, Clears, EachValue}

@@ -15,8 +15,9 @@ use Rattle.xdg_problem.specs.Paths.{Above, Leads, edges_joining, edges_on, roots
 use Rattle.xdg_problem.specs.Places.{nodes, places}
 use Rattle.xdg_problem.specs.Tests.{Test, looks_at, one_label, one_mother, no_cycle, one_root}
 use Rattle.xdg_problem.proofs.Edges.{before_differ}
-use Rattle.xdg_problem.proofs.FilterFacts.{filter_contained}
-use Rattle.xdg_problem.proofs.Ordered.{Ordered, contains_head, ordered_filter}
+use Rattle.xdg_facts.proofs.Filters.{filter_contained}
+use Rattle.xdg_facts.proofs.InOrder.{Ordered, ordered_filter}
+use Rattle.xdg_facts.proofs.Contained.{contains_head}
 use Rattle.xdg_problem.proofs.PlaceOrder.{is_place, places_ordered}
 use Rattle.xdg_propcore.proofs.SeenEdges.{decided_must, seen}
 use Rattle.xdg_rules.specs.Rules.{has, IsDecided, IsPlaceOn, OneLabel, OneMother, NoCycle, HasNoRoot, HasTwoRoots, must_edges}

@@ -20,13 +20,13 @@ use Rattle.xdg_problem.specs.Places.{edge, nodes, places}
 use Rattle.xdg_problem.specs.Tests.{Test, can_link, looks_at, looks_first, looks_second, linked, unlinked}
 use Rattle.xdg_problem.specs.Vectors.{shape}
 use Rattle.xdg_problem.proofs.EachTest.{Each, each_tested}
-use Rattle.xdg_problem.proofs.Looking.{and_3, any_weaker}
+use Rattle.xdg_facts.proofs.Contained.{any_weaker}
 use Rattle.xdg_rules.specs.Rules.{may_edges, FailsTest, IsClosedFor, IsDecided, LinkingNotDaughter, LinkingReach, TestDecided, TestPasses, value_in}
 use Rattle.xdg_rules.proofs.Shrinking.{may_exact, must_exact}
 use Rattle.xdg_propcore.proofs.ByRules.{NoRule}
 use Rattle.xdg_propcore.proofs.SeenEdges.{all_seen, any_seen, decided_must, only_value, seen, seen_at}
 use Rattle.xdg_plink.specs.Family.{IsLinking}
-use Rattle.xdg_facts.proofs.Truths.{and_2, or_here, either_true}
+use Rattle.xdg_facts.proofs.Truths.{and_2, or_here, either_true, and_3}
 
 module _ (parts : Parts) (group : Group) (box : List (List Bool)) (is : IsBox (shape parts) box) where
   abbrev one : ℕ

@@ -14,7 +14,7 @@ use Rattle.xdg_problem.specs.Boxes.{IsBox, LiesIn}
 use Rattle.xdg_problem.specs.Paths.{IsDaughterByAny}
 use Rattle.xdg_problem.specs.Problems.{IsProblem}
 use Rattle.xdg_problem.specs.Vectors.{shape}
-use Rattle.xdg_problem.proofs.Looking.{any_of, any_weaker}
+use Rattle.xdg_facts.proofs.Contained.{any_of, any_weaker}
 use Rattle.xdg_problem.proofs.PlaceOrder.{is_place}
 use Rattle.xdg_rules.specs.Rules.{IsClosedFor, TakesBy, may_edges}
 use Rattle.xdg_rules.proofs.Among.{linked_among}

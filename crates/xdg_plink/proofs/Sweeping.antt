@@ -12,7 +12,7 @@ use Rattle.xdg_problem.specs.Boxes.{Has, IsBox, LiesIn, edge_decision}
 use Rattle.xdg_problem.specs.Features.{map_row}
 use Rattle.xdg_problem.specs.Problems.{IsGroup}
 use Rattle.xdg_problem.specs.Vectors.{shape}
-use Rattle.xdg_problem.proofs.Looking.{any_of}
+use Rattle.xdg_facts.proofs.Contained.{any_of}
 use Rattle.xdg_problem.proofs.PlaceOrder.{place_is}
 use Rattle.xdg_rules.specs.Rules.{Takes, may_edges}
 use Rattle.xdg_rules.proofs.Among.{above_among}

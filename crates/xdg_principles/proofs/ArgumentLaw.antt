@@ -17,7 +17,7 @@ use Rattle.xdg_types.specs.Parts.{Statement}
 use Rattle.xdg_types.specs.Table.{Table}
 use Rattle.xdg_types.specs.declared.table.DimType.{DimType}
 use Rattle.xdg_ast.specs.Misnamed.{IsUnknown, IsAgain}
-use Rattle.xdg_names.proofs.Listing.{Lists, lists_tell, lists_both, lists_each}
+use Rattle.xdg_names.proofs.Listing.{lists_tell}
 use Rattle.xdg_types.proofs.Listings.{nested}
 use Rattle.xdg_types.proofs.NamesAgain.{all_again}
 use Rattle.xdg_types.proofs.NamesKnown.{all_unknown}
@@ -39,6 +39,7 @@ use Rattle.xdg_principles.proofs.WantedLaw.{wanted_false, true_wanted}
 use Rattle.xdg_principles.proofs.MemberPlaces.{no_type, type_there}
 use Rattle.xdg_facts.specs.Membership.{In}
 use Rattle.xdg_facts.proofs.In.{in_append, in_left, in_right, in_unless, unless_in}
+use Rattle.xdg_facts.proofs.Parts.{Lists, lists_both, lists_each}
 
 module _ (x : Argument) where
   abbrev s : Setting

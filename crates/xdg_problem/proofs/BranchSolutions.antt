@@ -20,7 +20,7 @@ use Rattle.xdg_problem.specs.Relations.{IsKept, Relation}
 use Rattle.xdg_problem.specs.Solutions.{IsSolution}
 use Rattle.xdg_problem.specs.Truths.{IsTrueOf, unbound}
 use Rattle.xdg_problem.specs.Vectors.{entries_at}
-use Rattle.xdg_problem.proofs.Ordered.{all_mapped}
+use Rattle.xdg_facts.proofs.Each.{all_mapped}
 use Rattle.xdg_problem.proofs.BranchAsks.{alone_rows, branch_links, relation_alike}
 use Rattle.xdg_problem.proofs.BranchParts.{branch_problem, same_column}
 use Rattle.xdg_problem.proofs.BranchTruths.{claim_cut, true_cut}

@@ -14,7 +14,8 @@ use Rattle.xdg_problem.specs.Problems.{AreCandidates, IsProblem}
 use Rattle.xdg_problem.specs.Vectors.{entry_places, place_among, presence, vector}
 use Rattle.xdg_problem.proofs.EntryPlaces.{EntryBefore, place_back, place_within}
 use Rattle.xdg_problem.proofs.OtherTruths.{analysis_still}
-use Rattle.xdg_problem.proofs.Ordered.{contains_cases, contains_head, contains_none, ordered_from_pairs}
+use Rattle.xdg_facts.proofs.Contained.{contains_cases, contains_head, contains_none}
+use Rattle.xdg_facts.proofs.InOrder.{ordered_from_pairs}
 
 -- ---- entries
 

@@ -6,9 +6,10 @@ use Rattle.std.proofs.lemmas.Bool.{cases_eq}
 use Rattle.std.proofs.lemmas.List.Elements.{All-from_recursion, recursion_from_All, All-contains, All-weaker, All-contains_itself}
 use Rattle.xdg_problem.specs.declared.analysis.Edge.{Edge}
 use Rattle.xdg_problem.specs.Paths.{Leads, NoCycle}
-use Rattle.xdg_problem.proofs.Ordered.{each_append, each_weaker, contains_head, contains_cases, contains_none}
+use Rattle.xdg_facts.proofs.Each.{each_append, each_weaker}
+use Rattle.xdg_facts.proofs.Contained.{contains_head, contains_cases, contains_none}
+use Rattle.xdg_facts.proofs.Decided.{Decided, decided_like, decided_both, decided_all, decided_from}
 use Rattle.xdg_problem.proofs.Walks.{leads_append}
-use Rattle.xdg_problem.proofs.Deciding.{Decided, decided_like, decided_both, decided_all, decided_from}
 use Rattle.xdg_facts.proofs.Lists.{contains_more}
 
 -- v is u, or u is above v

@@ -15,11 +15,11 @@ use Rattle.xdg_problem.specs.Features.{in_row, out_row, set_row, map_row}
 use Rattle.xdg_problem.specs.Principles.{linking_of}
 use Rattle.xdg_problem.specs.Arguments.{first_dim, second_dim, truth_of, order_of}
 use Rattle.xdg_problem.specs.Asking.{first, second, third, IsBetween, IsInItem, IsLinked, AsksBy, AsksLink, AsksOf, attr_places, Asks}
-use Rattle.xdg_problem.proofs.Deciding.{Decided, decided_both, decided_from, decided_equal, decided_less, decided_most, decided_contains}
-use Rattle.xdg_problem.proofs.DecidingPaths.{decided_either, decided_true, decided_not, decided_by_edge, contained, decided_pairs, triple_decided, decided_daughter, decided_daughter_by, decided_daughter_by_any, decided_entered}
+use Rattle.xdg_facts.proofs.Decided.{Decided, decided_both, decided_from, decided_equal, decided_less, decided_most, decided_contains, decided_either, decided_true, decided_not, decided_pairs, triple_decided}
+use Rattle.xdg_facts.proofs.Contained.{contained, any_of}
+use Rattle.xdg_problem.proofs.DecidingPaths.{decided_by_edge, decided_daughter, decided_daughter_by, decided_daughter_by_any, decided_entered}
 use Rattle.xdg_problem.proofs.DecidingPaths.{decided_sisters, decided_above, decided_above_by_first, decided_above_by_last}
 use Rattle.xdg_problem.proofs.DecidingTruths.{decided_whole}
-use Rattle.xdg_problem.proofs.Looking.{any_of}
 
 pub decided_between : (u v w : ℕ) → Decided (IsBetween u v w)
 decided_between u v w = decided_either ((u < w) × (w < v)) ((v < w) × (w < u)) (decided_both _ _ (decided_less u w) (decided_less w v)) (decided_both _ _ (decided_less v w) (decided_less w u))

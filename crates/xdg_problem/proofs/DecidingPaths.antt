@@ -1,59 +1,14 @@
 -- Whether a path leads from one node to another can be decided, and what a condition asks.
-use Rattle.std.proofs.Common.{◌≡◌, ℕ, ◌<◌, ◌⊎◌, inl, inr, Bool, true, false, List, [], ◌∷◌, length, refl, sym, subst, arith}
-use Rattle.std.specs.Prelude.{All, AllPairs, Contains}
-use Rattle.std.specs.List.{Any, AllByRecursion}
-use Rattle.std.proofs.lemmas.Bool.{false≢true}
+use Rattle.std.proofs.Common.{◌≡◌, ℕ, ◌<◌, List, [], ◌∷◌, length, refl, arith}
+use Rattle.std.specs.Prelude.{All, Contains}
+use Rattle.std.specs.List.{Any}
 use Rattle.std.proofs.lemmas.List.Elements.{All-push, All-from_recursion, recursion_from_All}
 use Rattle.xdg_problem.specs.declared.analysis.Edge.{Edge}
 use Rattle.xdg_problem.specs.Paths.{IsDaughter, IsDaughterBy, IsDaughterByAny, IsEnteredByAny, AreSistersByAny, Leads, Above, AboveByFirst, AboveByLast}
-use Rattle.xdg_problem.proofs.Ordered.{Ordered, ordered_pairs, ordered_from_pairs, contains_head, contains_cases, contains_none}
-use Rattle.xdg_problem.proofs.Looking.{any_of}
-use Rattle.xdg_problem.proofs.Deciding.{Decided, decided_like, decided_both, decided_equal, decided_contains}
+use Rattle.xdg_facts.proofs.Contained.{any_of}
+use Rattle.xdg_facts.proofs.Decided.{Decided, decided_like, decided_both, decided_equal, decided_contains, decided_any, triple_decided}
 use Rattle.xdg_problem.proofs.Walks.{leads_append, split_along, split_leads}
 use Rattle.xdg_problem.proofs.CycleTests.{Reaches, decided_reaches}
-use Rattle.xdg_facts.proofs.Lists.{contains_more}
-
-pub decided_either : (P Q : Type 0) → Decided P → Decided Q → Decided (P ⊎ Q)
-decided_either P Q (inl p) other = inl (inl p)
-decided_either P Q (inr n) (inl q) = inl (inr q)
-decided_either P Q (inr n) (inr m) = inr (λ either. elim either [ inl p ↦ n p | inr q ↦ m q ])
-
-pub decided_true : (b : Bool) → Decided (b ≡ true)
-decided_true true = inl refl
-decided_true false = inr false≢true
-
-pub decided_not : (P : Type 0) → Decided P → Decided (P → ⊥)
-decided_not P (inl p) = inr (λ n. n p)
-decided_not P (inr n) = inl n
-
-module _ {X : Type 0} where
-  -- an element of a list, and that it is as P says
-  pub contained : (P : X → Type 0) (xs : List X) → Any P xs → (x : X) × Contains xs x × P x
-  contained P xs a = (a.1, (a.0, a.2, a.3), a.4)
-
-  pub decided_any : (P : X → Type 0) (xs : List X) → ((x : X) → Decided (P x)) → Decided (Any P xs)
-  decided_any P [] each = inr (λ a. let c = contained P [] a in contains_none c.0 c.1)
-  decided_any P (x ∷ xs) each = decided_like (P x ⊎ Any P xs) (Any P (x ∷ xs))
-      (λ either. elim either [
-        | inl p ↦ any_of P (x ∷ xs) x (contains_head x xs) p
-        | inr more ↦ (let c = contained P xs more in any_of P (x ∷ xs) c.0 (contains_more x xs c.0 c.1) c.2)
-      ])
-      (λ a. (let c = contained P (x ∷ xs) a in elim (contains_cases x xs c.0 c.1) [
-        | inl e ↦ inl (subst P (sym e) c.2)
-        | inr later ↦ inr (any_of P xs c.0 later c.2)
-      ]))
-      (decided_either (P x) (Any P xs) (each x) (decided_any P xs each))
-
-  decided_each : (P : X → Type 0) (xs : List X) → ((x : X) → Decided (P x)) → Decided (AllByRecursion P xs)
-  decided_each P [] each = inl tt
-  decided_each P (x ∷ xs) each = decided_both (P x) (AllByRecursion P xs) (each x) (decided_each P xs each)
-
-  decided_ordered : (R : X → X → Type 0) (xs : List X) → ((x y : X) → Decided (R x y)) → Decided (Ordered R xs)
-  decided_ordered R [] each = inl tt
-  decided_ordered R (x ∷ xs) each = decided_both (AllByRecursion (R x) xs) (Ordered R xs) (decided_each (R x) xs (each x)) (decided_ordered R xs each)
-
-  pub decided_pairs : (R : X → X → Type 0) (xs : List X) → ((x y : X) → Decided (R x y)) → Decided (AllPairs R xs)
-  decided_pairs R xs each = decided_like (Ordered R xs) (AllPairs R xs) (λ o i j d l m. ordered_pairs R xs o i j d l m) (ordered_from_pairs R xs) (decided_ordered R xs each)
 
 -- what holds where some edge is as P says
 pub decided_by_edge : (P : Edge → Type 0) (Q : Type 0) (edges : List Edge) → ((e : Edge) → Contains edges e → P e → Q) → (Q → (e : Edge) × Contains edges e × P e) → ((e : Edge) → Decided (P e)) → Decided Q
@@ -63,9 +18,6 @@ decided_by_edge P Q edges to from each = decided_like (Any P edges) Q (λ a. to 
 
 pub decided_daughter : (edges : List Edge) (u v : ℕ) → Decided (IsDaughter edges u v)
 decided_daughter edges u v = decided_any (λ e. (e.mother.0 ≡ u) × (e.daughter.0 ≡ v)) edges (λ e. decided_both _ _ (decided_equal e.mother.0 u) (decided_equal e.daughter.0 v))
-
-pub triple_decided : (P Q R : Type 0) → Decided P → Decided Q → Decided R → Decided (P × Q × R)
-triple_decided P Q R p q r = decided_like (P × (Q × R)) (P × Q × R) (λ x. (x.0, x.1.0, x.1.1)) (λ x. (x.0, (x.1, x.2))) (decided_both P (Q × R) p (decided_both Q R q r))
 
 pub decided_daughter_by : (edges : List Edge) (u l v : ℕ) → Decided (IsDaughterBy edges u l v)
 decided_daughter_by edges u l v = decided_any (λ e. (e.mother.0 ≡ u) × (e.label.0 ≡ l) × (e.daughter.0 ≡ v)) edges (λ e. triple_decided _ _ _ (decided_equal e.mother.0 u) (decided_equal e.label.0 l) (decided_equal e.daughter.0 v))

@@ -13,8 +13,8 @@ use Rattle.xdg_problem.specs.Paths.{edges_on}
 use Rattle.xdg_problem.specs.Places.{nodes}
 use Rattle.xdg_problem.specs.Truths.{bound, unbound, says, IsTrueOf, EachTrueOf, SomeTrueOf}
 use Rattle.xdg_problem.specs.Vectors.{entries_at}
-use Rattle.xdg_problem.proofs.Deciding.{first_below, Decided, decided_both, decided_equal, decided_less, decided_below}
-use Rattle.xdg_problem.proofs.DecidingPaths.{decided_either, decided_true, decided_not, decided_daughter_by, decided_above}
+use Rattle.xdg_facts.proofs.Decided.{first_below, Decided, decided_both, decided_equal, decided_less, decided_below, decided_either, decided_true, decided_not}
+use Rattle.xdg_problem.proofs.DecidingPaths.{decided_daughter_by, decided_above}
 
 -- that something holds of a number below a bound
 pub decided_some : (P : ℕ → Type 0) (n : ℕ) → ((k : ℕ) → Decided (P k)) → Decided ((k : ℕ) × (k < n) × P k)

@@ -9,7 +9,9 @@ use Rattle.xdg_facts.specs.Fits.{Fits}
 use Rattle.xdg_problem.specs.Vectors.{place_among, entry_places, entries_at}
 use Rattle.xdg_problem.specs.Analyses.{HasCandidates}
 use Rattle.xdg_problem.specs.Problems.{AreCandidates}
-use Rattle.xdg_problem.proofs.Ordered.{Ordered, each_at, contains_cases, contains_none, ordered_from_pairs}
+use Rattle.xdg_facts.proofs.InOrder.{Ordered, ordered_from_pairs}
+use Rattle.xdg_facts.proofs.Each.{each_at}
+use Rattle.xdg_facts.proofs.Contained.{contains_cases, contains_none}
 
 abbrev numbered : ℕ → EntryNo
 numbered number = record { 0 = number }

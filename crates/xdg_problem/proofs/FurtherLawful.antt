@@ -20,8 +20,7 @@ use Rattle.xdg_problem.specs.Truths.{FormulaHolds}
 use Rattle.xdg_problem.specs.Vectors.{entry_places, entries_at}
 use Rattle.xdg_problem.proofs.EntryPlaces.{entry_places_back}
 use Rattle.xdg_problem.proofs.FurtherUses.{rule_is, bound_is, problem_still, fits_still, relation_still}
-use Rattle.xdg_problem.proofs.Ordered.{all_mapped}
-use Rattle.xdg_problem.proofs.Tuples.{one_kept}
+use Rattle.xdg_facts.proofs.Each.{all_mapped, one_kept}
 use Rattle.xdg_facts.proofs.Lists.{all_before}
 
 -- what holds of each of two lists, one behind the other

@@ -12,13 +12,13 @@ use Rattle.xdg_problem.specs.Places.{nodes}
 use Rattle.xdg_problem.specs.Arguments.{first_dim, label_count, truth_of}
 use Rattle.xdg_problem.specs.Asking.{AsksWhole}
 use Rattle.xdg_problem.specs.Relations.{IsKept}
-use Rattle.xdg_problem.proofs.Tuples.{none_kept, one_kept, two_kept, three_kept, chosen_kept}
+use Rattle.xdg_facts.proofs.Each.{none_kept, one_kept, two_kept, three_kept, chosen_kept}
 use Rattle.xdg_problem.proofs.Passing.{PassesAt}
 use Rattle.xdg_problem.proofs.EachTest.{Each}
 use Rattle.xdg_problem.proofs.TreeTests.{cycle_tests, root_tests, mother_tests, in_tests, out_tests}
 use Rattle.xdg_problem.proofs.AskedTests.{pair_tests, order_tests, between_tests, agr_tests, agree_tests, govern_tests, below_tests, blocked_tests, linked_tests, unlinked_tests}
 use Rattle.xdg_problem.proofs.Looking.{asked_alike}
-use Rattle.xdg_facts.proofs.Facts.{then_iff}
+use Rattle.xdg_facts.proofs.Facts.{both_steps}
 use Rattle.xdg_problem.specs.Principles.{conditions_for, linking_of, way_in}
 
 module _ (parts : Parts) (group : Group) (candidates attrs : List ℕ) (edges : List Edge) (some : 0 < nodes parts) (mothers : All (λ e. e.mother.0 < nodes parts) edges) (daughters : All (λ e. e.daughter.0 < nodes parts) edges) where
@@ -34,7 +34,7 @@ module _ (parts : Parts) (group : Group) (candidates attrs : List ℕ) (edges : 
 
   -- a principle with one condition
   one : (A : Type 0) (condition : Condition) → A ↔ Kept condition → (A × Unit {0}) ↔ All Kept (condition ∷ [])
-  one A condition tests = alone A (All Kept (condition ∷ [])) (then_iff A (Kept condition) (All Kept (condition ∷ [])) tests (one_kept Kept condition))
+  one A condition tests = alone A (All Kept (condition ∷ [])) (both_steps tests (one_kept Kept condition))
 
   -- a principle that asks of all decisions together, by the empty tuple
   by_empty : (principle : Principle) → group.principle ≡ principle → (Unit {0} × Whole principle) ↔ ((tuple : List ℕ) → tuple ≡ [] → Whole group.principle)
@@ -75,6 +75,6 @@ module _ (parts : Parts) (group : Group) (candidates attrs : List ℕ) (edges : 
   kept_tests principles.Climbing is = one _ conditions.Below (below_tests parts group candidates attrs edges)
   kept_tests principles.Barriers is = one _ conditions.Blocked (blocked_tests parts group candidates attrs edges)
   kept_tests principles.LinkingNotDaughter is = one _ conditions.Link (unlinked_tests parts group candidates attrs edges is)
-  kept_tests (principles.Rule formula) is = then_iff _ _ _ (by_empty (principles.Rule formula) is) (one_kept Kept conditions.Rule)
-  kept_tests (principles.Bound costs bound) is = then_iff _ _ _ (by_empty (principles.Bound costs bound) is) (one_kept Kept conditions.Bound)
+  kept_tests (principles.Rule formula) is = both_steps (by_empty (principles.Rule formula) is) (one_kept Kept conditions.Rule)
+  kept_tests (principles.Bound costs bound) is = both_steps (by_empty (principles.Bound costs bound) is) (one_kept Kept conditions.Bound)
   kept_tests principle is = one _ conditions.Link (linked_tests parts group candidates attrs edges principle (way_in (linking_of principle)) is (λ c u l v few many same. asked_alike _ _ _ _ (λ some. some, λ some. some) same))

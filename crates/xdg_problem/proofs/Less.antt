@@ -16,7 +16,8 @@ use Rattle.xdg_problem.specs.Vectors.{place_among, entry_places, presence, vecto
 use Rattle.xdg_problem.specs.Analyses.{HasCandidates, Before, IsAnalysis}
 use Rattle.xdg_problem.specs.EdgeOrder.{EdgesLess}
 use Rattle.xdg_problem.specs.Problems.{IsProblem, AreCandidates}
-use Rattle.xdg_problem.proofs.Ordered.{Ordered, contains_none, ordered_from_pairs, ordered_pairs}
+use Rattle.xdg_facts.proofs.InOrder.{Ordered, ordered_from_pairs, ordered_pairs}
+use Rattle.xdg_facts.proofs.Contained.{contains_none}
 use Rattle.xdg_problem.proofs.Edges.{before_irreflexive, before_transitive, before_total}
 use Rattle.xdg_problem.proofs.EntryPlaces.{EntryBefore, entry_equal, entry_found, length_entry_places}
 pub use Rattle.xdg_problem.proofs.Presence.{narrow}

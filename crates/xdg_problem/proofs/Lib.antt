@@ -7,7 +7,6 @@ pub mod Presence
 pub mod VectorFacts
 pub mod Continued
 pub mod Shortening
-pub mod FilterFacts
 pub mod Passing
 pub mod Looking
 pub mod Tuples
@@ -54,7 +53,6 @@ pub mod Turning
 pub mod RowReads
 pub mod Walks
 pub mod Numbered
-pub mod PairsMapped
 pub mod BoxPlaces
 pub mod BoxWithout
 pub mod PlaceFound

@@ -11,8 +11,9 @@ use Rattle.xdg_problem.specs.Paths.{edges_on, IsDaughter, IsDaughterByAny, Above
 use Rattle.xdg_problem.specs.Arguments.{first_dim, second_dim}
 use Rattle.xdg_problem.specs.Asking.{IsLinked}
 use Rattle.xdg_problem.specs.Tests.{Test, linked, unlinked, can_link, looks_first, looks_second, looks_at}
-use Rattle.xdg_problem.proofs.Looking.{and_3, any_weaker, on_same, any_same}
-use Rattle.xdg_facts.proofs.Truths.{or_here, either_true, and_2}
+use Rattle.xdg_problem.proofs.Looking.{on_same, any_same}
+use Rattle.xdg_facts.proofs.Truths.{or_here, either_true, and_2, and_3}
+use Rattle.xdg_facts.proofs.Contained.{any_weaker}
 
 module _ (group : Group) (edges : List Edge) where
   abbrev two : ℕ

@@ -17,9 +17,9 @@ use Rattle.xdg_problem.specs.Arguments.{first_dim, label_count, truth_of}
 use Rattle.xdg_problem.specs.Asking.{AsksOf}
 use Rattle.xdg_problem.specs.Tests.{Test, out_count, in_count, one_mother, no_cycle, one_root, one_label, ordered_daughters, ordered_yields, projective, allowed_value, agreeing, governed, climbing, not_blocked, linked, unlinked, looks_at, entry_node, test_attrs, Counts, Passes}
 use Rattle.xdg_problem.specs.Live.{open_places, EntryStands, entry_in, AttrStands, attr_in, Stands, Holds, IsLiveFor, Live}
-use Rattle.xdg_problem.proofs.Deciding.{Decided, decided_like, decided_both, decided_from, decided_equal, decided_less, decided_most, decided_false, decided_below, decided_all, decided_contains, decided_within}
+use Rattle.xdg_problem.proofs.Deciding.{decided_within}
 use Rattle.xdg_problem.proofs.CycleTests.{decided_no_cycle}
-use Rattle.xdg_problem.proofs.DecidingPaths.{decided_true, triple_decided}
+use Rattle.xdg_facts.proofs.Decided.{Decided, decided_like, decided_both, decided_from, decided_equal, decided_less, decided_most, decided_false, decided_below, decided_all, decided_contains, decided_true, triple_decided}
 use Rattle.xdg_problem.proofs.DecidingTruths.{decided_whole}
 use Rattle.xdg_problem.proofs.DecidingAsks.{decided_asks}
 use Rattle.xdg_problem.proofs.EachTest.{EachNode, EachPair, EachTriple, Each, tested_each, each_tested}

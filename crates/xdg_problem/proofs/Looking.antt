@@ -1,5 +1,5 @@
 -- What is left of the edges of a dimension, if only the edges that a test looks at are kept.
-use Rattle.std.proofs.Common.{◌≡◌, ℕ, ◌↔◌, Bool, true, false, ◌&&◌, List, length, refl, sym, ap, ◌∙◌}
+use Rattle.std.proofs.Common.{◌≡◌, ℕ, ◌↔◌, Bool, true, ◌&&◌, List, length, sym, ap, ◌∙◌}
 use Rattle.std.specs.Prelude.{filter, Contains, count_by, ◌==◌}
 use Rattle.std.specs.List.{Any}
 use Rattle.std.proofs.lemmas.Bool.{eq-eqb}
@@ -8,34 +8,11 @@ use Rattle.xdg_problem.specs.declared.parts.Group.{Group}
 use Rattle.xdg_problem.specs.Arguments.{first_dim, second_dim}
 use Rattle.xdg_problem.specs.Paths.{edges_on, IsDaughterBy}
 use Rattle.xdg_problem.specs.Tests.{Test, looks_first, looks_second, looks_at}
-use Rattle.xdg_facts.proofs.Truths.{either_true}
-use Rattle.xdg_problem.proofs.FilterFacts.{filter_both, count_of_filter, filter_alike, filter_contained}
-use Rattle.xdg_problem.proofs.Ordered.{contains_filter}
-
--- truth values
-
-pub and_given : (a b : Bool) → (b ≡ true → a ≡ true) → (a && b) ≡ b
-and_given true b h = refl
-and_given false true h = h refl
-and_given false false h = refl
-
-pub and_true : (a b : Bool) → b ≡ true → (a && b) ≡ a
-and_true true b h = h
-and_true false b h = refl
-
-pub and_3 : (a b c : Bool) → a ≡ true → b ≡ true → c ≡ true → (a && b && c) ≡ true
-and_3 a b c x y z = rw (x, y, z) refl
-
-pub and_4 : (a b c d : Bool) → a ≡ true → b ≡ true → c ≡ true → d ≡ true → (a && b && c && d) ≡ true
-and_4 a b c d x y z w = rw (x, y, z, w) refl
+use Rattle.xdg_facts.proofs.Truths.{either_true, and_given, and_4}
+use Rattle.xdg_facts.proofs.Filters.{filter_both, count_of_filter, filter_alike, filter_contained}
+use Rattle.xdg_facts.proofs.Contained.{contains_filter, any_of}
 
 -- some edge
-
-pub any_of : {X : Type 0} (P : X → Type 0) (xs : List X) (x : X) → Contains xs x → P x → Any P xs
-any_of P xs x c p = (c.0, x, c.1, c.2, p)
-
-pub any_weaker : {X : Type 0} (P Q : X → Type 0) (xs : List X) → ((x : X) → P x → Q x) → Any P xs → Any Q xs
-any_weaker P Q xs h a = (a.0, a.1, a.2, a.3, h a.1 a.4)
 
 module _ (looks : Edge → Bool) (dim : ℕ) (edges : List Edge) where
   -- all edges of the dimension are left, if the test looks at all its places

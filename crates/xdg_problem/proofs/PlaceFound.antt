@@ -9,7 +9,7 @@ use Rattle.xdg_problem.specs.Analyses.{IsPlace}
 use Rattle.xdg_problem.specs.Boxes.{edge_decision, place_in}
 use Rattle.xdg_problem.specs.Places.{places, same_edge}
 use Rattle.xdg_problem.proofs.Edges.{same_edge_equal, same_edge_itself}
-use Rattle.xdg_problem.proofs.Ordered.{contains_cases, contains_none}
+use Rattle.xdg_facts.proofs.Contained.{contains_cases, contains_none}
 use Rattle.xdg_problem.proofs.PlaceOrder.{place_is}
 
 pub place_found : (xs : List Edge) (e : Edge) → Contains xs e → (place_in xs e < length xs) × (get_or xs (place_in xs e) e ≡ e)

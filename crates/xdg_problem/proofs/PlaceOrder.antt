@@ -9,8 +9,11 @@ use Rattle.xdg_problem.specs.declared.parts.DimPlan.{DimPlan}
 use Rattle.xdg_problem.specs.declared.parts.Parts.{Parts}
 use Rattle.xdg_problem.specs.Places.{below, edge, others, places_out, places_of, places_from, nodes, places}
 use Rattle.xdg_problem.specs.Analyses.{IsPlace, Before}
-use Rattle.xdg_problem.proofs.Ordered.{Ordered, each_weaker, each_append, each_map, each_filter, each_passed, each_both, each_of_all, each_across, each_contained, each_flat_map, ordered_pairs, ordered_append, ordered_map, ordered_filter, ordered_flat_map, numbers_within, numbers_ordered, contains_map, contains_filter, contains_flat_map, contains_numbers}
+use Rattle.xdg_problem.proofs.Ordered.{each_flat_map, ordered_flat_map, numbers_within, numbers_ordered, contains_flat_map, contains_numbers}
 use Rattle.xdg_problem.proofs.PlacePlans.{dim_within, plan_read}
+use Rattle.xdg_facts.proofs.InOrder.{Ordered, ordered_pairs, ordered_append, ordered_map, ordered_filter}
+use Rattle.xdg_facts.proofs.Each.{each_weaker, each_append, each_map, each_filter, each_passed, each_both, each_of_all, each_across, each_contained}
+use Rattle.xdg_facts.proofs.Contained.{contains_map, contains_filter}
 
 -- what stands among the places
 

@@ -7,7 +7,9 @@ use Rattle.xdg_facts.specs.Fits.{Fits}
 use Rattle.xdg_problem.specs.declared.analysis.Edge.{Edge}
 use Rattle.xdg_problem.specs.Vectors.{has_edge, presence, chosen}
 use Rattle.xdg_problem.specs.Analyses.{Before, EdgesRise}
-use Rattle.xdg_problem.proofs.Ordered.{Ordered, each_cond, ordered_cond, each_weaker, each_contained, contains_cases, contains_none}
+use Rattle.xdg_facts.proofs.InOrder.{Ordered, ordered_cond}
+use Rattle.xdg_facts.proofs.Each.{each_cond, each_weaker, each_contained}
+use Rattle.xdg_facts.proofs.Contained.{contains_cases, contains_none}
 use Rattle.xdg_problem.proofs.Edges.{same_edge_itself, before_irreflexive, before_transitive, before_apart, after_apart}
 
 -- edges that rise from one to the next are ordered

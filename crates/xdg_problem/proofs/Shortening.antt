@@ -12,7 +12,7 @@ use Rattle.xdg_problem.specs.Vectors.{first_place, edges_in, chosen}
 use Rattle.xdg_problem.specs.Tests.{Test, looks_at, entry_node, test_attrs, Passes}
 use Rattle.xdg_problem.specs.Live.{open_places, EntryStands, entry_in, AttrStands, attr_in, Stands, Holds, IsLiveFor, Live}
 use Rattle.xdg_problem.specs.Relations.{IsKeptWhole}
-use Rattle.xdg_problem.proofs.Ordered.{map_alike}
+use Rattle.xdg_facts.proofs.Each.{map_alike}
 use Rattle.xdg_problem.proofs.Continued.{drop_joined, analysis_same}
 
 filter_put : (test : Edge → Bool) (chooses : Bool) (e : Edge) (xs ys : List Edge) → filter test xs ≡ filter test ys → filter test (cond chooses (e ∷ xs) xs) ≡ filter test (cond chooses (e ∷ ys) ys)

@@ -15,7 +15,7 @@ use Rattle.xdg_problem.specs.Relations.{Relation}
 use Rattle.xdg_problem.specs.Problems.{IsProblem}
 use Rattle.xdg_problem.specs.Live.{Live}
 use Rattle.xdg_problem.specs.Solutions.{IsSolution, SolutionsRise, IsSolutionList}
-use Rattle.xdg_problem.proofs.Ordered.{contains_head, contains_cases, contains_none}
+use Rattle.xdg_facts.proofs.Contained.{contains_head, contains_cases, contains_none}
 use Rattle.xdg_problem.proofs.VectorFacts.{analysis_fits, vector_analysis, vector_fits, length_vector, analysis_vector}
 use Rattle.xdg_problem.proofs.WholeTests.{whole_live, relations_live}
 use Rattle.xdg_facts.proofs.Lists.{contains_more}

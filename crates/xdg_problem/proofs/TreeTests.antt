@@ -17,8 +17,8 @@ use Rattle.xdg_problem.specs.Asking.{first, second, Asks}
 use Rattle.xdg_problem.specs.Conditions.{AreBelow}
 use Rattle.xdg_problem.specs.Relations.{IsKept}
 use Rattle.xdg_problem.specs.Tests.{Test, one_mother, no_cycle, one_root, out_count, in_count, Counts}
-use Rattle.xdg_problem.proofs.FilterFacts.{count_of_filter, filter_alike, filter_among, filter_fewer}
-use Rattle.xdg_problem.proofs.Looking.{and_true}
+use Rattle.xdg_facts.proofs.Filters.{count_of_filter, filter_alike, filter_among, filter_fewer}
+use Rattle.xdg_facts.proofs.Truths.{and_true}
 use Rattle.xdg_problem.proofs.Walks.{above_more}
 use Rattle.xdg_problem.proofs.Tuples.{tuples}
 use Rattle.xdg_problem.proofs.Passing.{PassesAt}

@@ -12,9 +12,8 @@ use Rattle.xdg_problem.specs.declared.parts.Principle.TheVariants as principles
 use Rattle.xdg_problem.specs.Places.{edge}
 use Rattle.xdg_problem.specs.Paths.{Above, IsDaughterByAny}
 use Rattle.xdg_problem.specs.Asking.{AsksOf}
-use Rattle.xdg_problem.proofs.Ordered.{contains_head, each_contained}
-use Rattle.xdg_problem.proofs.Looking.{any_of}
-use Rattle.xdg_problem.proofs.DecidingPaths.{contained}
+use Rattle.xdg_facts.proofs.Contained.{contains_head, any_of, contained}
+use Rattle.xdg_facts.proofs.Each.{each_contained}
 use Rattle.xdg_problem.proofs.Walks.{closed_above}
 use Rattle.xdg_facts.proofs.Numbers.{has_first}
 use Rattle.xdg_facts.proofs.Lists.{contains_more}

@@ -13,7 +13,7 @@ use Rattle.xdg_problem.specs.Places.{nodes, places}
 use Rattle.xdg_problem.specs.Vectors.{attr_sizes, shape, first_place, entry_places, entries_at, presence, chosen, edges_in, vector, analysis_of}
 use Rattle.xdg_problem.specs.Analyses.{IsPlace, IsAnalysis}
 use Rattle.xdg_problem.specs.Problems.{IsProblem, AreCandidates}
-use Rattle.xdg_problem.proofs.Ordered.{each_weaker}
+use Rattle.xdg_facts.proofs.Each.{each_weaker}
 use Rattle.xdg_problem.proofs.PlaceOrder.{places_ordered, each_is_place, place_is}
 use Rattle.xdg_problem.proofs.EntryPlaces.{entries_at_back, entries_at_are, entry_places_fit, length_entry_places, entry_places_back}
 use Rattle.xdg_problem.proofs.Presence.{rise_ordered, ordered_rise, chosen_each, chosen_ordered, presence_fits, presence_back, chosen_back}

@@ -15,8 +15,7 @@ use Rattle.xdg_problem.specs.Vectors.{entry_places}
 use Rattle.xdg_problem.specs.Conditions.{conditions_of, AreBelow, root_count, items_of, item_count, IsTuple}
 use Rattle.xdg_problem.specs.Asking.{Asks}
 use Rattle.xdg_problem.specs.Relations.{IsKept, Relation, Breaks, IsFirstBroken}
-use Rattle.xdg_problem.proofs.Deciding.{Decided, first_below}
-use Rattle.xdg_problem.proofs.DecidingPaths.{decided_not}
+use Rattle.xdg_facts.proofs.Decided.{Decided, first_below, decided_not}
 use Rattle.xdg_problem.proofs.DecidingAsks.{decided_asked}
 
 -- the least tuple of a range for which P holds

@@ -15,7 +15,7 @@ use Rattle.xdg_problem.specs.Relations.{Relation}
 use Rattle.xdg_problem.specs.Problems.{IsProblem, IsGroup}
 use Rattle.xdg_problem.specs.Tests.{Test, IsTest, looks_at, entry_node, test_attrs}
 use Rattle.xdg_problem.specs.Live.{open_places, EntryStands, entry_in, AttrStands, attr_in, Stands, Holds, IsLiveFor, Live}
-use Rattle.xdg_problem.proofs.Ordered.{map_alike}
+use Rattle.xdg_facts.proofs.Each.{map_alike}
 use Rattle.xdg_problem.proofs.VectorFacts.{length_shape, entries_back, analysis_fits}
 use Rattle.xdg_problem.proofs.Shortening.{passes_like}
 use Rattle.xdg_problem.proofs.Passing.{PassesAt}

@@ -2,7 +2,7 @@
 use Rattle.std.proofs.Common.{◌≡◌, ◌⊎◌, ℕ, ◌<◌, inl, inr, Bool, true, false, Some, length, refl, sym, arith, subst}
 use Rattle.std.specs.Prelude.{◌==◌, ◌&&◌, nat_le}
 use Rattle.std.proofs.lemmas.Bool.{and_from, eq-eqb, false≢true}
-use Rattle.xdg_facts.proofs.Truths.{and_2, either_true, or_here}
+use Rattle.xdg_facts.proofs.Truths.{and_2, either_true, or_here, and_3}
 use Rattle.xdg_problem.specs.declared.parts.Group.{Group}
 use Rattle.xdg_problem.specs.declared.parts.Linking.{Linking}
 use Rattle.xdg_problem.specs.declared.parts.Linking.TheVariants as linkings
@@ -13,7 +13,7 @@ use Rattle.xdg_problem.specs.Arguments.{first_dim, second_dim, truth_of}
 use Rattle.xdg_problem.specs.Places.{edge}
 use Rattle.xdg_problem.specs.Tests.{Test, IsTestOf, entry_node, looks_first, looks_second, test_attrs}
 use Rattle.xdg_problem.specs.Tests.{out_count, no_cycle, ordered_daughters, ordered_yields, projective, allowed_value, agreeing, governed, climbing, not_blocked, can_link, linked, unlinked}
-use Rattle.xdg_problem.proofs.Looking.{and_3, sees_place}
+use Rattle.xdg_problem.proofs.Looking.{sees_place}
 use Rattle.xdg_propcore.specs.Kinds.{IsNamed, entry_kind, attr_kind, edge_kind}
 use Rattle.xdg_propcore.specs.UseKinds.{IsKindFor, IsKindOf}
 use Rattle.xdg_problem.specs.Principles.{looks_at_entries, looks_at_attrs, looks_at_first, looks_at_second, linking_of, way_in}

@@ -11,7 +11,7 @@ use Rattle.xdg_problem.specs.Paths.{IsDaughterBy, edges_on}
 use Rattle.xdg_problem.specs.Places.{edge, places}
 use Rattle.xdg_problem.specs.Tests.{Test, looks_at}
 use Rattle.xdg_problem.proofs.Edges.{edge_equal}
-use Rattle.xdg_problem.proofs.FilterFacts.{filter_both, filter_alike, filter_contained}
+use Rattle.xdg_facts.proofs.Filters.{filter_both, filter_alike, filter_contained}
 use Rattle.xdg_problem.proofs.Looking.{any_same, on_same}
 use Rattle.xdg_rules.specs.Rules.{has, may_edges, IsDecided, IsPlaceOn, value_in}
 use Rattle.xdg_rules.proofs.Failing.{value_is}

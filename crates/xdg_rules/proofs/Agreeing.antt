@@ -15,13 +15,15 @@ use Rattle.xdg_problem.specs.Places.{nodes, places, same_edge}
 use Rattle.xdg_problem.specs.Tests.{Test, looks_at, entry_node, test_attrs}
 use Rattle.xdg_problem.specs.Vectors.{first_place, chosen, edges_in}
 use Rattle.xdg_problem.proofs.Edges.{same_edge_itself, before_apart}
-use Rattle.xdg_problem.proofs.FilterFacts.{filter_both, filter_alike}
-use Rattle.xdg_problem.proofs.Ordered.{Ordered, map_alike, contains_cases, contains_none}
+use Rattle.xdg_facts.proofs.Filters.{filter_both, filter_alike}
+use Rattle.xdg_facts.proofs.InOrder.{Ordered}
+use Rattle.xdg_facts.proofs.Each.{map_alike}
+use Rattle.xdg_facts.proofs.Contained.{contains_cases, contains_none}
+use Rattle.xdg_facts.proofs.Keeping.{filter_on}
 use Rattle.xdg_problem.proofs.PlaceOrder.{places_ordered}
 use Rattle.xdg_problem.proofs.Shortening.{passes_like}
 use Rattle.xdg_problem.specs.Boxes.{Has, Agrees, place_in, edge_decision, entry_decision}
 use Rattle.xdg_rules.specs.Rules.{has, IsDecided, value_in, EntryDecided, entry_value, TestDecided, TestPasses}
-use Rattle.xdg_rules.proofs.Keeping.{filter_on}
 use Rattle.xdg_rules.proofs.Sizes.{row_within}
 use Rattle.xdg_rules.proofs.Failing.{value_is}
 use Rattle.xdg_facts.proofs.Truths.{same_flag}

@@ -1,6 +1,5 @@
 -- Paths, links and roots of edges that are all among others.
 use Rattle.xdg_problem.proofs.Walks.{above_more}
-use Rattle.std.proofs.lemmas.List.Folds.{Any-from_list_any, list_any-from_Any}
 use Rattle.std.proofs.Common.{◌≡◌, ℕ, ◌≤◌, inl, inr, Bool, true, List, ◌∷◌, length}
 use Rattle.std.specs.Prelude.{Contains, not, ◌==◌}
 use Rattle.std.specs.List.{Any, list_any}
@@ -12,17 +11,9 @@ use Rattle.xdg_problem.specs.declared.parts.Linking.TheVariants as linkings
 use Rattle.xdg_problem.specs.Asking.{IsLinked}
 use Rattle.xdg_problem.specs.Paths.{IsDaughterByAny, Above, AboveByFirst, roots}
 use Rattle.xdg_problem.specs.Places.{below}
-use Rattle.xdg_problem.proofs.DecidingPaths.{contained}
-use Rattle.xdg_problem.proofs.Looking.{any_of, any_weaker}
-use Rattle.xdg_problem.proofs.FilterFacts.{filter_contained}
-use Rattle.xdg_problem.proofs.Ordered.{contains_filter}
-use Rattle.xdg_rules.proofs.Keeping.{Less, less_length}
-
-pub list_any_of : {X : Type 0} (test : X → Bool) (xs : List X) (x : X) → Contains xs x → test x ≡ true → list_any test xs ≡ true
-list_any_of test xs x c passes = list_any-from_Any test xs (any_of (λ y. test y ≡ true) xs x c passes)
-
-pub any_passes : {X : Type 0} (test : X → Bool) (xs : List X) → list_any test xs ≡ true → (x : X) × Contains xs x × (test x ≡ true)
-any_passes test xs e = contained (λ x. test x ≡ true) xs (Any-from_list_any test xs e)
+use Rattle.xdg_facts.proofs.Contained.{any_of, any_weaker, contains_filter, list_any_of, any_passes}
+use Rattle.xdg_facts.proofs.Filters.{filter_contained}
+use Rattle.xdg_facts.proofs.Keeping.{Less, less_length}
 
 -- each of the few edges is one of the many
 abbrev pub Among : List Edge → List Edge → Type 0

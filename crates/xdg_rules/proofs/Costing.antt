@@ -15,7 +15,7 @@ use Rattle.xdg_problem.specs.Vectors.{shape, entry_places, entries_at, edges_in}
 use Rattle.xdg_rules.specs.Remaining.{has}
 use Rattle.xdg_rules.specs.Bounds.{sum_below, candidate_cost, node_cost, edge_cost, must_places, least_cost, BoundReached, BoundPlace}
 use Rattle.xdg_rules.proofs.Agreeing.{says_present, edges_present}
-use Rattle.xdg_rules.proofs.Keeping.{Less, filter_on, less_sum, more_sum}
+use Rattle.xdg_facts.proofs.Keeping.{Less, filter_on, less_sum, more_sum}
 use Rattle.xdg_rules.proofs.Least.{least_less, least_single}
 use Rattle.xdg_rules.proofs.Shrinking.{EdgesLie, less_must}
 use Rattle.xdg_rules.proofs.Sizes.{within_sizes, node_within}

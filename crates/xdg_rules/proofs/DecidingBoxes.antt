@@ -7,10 +7,9 @@ use Rattle.std.proofs.lemmas.List.Elements.{All-contains, All-contains_itself, A
 use Rattle.xdg_facts.specs.Order.{Less}
 use Rattle.xdg_facts.proofs.Ordered.{less_irreflexive, less_total}
 use Rattle.xdg_problem.specs.declared.analysis.Edge.{Edge}
-use Rattle.xdg_problem.proofs.Deciding.{Decided, decided_like, decided_both, decided_from, decided_equal, decided_most, decided_below, decided_all, decided_contains}
-use Rattle.xdg_problem.proofs.DecidingPaths.{decided_either, decided_true, decided_not, decided_any, contained}
+use Rattle.xdg_facts.proofs.Decided.{Decided, decided_like, decided_both, decided_from, decided_equal, decided_most, decided_below, decided_all, decided_contains, decided_either, decided_true, decided_not, decided_any}
+use Rattle.xdg_facts.proofs.Contained.{contained, any_of}
 use Rattle.xdg_problem.proofs.Edges.{same_edge_itself, same_edge_equal}
-use Rattle.xdg_problem.proofs.Looking.{any_of}
 use Rattle.xdg_problem.specs.Places.{same_edge}
 use Rattle.xdg_problem.specs.Boxes.{Has, IsOnly, entry_decision}
 use Rattle.xdg_rules.specs.Rules.{EachEntry, IsDecided, HasNoneWithin, IsGreatest, IsLeast, ComesBefore}

@@ -13,12 +13,10 @@ use Rattle.xdg_problem.specs.Places.{nodes, places}
 use Rattle.xdg_problem.specs.Problems.{IsProblem}
 use Rattle.xdg_problem.specs.Tests.{Test, IsTest, looks_at, entry_node, test_attrs}
 use Rattle.xdg_problem.specs.Vectors.{shape}
-use Rattle.xdg_problem.proofs.Deciding.{Decided, decided_like, decided_both, decided_from, decided_equal, decided_below, decided_all}
-use Rattle.xdg_problem.proofs.DecidingPaths.{decided_true, decided_not, decided_any, contained, triple_decided}
+use Rattle.xdg_facts.proofs.Decided.{Decided, decided_like, decided_both, decided_from, decided_equal, decided_below, decided_all, decided_true, decided_not, decided_any, triple_decided}
+use Rattle.xdg_facts.proofs.Contained.{contained, any_of, contains_head, contains_none, contains_cases, contains_map}
 use Rattle.xdg_problem.proofs.EachTest.{Each, tested_each, each_tested}
 use Rattle.xdg_problem.proofs.LiveDecided.{decided_passes, decided_tests}
-use Rattle.xdg_problem.proofs.Looking.{any_of}
-use Rattle.xdg_problem.proofs.Ordered.{contains_head, contains_none, contains_cases, contains_map}
 use Rattle.xdg_problem.specs.Boxes.{Has, IsBox, Agrees, edge_decision, entry_decision}
 use Rattle.xdg_rules.specs.Rules.{has, IsDecided, EntryDecided, entry_value, value_in, TestDecided, TestPasses, FailsTest, TakesBy, IsClosedFor, IsClosed}
 use Rattle.xdg_rules.specs.Boxed.{Boxed}

@@ -15,10 +15,10 @@ use Rattle.xdg_problem.specs.Features.{in_row, out_row, set_row, map_row}
 use Rattle.xdg_problem.specs.Paths.{edges_into, edges_out_of, mothers, roots, Above}
 use Rattle.xdg_problem.specs.Places.{nodes, places}
 use Rattle.xdg_problem.specs.Truths.{unbound}
-use Rattle.xdg_problem.proofs.Deciding.{Decided, decided_like, decided_both, decided_equal, decided_less, decided_most, decided_contains}
+use Rattle.xdg_facts.proofs.Decided.{Decided, decided_like, decided_both, decided_equal, decided_less, decided_most, decided_contains, decided_either, decided_true, decided_not, decided_any, triple_decided}
+use Rattle.xdg_facts.proofs.Contained.{contained, any_of}
 use Rattle.xdg_problem.proofs.DecidingAsks.{decided_between, decided_linked}
-use Rattle.xdg_problem.proofs.DecidingPaths.{starts, decided_either, decided_true, decided_not, decided_any, contained, triple_decided, decided_above}
-use Rattle.xdg_problem.proofs.Looking.{any_of}
+use Rattle.xdg_problem.proofs.DecidingPaths.{starts, decided_above}
 use Rattle.xdg_problem.specs.Boxes.{entry_decision, edge_decision}
 use Rattle.xdg_problem.specs.Principles.{linking_of}
 use Rattle.xdg_rules.specs.Rules.{may_edges, must_edges, IsPlaceOn, SaysPresent, SaysAbsent, EachEntry, HasNoneWithin, ValencyEntry, ValencyFull, ValencyNeeded, OneMother, RootFound, OnlyMother, NoCycle, OneLabel, attr_of_node}

@@ -1,5 +1,6 @@
 -- A test that is decided in a box and fails is decided in each box that has no more where it looks, and fails there.
-use Rattle.xdg_problem.proofs.Ordered.{map_alike}
+use Rattle.xdg_facts.proofs.Each.{map_alike}
+use Rattle.xdg_facts.proofs.Keeping.{filter_on}
 use Rattle.std.proofs.Common.{◌≡◌, ℕ, ◌+◌, ◌<◌, suc, inl, inr, Bool, true, false, ◌&&◌, List, [], ◌∷◌, length, refl, sym, ap, ◌∙◌, arith, rules, subst, Option, Some, None}
 use Rattle.std.specs.Prelude.{Contains, All, slice_index_or, ◌==◌}
 use Rattle.std.proofs.lemmas.Bool.{false≢true, cases_Bool, eqb-true, or_cases}
@@ -21,7 +22,6 @@ use Rattle.xdg_problem.proofs.Shortening.{passes_like}
 use Rattle.xdg_problem.specs.Boxes.{Has, IsBox, edge_decision, entry_decision}
 use Rattle.xdg_rules.specs.Rules.{has, IsDecided, first_true, value_in, EntryDecided, entry_value, FailsTest}
 use Rattle.xdg_rules.proofs.Antitone.{LiesAt}
-use Rattle.xdg_rules.proofs.Keeping.{filter_on}
 use Rattle.xdg_rules.proofs.Sizes.{edge_within, node_within, attr_place_within}
 use Rattle.xdg_facts.proofs.Truths.{same_flag, same_and}
 

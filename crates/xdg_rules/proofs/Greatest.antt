@@ -8,9 +8,8 @@ use Rattle.xdg_problem.specs.declared.parts.Parts.{Parts}
 use Rattle.xdg_problem.specs.Places.{below}
 use Rattle.xdg_problem.specs.Problems.{IsProblem}
 use Rattle.xdg_problem.specs.Vectors.{shape}
-use Rattle.xdg_problem.proofs.Deciding.{Decided, decided_both}
-use Rattle.xdg_problem.proofs.DecidingPaths.{decided_any, contained, triple_decided}
-use Rattle.xdg_problem.proofs.Looking.{any_of}
+use Rattle.xdg_facts.proofs.Decided.{Decided, decided_both, decided_any, triple_decided}
+use Rattle.xdg_facts.proofs.Contained.{contained, any_of}
 use Rattle.xdg_problem.proofs.Ordered.{numbers_length}
 use Rattle.xdg_problem.specs.Boxes.{Has, IsBox, LiesIn}
 use Rattle.xdg_rules.specs.Rules.{IsClosed}

@@ -1,4 +1,3 @@
-pub mod Keeping
 pub mod Among
 pub mod Sizes
 pub mod Shrinking

@@ -8,7 +8,7 @@ use Rattle.xdg_problem.specs.Arguments.{attr_place}
 use Rattle.xdg_problem.specs.Boxes.{attr_decision}
 use Rattle.xdg_problem.specs.Paths.{edges_on, IsDaughterBy, Above}
 use Rattle.xdg_problem.specs.Places.{edge}
-use Rattle.xdg_problem.proofs.Ordered.{contains_cases}
+use Rattle.xdg_facts.proofs.Contained.{contains_cases}
 use Rattle.xdg_rules.specs.Rules.{may_edges, must_edges, EachEntry}
 use Rattle.xdg_problem.specs.Claims.{Claim, negation, conjunction, disjunction, every, some, joined, above, left, same, valued, fitting, Claims, none, claim_then, IsBound, EachIsBound}
 use Rattle.xdg_problem.specs.Truths.{bound, says, IsTrueOf, EachTrueOf, SomeTrueOf, HasTruth}

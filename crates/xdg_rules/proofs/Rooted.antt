@@ -9,12 +9,13 @@ use Rattle.xdg_problem.specs.Arguments.{first_dim}
 use Rattle.xdg_problem.specs.Paths.{mothers, roots}
 use Rattle.xdg_problem.specs.Places.{nodes, below}
 use Rattle.xdg_problem.specs.Vectors.{shape}
-use Rattle.xdg_problem.proofs.Ordered.{contains_numbers, contains_filter}
+use Rattle.xdg_problem.proofs.Ordered.{contains_numbers}
 use Rattle.xdg_problem.proofs.PlaceOrder.{is_place}
 use Rattle.xdg_problem.specs.Boxes.{IsBox, LiesIn}
 use Rattle.xdg_rules.specs.Rules.{may_edges, must_edges, RootFound, HasNoRoot, OnlyMother, HasTwoRoots}
 use Rattle.xdg_rules.proofs.Among.{is_root, roots_less, roots_among, root_contained, root_free, free_root}
-use Rattle.xdg_rules.proofs.Keeping.{filter_one, counts_one, two_elements}
+use Rattle.xdg_facts.proofs.Contained.{contains_filter}
+use Rattle.xdg_facts.proofs.Keeping.{filter_one, counts_one, two_elements}
 use Rattle.xdg_rules.proofs.Shrinking.{may_or_not, may_among, must_among, may_count, may_count_more, may_is}
 
 module _ (parts : Parts) (group : Group) (small large : List (List Bool)) (is : IsBox (shape parts) small) (lies : LiesIn small large) where

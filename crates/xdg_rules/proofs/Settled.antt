@@ -6,8 +6,8 @@ use Rattle.xdg_problem.specs.Boxes.{Has, IsBox, IsSingle, attr_decision, entry_d
 use Rattle.xdg_problem.specs.Places.{edge, nodes}
 use Rattle.xdg_problem.specs.Problems.{IsProblem}
 use Rattle.xdg_problem.specs.Vectors.{shape}
-use Rattle.xdg_problem.proofs.Deciding.{Decided, decided_equal, decided_less}
-use Rattle.xdg_problem.proofs.DecidingPaths.{decided_true, decided_above}
+use Rattle.xdg_facts.proofs.Decided.{Decided, decided_equal, decided_less, decided_true}
+use Rattle.xdg_problem.proofs.DecidingPaths.{decided_above}
 use Rattle.xdg_rules.specs.Rules.{has, may_edges, must_edges}
 use Rattle.xdg_rules.proofs.Among.{Among, above_among}
 use Rattle.xdg_rules.proofs.DecidingBoxes.{decided_among}

@@ -8,13 +8,13 @@ use Rattle.xdg_problem.specs.Paths.{Above}
 use Rattle.xdg_problem.specs.Places.{nodes, places}
 use Rattle.xdg_problem.specs.Vectors.{shape}
 use Rattle.std.proofs.lemmas.List.Elements.{All-weaker, All-contains_itself}
-use Rattle.xdg_problem.proofs.FilterFacts.{filter_contained}
-use Rattle.xdg_problem.proofs.Ordered.{contains_filter}
+use Rattle.xdg_facts.proofs.Filters.{filter_contained}
+use Rattle.xdg_facts.proofs.Contained.{contains_filter}
+use Rattle.xdg_facts.proofs.Keeping.{Less, less_among, less_count, strictly_count}
 use Rattle.xdg_problem.proofs.PlaceOrder.{is_place}
 use Rattle.xdg_problem.proofs.TreeTests.{above_within}
 use Rattle.xdg_problem.specs.Boxes.{Has, IsBox, LiesIn, May, Must, edge_decision}
 use Rattle.xdg_rules.specs.Rules.{has, may_edges, must_edges, IsPlaceOn}
-use Rattle.xdg_rules.proofs.Keeping.{Less, less_among, less_count, strictly_count}
 use Rattle.xdg_rules.proofs.Sizes.{edge_some}
 use Rattle.xdg_rules.proofs.Among.{Among}
 

@@ -12,7 +12,7 @@ use Rattle.xdg_problem.specs.Asking.{AsksWhole}
 use Rattle.xdg_problem.specs.Problems.{IsProblem, IsGroup, IsSuited}
 use Rattle.xdg_problem.specs.Relations.{Relation}
 use Rattle.xdg_problem.specs.Vectors.{shape, entry_places, entries_at, edges_in, analysis_of}
-use Rattle.xdg_problem.proofs.Tuples.{one_kept, two_kept, three_kept, chosen_kept}
+use Rattle.xdg_facts.proofs.Each.{one_kept, two_kept, three_kept, chosen_kept}
 use Rattle.xdg_problem.proofs.WholeTests.{use_live, whole_stands}
 use Rattle.xdg_problem.specs.Boxes.{Has, IsBox, Agrees}
 use Rattle.xdg_rules.specs.Rules.{FailsTest, TakesBy, IsClosedFor}

@@ -10,8 +10,8 @@ use Rattle.xdg_problem.specs.Paths.{edges_on, IsDaughterBy, Above}
 use Rattle.xdg_problem.specs.Places.{edge}
 use Rattle.xdg_problem.specs.Problems.{IsProblem}
 use Rattle.xdg_problem.specs.Vectors.{shape, entry_places, entries_at, edges_in, analysis_of}
-use Rattle.xdg_problem.proofs.FilterFacts.{filter_contained}
-use Rattle.xdg_problem.proofs.DecidingPaths.{contained}
+use Rattle.xdg_facts.proofs.Filters.{filter_contained}
+use Rattle.xdg_facts.proofs.Contained.{contained}
 use Rattle.xdg_rules.proofs.Whole.{daughter_by, may_on, must_on, entry_has}
 use Rattle.xdg_problem.specs.Claims.{Claim, negation, conjunction, disjunction, every, some, joined, above, left, same, valued, fitting, Claims, none, claim_then, IsOf, EachIsOf}
 use Rattle.xdg_problem.specs.Truths.{bound, IsTrueIn, EachTrueOf, SomeTrueOf, HasTruth, AreNodes}

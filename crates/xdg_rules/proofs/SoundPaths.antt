@@ -17,7 +17,7 @@ use Rattle.xdg_problem.specs.Paths.{edges_on, IsDaughter, Above, AboveByLast}
 use Rattle.xdg_problem.specs.Places.{places}
 use Rattle.xdg_problem.specs.Problems.{IsProblem}
 use Rattle.xdg_problem.specs.Vectors.{shape, entry_places, entries_at, edges_in}
-use Rattle.xdg_problem.proofs.Looking.{any_of}
+use Rattle.xdg_facts.proofs.Contained.{any_of}
 use Rattle.xdg_problem.proofs.PlaceOrder.{is_place}
 use Rattle.xdg_problem.proofs.Walks.{above_edge, leads_append}
 use Rattle.xdg_problem.specs.Boxes.{Has, IsBox, Agrees}

@@ -15,12 +15,12 @@ use Rattle.xdg_problem.specs.Problems.{IsProblem}
 use Rattle.xdg_problem.specs.Relations.{IsKept}
 use Rattle.xdg_problem.specs.Vectors.{shape, entry_places, entries_at, edges_in, analysis_of}
 use Rattle.xdg_problem.proofs.Walks.{above_edge, above_trans}
-use Rattle.xdg_problem.proofs.Ordered.{contains_head}
+use Rattle.xdg_facts.proofs.Contained.{contains_head}
+use Rattle.xdg_facts.proofs.Keeping.{counts_two}
 use Rattle.xdg_problem.proofs.PlaceOrder.{is_place}
 use Rattle.xdg_problem.specs.Boxes.{Has, IsBox, Agrees}
 use Rattle.xdg_rules.specs.Rules.{may_edges, must_edges, HasNoneWithin, ValencyEntry, ValencyFull, ValencyNeeded, OneMother, RootFound, HasNoRoot, HasTwoRoots, TakesForRoot, NoCycle, OneLabel}
 use Rattle.xdg_rules.proofs.Among.{root_contained, root_free}
-use Rattle.xdg_rules.proofs.Keeping.{counts_two}
 use Rattle.xdg_rules.proofs.Whole.{may_on, must_on, must_stands, present, absent, entry_is}
 
 -- an edge, and a path on from it

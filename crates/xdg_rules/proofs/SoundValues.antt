@@ -14,7 +14,8 @@ use Rattle.xdg_problem.specs.Paths.{edges_on, IsDaughterBy}
 use Rattle.xdg_problem.specs.Places.{nodes, places}
 use Rattle.xdg_problem.specs.Problems.{IsProblem, IsGroup}
 use Rattle.xdg_problem.specs.Vectors.{shape, entry_places, entries_at, edges_in, analysis_of}
-use Rattle.xdg_problem.proofs.Ordered.{Ordered, ordered_from_pairs, each_contained}
+use Rattle.xdg_facts.proofs.InOrder.{Ordered, ordered_from_pairs}
+use Rattle.xdg_facts.proofs.Each.{each_contained}
 use Rattle.xdg_problem.proofs.PlaceOrder.{is_place}
 use Rattle.xdg_problem.specs.Boxes.{Has, IsBox, Agrees}
 use Rattle.xdg_rules.specs.Rules.{AgrValues, AgreementValues, GovernmentValues, ComesBefore, DaughterOrder, HeadOffends, AboutHead, OfHead, attr_of_node}

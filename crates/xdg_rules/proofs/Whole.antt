@@ -12,15 +12,15 @@ use Rattle.xdg_problem.specs.Places.{nodes, places}
 use Rattle.xdg_problem.specs.Problems.{IsProblem, IsGroup}
 use Rattle.xdg_problem.specs.Vectors.{shape, entry_places, entries_at, edges_in, analysis_of}
 use Rattle.xdg_problem.proofs.AttrPlaces.{attr_dim_within}
-use Rattle.xdg_problem.proofs.FilterFacts.{filter_both}
+use Rattle.xdg_facts.proofs.Filters.{filter_both}
+use Rattle.xdg_facts.proofs.Keeping.{filter_on}
+use Rattle.xdg_facts.proofs.Contained.{any_of}
 use Rattle.xdg_problem.proofs.WholeTests.{entry_same}
 use Rattle.xdg_problem.specs.Boxes.{Has, IsBox, Agrees, edge_decision, entry_decision}
 use Rattle.xdg_rules.specs.Rules.{has, may_edges, must_edges, SaysPresent, SaysAbsent, IsPlaceOn, attr_of_node}
 use Rattle.xdg_rules.proofs.Sizes.{edge_within, node_within}
 use Rattle.xdg_rules.proofs.Agreeing.{agrees_fits, says_present, edges_present, at, present_at, swapped}
-use Rattle.xdg_rules.proofs.Keeping.{filter_on}
 use Rattle.xdg_rules.proofs.NodeValues.{attr_only, attr_remains}
-use Rattle.xdg_problem.proofs.Looking.{any_of}
 use Rattle.xdg_rules.proofs.Shrinking.{may_of, may_is}
 use Rattle.xdg_problem.specs.Principles.{attr_arguments}
 

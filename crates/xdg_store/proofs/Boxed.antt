@@ -14,10 +14,11 @@ use Rattle.xdg_problem.specs.Boxes.{Has, IsBox, full, without}
 use Rattle.xdg_problem.specs.Places.{below, nodes, places}
 use Rattle.xdg_problem.specs.Problems.{AreCandidates, IsAttr, IsDim, IsProblem}
 use Rattle.xdg_problem.specs.Vectors.{attr_sizes, shape}
-use Rattle.xdg_problem.proofs.Ordered.{each_append, each_flat_map, each_map, each_of_all, each_weaker}
+use Rattle.xdg_problem.proofs.Ordered.{each_flat_map}
 use Rattle.xdg_store.specs.States.{values_in, remaining}
 use Rattle.xdg_store.proofs.Counting.{Filled}
 use Rattle.xdg_problem.proofs.BoxWithout.{without_has}
+use Rattle.xdg_facts.proofs.Each.{each_append, each_map, each_of_all, each_weaker}
 
 -- ---- what has a value
 

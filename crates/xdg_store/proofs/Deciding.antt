@@ -19,7 +19,7 @@ use Rattle.xdg_problem.specs.Problems.{IsProblem}
 use Rattle.xdg_problem.specs.Vectors.{attr_sizes, first_place, shape}
 use Rattle.xdg_problem.proofs.Counted.{length_attrs_of}
 use Rattle.xdg_problem.proofs.Edges.{before_apart, same_edge_itself}
-use Rattle.xdg_problem.proofs.Ordered.{Ordered, each_at, numbers_length}
+use Rattle.xdg_problem.proofs.Ordered.{numbers_length}
 use Rattle.xdg_problem.proofs.PlaceOrder.{each_is_place, places_ordered}
 use Rattle.xdg_problem.proofs.VectorFacts.{length_shape}
 use Rattle.xdg_store.specs.Decisions.{IsDecision, number_of}
@@ -28,6 +28,8 @@ use Rattle.xdg_store.specs.declared.decision.Decision.{Decision}
 use Rattle.xdg_store.specs.declared.decision.Decision.TheVariants as decisions
 use Rattle.xdg_store.proofs.Located.{Located, attr_located, edge_located, entry_located, number_at}
 use Rattle.xdg_store.proofs.Sizes.{bits_sizes}
+use Rattle.xdg_facts.proofs.InOrder.{Ordered}
+use Rattle.xdg_facts.proofs.Each.{each_at}
 
 -- ---- the decision of a number
 

@@ -14,7 +14,7 @@ use Rattle.xdg_problem.specs.Places.{below, nodes, places, places_from, places_o
 use Rattle.xdg_problem.specs.Problems.{IsDim, IsProblem}
 use Rattle.xdg_problem.specs.Vectors.{attr_sizes, first_place, shape}
 use Rattle.xdg_problem.proofs.Counted.{length_attrs_of}
-use Rattle.xdg_problem.proofs.Ordered.{each_at}
+use Rattle.xdg_facts.proofs.Each.{each_at}
 use Rattle.xdg_problem.proofs.PlaceCount.{length_places_of}
 use Rattle.xdg_problem.proofs.VectorFacts.{length_shape}
 use Rattle.xdg_store.proofs.Boxed.{IsSize, sizes_fit}

@@ -6,7 +6,7 @@ use Rattle.xdg_facts.proofs.Fitting.{fits_last as value_in, fits_length}
 use Rattle.xdg_problem.specs.declared.parts.Parts.{Parts}
 use Rattle.xdg_problem.specs.Problems.{IsProblem}
 use Rattle.xdg_problem.specs.Vectors.{shape}
-use Rattle.xdg_problem.proofs.Ordered.{each_at}
+use Rattle.xdg_facts.proofs.Each.{each_at}
 use Rattle.xdg_store.proofs.Boxed.{IsSize, sizes_fit}
 
 pub size_small : (parts : Parts) (at : ℕ) → IsProblem parts → at < length (shape parts) → slice_index (shape parts) at < 2 ^ 16

@@ -12,7 +12,9 @@ use Rattle.xdg_problem.specs.Places.{places}
 use Rattle.xdg_problem.specs.Vectors.{place_among, entry_places, presence, shape, vector}
 use Rattle.xdg_problem.proofs.Edges.{same_edge_itself, before_transitive, before_apart}
 use Rattle.xdg_problem.proofs.EntryPlaces.{length_entry_places}
-use Rattle.xdg_problem.proofs.Ordered.{Ordered, each_weaker, each_contained, contains_cases}
+use Rattle.xdg_facts.proofs.InOrder.{Ordered}
+use Rattle.xdg_facts.proofs.Each.{each_weaker, each_contained}
+use Rattle.xdg_facts.proofs.Contained.{contains_cases}
 use Rattle.xdg_problem.proofs.PlaceOrder.{places_ordered, place_is}
 use Rattle.xdg_problem.proofs.Presence.{rise_ordered, present_head, absent_before, presence_skip}
 use Rattle.xdg_problem.proofs.VectorFacts.{length_shape}

@@ -24,13 +24,14 @@ use Rattle.xdg_ast.specs.declared.terms.CardKind.TheVariants as c
 use Rattle.xdg_domain.specs.Shapes as d
 use Rattle.xdg_domain.specs.Shapes.{Shape, domain, tuple, truth, integer, text, set, iset, card, valency, mapping, fields, Shapes, Fields, no_field, field_then, sizes, in_a_row, names_of}
 use Rattle.xdg_names.specs.First.{Tells, first}
-use Rattle.xdg_names.proofs.Listing.{Lists, lists_none, lists_as, lists_both, lists_each, lists_unless, lists_when, lists_unknown, lists_known, lists_behind, lists_tell}
+use Rattle.xdg_names.proofs.Listing.{lists_unknown, lists_known, lists_tell}
 use Rattle.xdg_terms.specs.Forms.{Term, Card, Look, all_of, bracketed_elem, braces_in, generator_in, constant_of, number_of, card_of, generator_of, bracket_of, constants_of, brackets_of, counts_of, pairs_of}
 use Rattle.xdg_terms.specs.Offences.{has_form, has_set_form, asked_in_set, is_some, one_told, all_told, Asked, asked_in, asked_in_turn, asked, keys, field_keys, known_fields, cards, keys_of, gen_names, IsWrongKind, IsNotMember, IsOutOfRange, CardOffends, OffendsHere, OfSeen, OffendsIn, OffendsUnder, OffendsBy}
 use Rattle.xdg_terms.specs.Faults as spec
 use Rattle.xdg_terms.proofs.Right.{HoldsNone}
 use Rattle.xdg_facts.proofs.Texts.{same_text, is_same}
 use Rattle.xdg_facts.specs.Membership.{In}
+use Rattle.xdg_facts.proofs.Parts.{Lists, lists_none, lists_as, lists_both, lists_each, lists_unless, lists_when, lists_behind}
 
 -- ---- the rules as lists
 

@@ -1,5 +1,5 @@
 -- The value of a term without an offence is what the term means, and a value of the type.
-use Rattle.std.proofs.Common.{◌≡◌, inl, inr, ℕ, ◌≤◌, ◌+◌, zero, suc, List, [], ◌∷◌, length, map, Option, Some, None, codes, refl, sym, ap, ◌∙◌, subst, arith}
+use Rattle.std.proofs.Common.{◌≡◌, inl, inr, ℕ, ◌≤◌, ◌+◌, zero, suc, List, [], ◌∷◌, length, map, Option, Some, None, unwrap_or, codes, refl, sym, ap, ◌∙◌, subst, arith}
 use Rattle.std.specs.Prelude.{Bool, true, false, bytes_eq, Result, Ok, Err, IfOk}
 use Rattle.std.specs.declared.alloc.AllocError.{AllocError}
 use Rattle.std.proofs.lemmas.Bool.{true≢false}
@@ -20,10 +20,11 @@ use Rattle.xdg_terms.specs.Offences.{one_told, all_told, asked_in, asked_in_turn
 use Rattle.xdg_terms.specs.Means.{IsAt, truth_text, AllowedBy, written_for, Said, MeansIn, MeansField, Means}
 use Rattle.xdg_terms.specs.Answers.{IsRight}
 use Rattle.xdg_terms.specs.Fitting.{FitsIn, FitsField, Fits}
-use Rattle.xdg_terms.specs.Built.{Elem, or_zero, number_named, text_named, number_of_places, tuple_number, names_of, elems_of, first_for, set_of, card_numbers, numbers_of_card, put, said_from, built, fields_from}
+use Rattle.xdg_names.proofs.Texts.{place_of-Some}
+use Rattle.xdg_terms.specs.Built.{Elem, number_named, text_named, number_of_places, tuple_number, names_of, elems_of, first_for, set_of, card_numbers, numbers_of_card, put, said_from, built, fields_from}
 use Rattle.xdg_terms.proofs.Right.{RightHere, formed, told, stands, card_right, allowed}
 use Rattle.xdg_terms.proofs.Read.{bracket_read, same_first, written}
-use Rattle.xdg_terms.proofs.Meant.{at_place, among_at, all_places, TupleOf, tuple_of_places}
+use Rattle.xdg_terms.proofs.Meant.{among_at, all_places, TupleOf, tuple_of_places}
 use Rattle.xdg_terms.proofs.Lawful.{set_law, set_below, counts_read, pairs_read}
 use Rattle.xdg_terms.proofs.SaidKeys.{made_of, put_rises, put_here, put_later, said_made, from_rises, keys_said, keys_each}
 use Rattle.xdg_facts.proofs.Texts.{same_text, is_same}
@@ -43,17 +44,17 @@ domain_good : (bs : Bindings) (cs : List (List ℕ)) (t : Term) → RightHere (d
 domain_good bs cs t h =
     let r = told (constant_of t) (formed (domain cs) t h) in
     let s = stands (domain cs) t cs r.0 h (subst (λ o. In (asked_in cs (one_told o)) (cs, r.0)) (sym r.1) (inl refl)) in
-    let e : number_named cs (constant_of t) ≡ s.0 = ap (number_named cs) r.1 ∙ ap or_zero s.1 in
-    let p : IsAt cs (number_named cs (constant_of t)) (r.0).text = subst (λ n. IsAt cs n (r.0).text) (sym e) (at_place cs (r.0).text s.0 s.1) in
+    let e : number_named cs (constant_of t) ≡ s.0 = ap (number_named cs) r.1 ∙ ap (λ o. unwrap_or o 0) s.1 in
+    let p : IsAt cs (number_named cs (constant_of t)) (r.0).text = subst (λ n. IsAt cs n (r.0).text) (sym e) (place_of-Some cs (r.0).text s.0 s.1) in
     ((r.0, (r.1, p)), λ _. p.0)
 
-tuple_good : (bs : Bindings) (ss : Shapes) (t : Term) → RightHere (tuple ss) t → GoodIn bs (tuple ss) t (Value-F.Tuple (or_zero (tuple_number (tuple ss) (names_of t))))
+tuple_good : (bs : Bindings) (ss : Shapes) (t : Term) → RightHere (tuple ss) t → GoodIn bs (tuple ss) t (Value-F.Tuple (unwrap_or (tuple_number (tuple ss) (names_of t)) 0))
 tuple_good bs ss t h =
     let r = told (bracket_of (length (sizes ss)) t) (formed (tuple ss) t h) in
     let b = bracket_read (length (sizes ss)) t r.0 r.1 in
     let all = all_places [] ss r.0 b.1 (λ texts name among. stands (tuple ss) t texts name h (subst (λ o. In (asked_in_turn (constants_of ss) (all_told o)) (texts, name)) (sym r.1) among)) in
-    let e : or_zero (tuple_number (tuple ss) (names_of t)) ≡ index (sizes ss) all.0 = ap (λ names. or_zero (tuple_number (tuple ss) names)) b.0 ∙ ap (λ o. or_zero (number_of_places ss o)) all.1 in
-    let p : TupleOf ss r.0 (or_zero (tuple_number (tuple ss) (names_of t))) = subst (TupleOf ss r.0) (sym e) (tuple_of_places ss r.0 all.0 all.1) in
+    let e : unwrap_or (tuple_number (tuple ss) (names_of t)) 0 ≡ index (sizes ss) all.0 = ap (λ names. unwrap_or (tuple_number (tuple ss) names) 0) b.0 ∙ ap (λ o. unwrap_or (number_of_places ss o) 0) all.1 in
+    let p : TupleOf ss r.0 (unwrap_or (tuple_number (tuple ss) (names_of t)) 0) = subst (TupleOf ss r.0) (sym e) (tuple_of_places ss r.0 all.0 all.1) in
     ((p.within, (r.0, (r.1, p.texts))), λ _. p.within)
 
 truth_told : (t : List ℕ) (b : Bool) → bytes_eq t (codes "true") ≡ b → In (codes "true" ∷ codes "false" ∷ []) t → t ≡ truth_text b
@@ -65,12 +66,12 @@ truth_good bs t h =
     let texts = codes "true" ∷ codes "false" ∷ [] in
     let r = told (constant_of t) (formed truth t h) in
     let s = stands truth t texts r.0 h (subst (λ o. In (asked_in texts (one_told o)) (texts, r.0)) (sym r.1) (inl refl)) in
-    let p = at_place texts (r.0).text s.0 s.1 in
+    let p = place_of-Some texts (r.0).text s.0 s.1 in
     let e : bytes_eq (r.0).text (codes "true") ≡ bytes_eq (text_named (constant_of t)) (codes "true") = sym (ap (λ o. bytes_eq (text_named o) (codes "true")) r.1) in
     ((r.0, (r.1, truth_told (r.0).text (bytes_eq (text_named (constant_of t)) (codes "true")) e (among_at texts s.0 (r.0).text p.0 p.1))), λ _. tt)
 
-integer_good : (bs : Bindings) (t : Term) → RightHere integer t → GoodIn bs integer t (Value-F.Int (or_zero (number_of t)))
-integer_good bs t h = let r = told (number_of t) (formed integer t h) in (r.1 ∙ ap (λ n. Some n) (sym (ap or_zero r.1)), λ fits. fits)
+integer_good : (bs : Bindings) (t : Term) → RightHere integer t → GoodIn bs integer t (Value-F.Int (unwrap_or (number_of t) 0))
+integer_good bs t h = let r = told (number_of t) (formed integer t h) in (r.1 ∙ ap (λ n. Some n) (sym (ap (λ o. unwrap_or o 0) r.1)), λ fits. fits)
 
 text_good : (bs : Bindings) (t : Term) → RightHere text t → GoodIn bs text t (Value-F.Str (text_named (constant_of t)))
 text_good bs t h = let r = told (constant_of t) (formed text t h) in ((r.0, (r.1, sym (ap text_named r.1))), λ _. tt)

@@ -9,9 +9,11 @@ use Rattle.xdg_domain.specs.Tuples.{index, places, InRange}
 use Rattle.xdg_domain.proofs.TupleNumbers.{index_below, places_of_index, index_of_places, places_in_range}
 use Rattle.xdg_terms.specs.Forms.{all_of, plain_elem, bracketed_elem}
 use Rattle.xdg_terms.specs.Offences.{asked_in_turn}
-use Rattle.xdg_terms.specs.Means.{IsAt, chosen, tuple_texts}
-use Rattle.xdg_terms.specs.Built.{place_from, places_behind, number_of_places, tuple_number, listed}
-use Rattle.xdg_terms.proofs.Placing.{placed, are_chosen}
+use Rattle.xdg_terms.specs.Means.{chosen, tuple_texts}
+use Rattle.xdg_names.specs.Texts.{place_of}
+use Rattle.xdg_names.proofs.Texts.{place_of-Some}
+use Rattle.xdg_terms.specs.Built.{places_behind, number_of_places, tuple_number, listed}
+use Rattle.xdg_terms.proofs.Placing.{are_chosen}
 use Rattle.xdg_terms.proofs.Right.{Stands}
 use Rattle.xdg_terms.proofs.Read.{listed_numbers, numbers_listed, plain_alike, bracketed_alike, each_long}
 use Rattle.xdg_facts.specs.Membership.{In, Differ}
@@ -21,12 +23,6 @@ use Rattle.xdg_domain.proofs.Constants.{domain_differs}
 use Rattle.xdg_ast.specs.Texts.{texts as texts_of}
 
 -- ---- constants
-
-pub at_place : (cs : List (List ℕ)) (name : List ℕ) (n : ℕ) → place_from 0 cs name ≡ Some n → IsAt cs n name
-at_place cs name n h =
-    let p = placed 0 cs name n h in
-    let e : p.k ≡ n = omega (arith, p.is) in
-    (subst (λ k. k < length cs) e p.within, subst (λ k. get_or cs k [] ≡ name) e p.name_is)
 
 pub among_at : (cs : List (List ℕ)) (k : ℕ) (t : List ℕ) → k < length cs → get_or cs k [] ≡ t → In cs t
 among_at cs k t within is = subst (In cs) is (in_get cs k [] within)
@@ -95,15 +91,15 @@ pub domain_set : (cs : List (List ℕ)) (elems : List (Spanned ElemKind)) (names
     → (has (listed (domain cs) elems) n ≡ true) ↔ ((n < length cs) × In (texts_of names) (get_or cs n []))
 domain_set cs elems names differ read stand n = (
   (λ h. (
-      let r = listed_numbers (domain cs) plain_elem (λ (name : Name). place_from 0 cs name.text) (plain_alike cs) elems names n read h in
-      let p = at_place cs (r.0).text n r.1.1 in
+      let r = listed_numbers (domain cs) plain_elem (λ (name : Name). place_of cs name.text) (plain_alike cs) elems names n read h in
+      let p = place_of-Some cs (r.0).text n r.1.1 in
       (p.0, subst (In (texts_of names)) (sym p.1) (map_in (λ (name : Name). name.text) names r.0 r.1.0)))),
   (λ h. (
       let r = in_map (λ (name : Name). name.text) names (get_or cs n []) h.1 in
       let s = stand r.0 r.1.0 in
-      let p = at_place cs (r.0).text s.0 s.1 in
+      let p = place_of-Some cs (r.0).text s.0 s.1 in
       let same : s.0 ≡ n = one_place cs s.0 n differ p.0 h.0 (p.1 ∙ r.1.1) in
-      numbers_listed (domain cs) plain_elem (λ (name : Name). place_from 0 cs name.text) (plain_alike cs) elems names n read (r.0, (r.1.0, s.1 ∙ ap (λ z. Some z) same)))),
+      numbers_listed (domain cs) plain_elem (λ (name : Name). place_of cs name.text) (plain_alike cs) elems names n read (r.0, (r.1.0, s.1 ∙ ap (λ z. Some z) same)))),
 )
 
 pub bracket_set : (ss : Shapes) (elems : List (Spanned ElemKind)) (lists : List (List Name)) → IsTuple ss → all_of (bracketed_elem (length (sizes ss))) elems ≡ Some lists → ((names : List Name) → In lists names → AllStand ss names) → (n : ℕ)

@@ -1,10 +1,9 @@
 -- The places of constants, and the numbers of tuples.
 use Rattle.std.proofs.Common.{◌≡◌, ℕ, ◌<◌, ◌≤◌, ◌+◌, zero, suc, List, [], ◌∷◌, ◌++◌, length, get_or, drop, Option, None, Some, refl, ap, ap₂, sym, ◌∙◌, arith, subst, append_assoc}
-use Rattle.std.specs.Prelude.{Bool, true, false, if◌then◌else◌, bytes_eq, Result, Ok, Err, IfOk}
+use Rattle.std.specs.Prelude.{Result, Ok, Err, IfOk}
 use Rattle.std.specs.declared.alloc.AllocError.{AllocError}
 use Rattle.std.specs.List.Sorted.{IsStrictlyIncreasing}
 use Rattle.std.proofs.lemmas.List.{append-nil, drop_all}
-use Rattle.std.proofs.lemmas.Slice.Eq.{bytes_eq-Decides}
 use Rattle.xdg_ast.specs.declared.names.Name.{Name}
 use Rattle.xdg_domain.specs.declared.types.Ty.{Ty}
 use Rattle.xdg_domain.specs.Shapes.{Shape, tuple, Shapes, no_shape, shape_then, shape, constants, constants_of, sizes, sizes_in, IsTupleType}
@@ -12,28 +11,13 @@ use Rattle.xdg_domain.specs.Sized.{sizes_of}
 use Rattle.xdg_domain.specs.Tuples.{InRange}
 use Rattle.xdg_domain.specs.Values.{AllBelow}
 use Rattle.xdg_domain.proofs.Sizing.{domains_small}
-use Rattle.xdg_terms.specs.Built.{Elem, place_from, places_behind, constants_each, constants_in, listed, as_set}
+use Rattle.xdg_names.specs.Texts.{place_of}
+use Rattle.xdg_names.proofs.Texts.{place_of-Some}
+use Rattle.xdg_terms.specs.Built.{Elem, places_behind, constants_each, constants_in, listed, as_set}
 use Rattle.xdg_terms.specs.Means.{chosen}
 use Rattle.xdg_terms.proofs.SameMembers.{is_set}
 use Rattle.xdg_facts.specs.Rises.{has}
 use Rattle.xdg_ast.specs.Texts.{texts as texts_of}
-
--- ---- one constant
-
--- the name stands at that place, from `at` on
-pub record Placed (at : ℕ) (cs : List (List ℕ)) (name : List ℕ) (n : ℕ) : Type 0 where
-  pub k : ℕ
-  pub is : n ≡ at + k
-  pub within : k < length cs
-  pub name_is : get_or cs k [] ≡ name
-
-placed_by : (at : ℕ) (c : List ℕ) (cs : List (List ℕ)) (name : List ℕ) (n : ℕ) (b : Bool) → bytes_eq c name ≡ b → ((place_from (at + 1) cs name ≡ Some n) → Placed (at + 1) cs name n) → (if b then Some at else place_from (at + 1) cs name) ≡ Some n → Placed at (c ∷ cs) name n
-placed_by at c cs name n true e later h = record { k = 0; is = (let i : at ≡ n = cc in omega (arith, i)); within = omega arith; name_is = (bytes_eq-Decides c name).0 e }
-placed_by at c cs name n false e later h = let p = later h in record { k = suc p.k; is = omega (arith, p.is); within = omega (arith, p.within); name_is = p.name_is }
-
-pub placed : (at : ℕ) (cs : List (List ℕ)) (name : List ℕ) (n : ℕ) → place_from at cs name ≡ Some n → Placed at cs name n
-placed at [] name n h = absurd (cc)
-placed at (c ∷ cs) name n h = placed_by at c cs name n (bytes_eq c name) refl (placed (at + 1) cs name n) h
 
 -- ---- tuples
 
@@ -46,7 +30,7 @@ pub wrong_length : (found : List ℕ) (types : List Ty) (names : List Name) → 
 wrong_length found [] [] h = absurd (h refl)
 wrong_length found [] (n ∷ ns) h = refl
 wrong_length found (u ∷ us) [] h = refl
-wrong_length found (u ∷ us) (n ∷ ns) h = elim (place_from 0 (constants (shape u)) n.text) as (λ o. None ≡ (elim o [ None ↦ None | Some m ↦ places_behind (found ++ m ∷ []) (constants_each us) ns ])) [
+wrong_length found (u ∷ us) (n ∷ ns) h = elim (place_of (constants (shape u)) n.text) as (λ o. None ≡ (elim o [ None ↦ None | Some m ↦ places_behind (found ++ m ∷ []) (constants_each us) ns ])) [
   | None ↦ refl
   | Some m ↦ wrong_length (found ++ m ∷ []) us ns (λ e. h (ap suc e))
 ]
@@ -61,25 +45,24 @@ pub record Chosen (found : List ℕ) (ss : Shapes) (names : List Name) (ns : Lis
 abbrev next_place : Option ℕ → List ℕ → Shapes → List Name → Option (List ℕ)
 next_place o found ss names = elim o [ None ↦ None | Some m ↦ places_behind (found ++ m ∷ []) (constants_of ss) names ]
 
-chosen_by : (found : List ℕ) (s : Shape) (ss : Shapes) (name : Name) (names : List Name) (ns : List ℕ) (o : Option ℕ) → place_from 0 (constants s) name.text ≡ o → ((m : ℕ) → places_behind (found ++ m ∷ []) (constants_of ss) names ≡ Some ns → Chosen (found ++ m ∷ []) ss names ns)
+chosen_by : (found : List ℕ) (s : Shape) (ss : Shapes) (name : Name) (names : List Name) (ns : List ℕ) (o : Option ℕ) → place_of (constants s) name.text ≡ o → ((m : ℕ) → places_behind (found ++ m ∷ []) (constants_of ss) names ≡ Some ns → Chosen (found ++ m ∷ []) ss names ns)
     → next_place o found ss names ≡ Some ns → Chosen found (shape_then s ss) (name ∷ names) ns
 chosen_by found s ss name names ns None e later h = absurd (cc)
 chosen_by found s ss name names ns (Some m) e later h =
     let l = later m h in
-    let p = placed 0 (constants s) name.text m e in
-    let here : m ≡ p.k = omega (arith, p.is) in
+    let p = place_of-Some (constants s) name.text m e in
     record {
       rest = m ∷ l.rest;
       parts = l.parts ∙ append_assoc found (m ∷ []) l.rest;
-      range = (subst (λ z. z < length (constants s)) (sym here) p.within, l.range);
-      texts = ap₂ (λ (x : List ℕ) (xs : List (List ℕ)). x ∷ xs) (ap (λ z. get_or (constants s) z []) here ∙ p.name_is) l.texts;
+      range = (p.0, l.range);
+      texts = ap₂ (λ (x : List ℕ) (xs : List (List ℕ)). x ∷ xs) p.1 l.texts;
     }
 
 pub are_chosen : (found : List ℕ) (ss : Shapes) (names : List Name) (ns : List ℕ) → places_behind found (constants_of ss) names ≡ Some ns → Chosen found ss names ns
 are_chosen found no_shape [] ns h = let e : found ≡ ns = cc in record { rest = []; parts = sym e ∙ sym (append-nil found); range = tt; texts = refl }
 are_chosen found no_shape (n ∷ names) ns h = absurd (cc)
 are_chosen found (shape_then s ss) [] ns h = absurd (cc)
-are_chosen found (shape_then s ss) (n ∷ names) ns h = chosen_by found s ss n names ns (place_from 0 (constants s) n.text) refl (λ m. are_chosen (found ++ m ∷ []) ss names ns) h
+are_chosen found (shape_then s ss) (n ∷ names) ns h = chosen_by found s ss n names ns (place_of (constants s) n.text) refl (λ m. are_chosen (found ++ m ∷ []) ss names ns) h
 
 pub in_range : (s : Shape) (css : List (List (List ℕ))) (names : List Name) (ns : List ℕ) → IsTupleType s → css ≡ constants_in s → places_behind [] css names ≡ Some ns → InRange (sizes_in s) ns
 in_range (tuple ss) css names ns h is e =

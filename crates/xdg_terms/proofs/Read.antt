@@ -9,7 +9,8 @@ use Rattle.xdg_ast.specs.declared.terms.ElemKind.TheOpen.{TermKind-F, ElemKind-F
 use Rattle.xdg_domain.specs.Shapes.{Shape, domain, tuple, Shapes}
 use Rattle.xdg_terms.specs.Forms.{Term, Card, then_also, all_of, braces_in, bracket_in, bracket_of, plain_in, plain_elem, bracketed_in, bracketed_elem, counted_in, keyed_in}
 use Rattle.xdg_terms.specs.Means.{written_for}
-use Rattle.xdg_terms.specs.Built.{Elem, place_from, tuple_number, names_in, names_of, elems_in, if_named, first_for, some_before, number_in_elem, number_of_elem, listed}
+use Rattle.xdg_names.specs.Texts.{place_of}
+use Rattle.xdg_terms.specs.Built.{Elem, tuple_number, names_in, names_of, elems_in, if_named, first_for, some_before, number_in_elem, number_of_elem, listed}
 use Rattle.xdg_facts.proofs.Texts.{same_text}
 use Rattle.xdg_facts.specs.Membership.{In}
 use Rattle.xdg_facts.specs.Rises.{has}
@@ -131,7 +132,7 @@ module _ {A : Type 0} (s : Shape) (form : Elem → Option A) (number : A → Opt
         | inr r ↦ inr (numbers_listed elems p.rest n p.others (k.0, (r, k.1.1)))
       ])
 
-pub plain_alike : (cs : List (List ℕ)) (elem : Elem) (name : Name) → plain_elem elem ≡ Some name → number_of_elem (domain cs) elem ≡ place_from 0 cs name.text
+pub plain_alike : (cs : List (List ℕ)) (elem : Elem) (name : Name) → plain_elem elem ≡ Some name → number_of_elem (domain cs) elem ≡ place_of cs name.text
 unfolding plain_elem number_of_elem
 plain_alike cs elem name h = ap (number_in_elem (domain cs)) (plain_is (out-ElemKind elem.kind) name h)
 

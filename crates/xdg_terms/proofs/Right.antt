@@ -1,6 +1,6 @@
 -- What a term without an offence has: its form, its constants, its cardinalities.
-use Rattle.std.proofs.Common.{◌≡◌, inl, inr, ℕ, ◌<◌, ◌+◌, List, [], ◌∷◌, Option, Some, None, refl, sym, ap, ◌∙◌, subst, arith}
-use Rattle.std.specs.Prelude.{Bool, true, false, nat_le, ◌==◌, if◌then◌else◌, bytes_eq}
+use Rattle.std.proofs.Common.{◌≡◌, inl, inr, ℕ, ◌<◌, List, [], ◌∷◌, Option, Some, None, refl, sym, ap, ◌∙◌, subst, arith}
+use Rattle.std.specs.Prelude.{Bool, true, false, nat_le, ◌==◌}
 use Rattle.std.specs.List.{list_any}
 use Rattle.std.proofs.lemmas.Bool.{true≢false, false≢true, or_left, eq-eqb, cases_lt, le-leb}
 use Rattle.xdg_base.specs.Faults.{fault_at}
@@ -15,9 +15,10 @@ use Rattle.xdg_terms.specs.Forms.{Term, Card}
 use Rattle.xdg_terms.specs.Offences.{has_form, is_some, asked, CardOffends, OffendsHere}
 use Rattle.xdg_terms.specs.Offences as o
 use Rattle.xdg_terms.specs.Means.{allows, AllowedBy}
-use Rattle.xdg_terms.specs.Built.{place_from, card_numbers, some_or_all}
+use Rattle.xdg_names.specs.Texts.{place_of}
+use Rattle.xdg_names.proofs.Texts.{place_of-None, not_among}
+use Rattle.xdg_terms.specs.Built.{card_numbers, some_or_all}
 use Rattle.xdg_facts.proofs.Truths.{and_2}
-use Rattle.xdg_facts.proofs.Texts.{is_same}
 use Rattle.xdg_facts.specs.Membership.{In}
 use Rattle.xdg_facts.specs.Rises.{has}
 use Rattle.xdg_facts.proofs.Rising.{numbers_whole, has_tested, has_of, rises_of}
@@ -47,25 +48,17 @@ told (Some x) h = (x, refl)
 
 -- ---- constants
 
-none_placed : (at : ℕ) (c : List ℕ) (cs : List (List ℕ)) (name : List ℕ) (b : Bool) → bytes_eq c name ≡ b → ((place_from (at + 1) cs name ≡ None) → In cs name → ⊥) → (if b then Some at else place_from (at + 1) cs name) ≡ None → In (c ∷ cs) name → ⊥
-none_placed at c cs name true is later e h = cc
-none_placed at c cs name false is later e h = elim h [ inl same ↦ true≢false (sym (is_same c name same) ∙ is) | inr rest ↦ later e rest ]
-
-unplaced : (at : ℕ) (cs : List (List ℕ)) (name : List ℕ) → place_from at cs name ≡ None → In cs name → ⊥
-unplaced at [] name e h = h
-unplaced at (c ∷ cs) name e h = none_placed at c cs name (bytes_eq c name) refl (unplaced (at + 1) cs name) e h
-
 -- a constant that is asked for stands where it has to
 abbrev pub Stands : List (List ℕ) → Name → Type 0
-Stands texts name = (n : ℕ) × (place_from 0 texts name.text ≡ Some n)
+Stands texts name = (n : ℕ) × (place_of texts name.text ≡ Some n)
 
-stands_by : (s : Shape) (t : Term) (texts : List (List ℕ)) (name : Name) → RightHere s t → In (asked s t) (texts, name) → (found : Option ℕ) → place_from 0 texts name.text ≡ found → Stands texts name
+stands_by : (s : Shape) (t : Term) (texts : List (List ℕ)) (name : Name) → RightHere s t → In (asked s t) (texts, name) → (found : Option ℕ) → place_of texts name.text ≡ found → Stands texts name
 stands_by s t texts name h among (Some n) e = (n, e)
 stands_by s t texts name h among None e =
-    absurd (h (fault_at causes.NotMember name.span.start) (inr (inl (record { texts = texts; name = name; stands = among; missing = unplaced 0 texts name.text e; fault = refl }))))
+    absurd (h (fault_at causes.NotMember name.span.start) (inr (inl (record { texts = texts; name = name; stands = among; missing = not_among texts name.text (place_of-None texts name.text e); fault = refl }))))
 
 pub stands : (s : Shape) (t : Term) (texts : List (List ℕ)) (name : Name) → RightHere s t → In (asked s t) (texts, name) → Stands texts name
-stands s t texts name h among = stands_by s t texts name h among (place_from 0 texts name.text) refl
+stands s t texts name h among = stands_by s t texts name h among (place_of texts name.text) refl
 
 -- ---- cardinalities
 

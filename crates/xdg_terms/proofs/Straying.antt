@@ -19,11 +19,12 @@ use Rattle.xdg_ast.specs.declared.terms.ElemKind.TheOpen.{TermKind-F, ElemKind-F
 use Rattle.xdg_ast.specs.declared.terms.ElemKind.TheFolds.{fold-roll-ElemKind, fold-roll-TermKind}
 use Rattle.xdg_names.specs.First.{Tells, first, earlier}
 use Rattle.xdg_names.specs.Texts.{has_text}
-use Rattle.xdg_names.proofs.Listing.{Lists, lists_as, lists_each, lists_unknown, lists_tell}
+use Rattle.xdg_names.proofs.Listing.{lists_unknown, lists_tell}
 use Rattle.xdg_names.proofs.First.{first_turn, earlier-none}
 use Rattle.xdg_terms.specs.Forms.{Term}
 use Rattle.xdg_terms.specs.Stray.{term_step, elem_step, tokens, elem_tokens, IsStrayParam, stray, all_stray}
 use Rattle.xdg_facts.specs.Membership.{In}
+use Rattle.xdg_facts.proofs.Parts.{Lists, lists_as, lists_each}
 
 -- ---- the law
 

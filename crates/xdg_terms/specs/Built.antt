@@ -1,5 +1,5 @@
 -- The value of a term, as a function of it. Of a term with an offence it is some value.
-use Rattle.std.specs.Prelude.{ℕ, ◌+◌, true, List, [], ◌∷◌, ◌++◌, map, Option, Some, None, if◌then◌else◌, bytes_eq, codes}
+use Rattle.std.specs.Prelude.{ℕ, true, List, [], ◌∷◌, ◌++◌, map, Option, Some, None, if◌then◌else◌, unwrap_or, bytes_eq, codes}
 use Rattle.xdg_ast.specs.declared.names.Name.{Name}
 use Rattle.xdg_ast.specs.declared.names.Spanned.{Spanned}
 use Rattle.xdg_ast.specs.declared.terms.CardKind.{CardKind}
@@ -18,24 +18,16 @@ use Rattle.xdg_domain.specs.declared.values.Value.TheVariants as v
 use Rattle.xdg_terms.specs.Forms.{Term, Card, Gen, Bindings, bound, constant_of, number_of, card_of, counted_elem, keyed_elem}
 use Rattle.xdg_terms.specs.Means.{allows, chosen, fulfils}
 use Rattle.xdg_facts.specs.Rises.{has, numbers_below}
+use Rattle.xdg_names.specs.Texts.{place_of}
 
 abbrev pub Elem : Type 0
 Elem = Spanned ElemKind
 
 -- ---- constants
 
--- the place of the first text that is the name, where the first of the list has the place `at`
-abbrev pub place_from : ℕ → List (List ℕ) → List ℕ → Option ℕ
-place_from at [] name = None
-place_from at (c ∷ cs) name = if bytes_eq c name then Some at else place_from (at + 1) cs name
-
-abbrev pub or_zero : Option ℕ → ℕ
-or_zero None = 0
-or_zero (Some n) = n
-
 abbrev pub number_named : List (List ℕ) → Option Name → ℕ
 number_named cs None = 0
-number_named cs (Some name) = or_zero (place_from 0 cs name.text)
+number_named cs (Some name) = unwrap_or (place_of cs name.text) 0
 
 abbrev pub text_named : Option Name → List ℕ
 text_named None = []
@@ -50,7 +42,7 @@ constants_each types = d.constants_of (d.shapes_of (map d.shape types))
 -- the places of the names, each in the domain of its place, behind those that were found before
 abbrev pub places_behind : List ℕ → List (List (List ℕ)) → List Name → Option (List ℕ)
 places_behind found [] [] = Some found
-places_behind found (cs ∷ css) (name ∷ names) = elim (place_from 0 cs name.text) [ None ↦ None | Some n ↦ places_behind (found ++ n ∷ []) css names ]
+places_behind found (cs ∷ css) (name ∷ names) = elim (place_of cs name.text) [ None ↦ None | Some n ↦ places_behind (found ++ n ∷ []) css names ]
 places_behind found _ _ = None
 
 abbrev pub number_of_places : Shapes → Option (List ℕ) → Option ℕ
@@ -91,7 +83,7 @@ first_for form (elem ∷ elems) name = if_named (form elem) name (first_for form
 -- ---- sets
 
 abbrev pub number_in_elem : Shape → ElemKind-F ElemKind TermKind → Option ℕ
-number_in_elem (domain cs) (ElemKind-F.ElemKind::Const name) = place_from 0 cs name.text
+number_in_elem (domain cs) (ElemKind-F.ElemKind::Const name) = place_of cs name.text
 number_in_elem (tuple ss) (ElemKind-F.ElemKind::Tuple names) = tuple_number (tuple ss) names
 number_in_elem s elem = None
 
@@ -167,9 +159,9 @@ said_from make find key (c ∷ cs) = put make key (find c) (said_from make find 
 abbrev mutual
   pub built_in : Bindings → Shape → Term → Value
   built_in bs (domain cs) t = v.Const (number_named cs (constant_of t))
-  built_in bs (tuple ss) t = v.Tuple (or_zero (tuple_number (tuple ss) (names_of t)))
+  built_in bs (tuple ss) t = v.Tuple (unwrap_or (tuple_number (tuple ss) (names_of t)) 0)
   built_in bs truth t = v.Bool (bytes_eq (text_named (constant_of t)) (codes "true"))
-  built_in bs integer t = v.Int (or_zero (number_of t))
+  built_in bs integer t = v.Int (unwrap_or (number_of t) 0)
   built_in bs text t = v.Str (text_named (constant_of t))
   built_in bs (set s) t = v.Set (set_of s t)
   built_in bs (iset s) t = v.Set (set_of s t)

@@ -146,7 +146,9 @@ pub record IsOutOfRange (s : Shape) (t : Term) (f : Fault) : Type 0 where
 
 -- what is wrong with the term itself: that, or a key stands there that an earlier one has too, or no field has the name
 abbrev pub OffendsHere : Shape → Term → Fault → Type 0
-OffendsHere s t f = IsWrongKind s t f ⊎ (IsNotMember s t f ⊎ (IsAgain (keys s t) f ⊎ (IsUnknown causes.UnknownName (known_fields s) (field_keys s t) f ⊎ IsOutOfRange s t f)))
+OffendsHere s t f =
+    IsWrongKind s t f
+    ⊎ (IsNotMember s t f ⊎ (IsAgain (keys s t) f ⊎ (IsUnknown causes.UnknownName (known_fields s) (field_keys s t) f ⊎ IsOutOfRange s t f)))
 
 -- ---- all offences
 

@@ -3,6 +3,7 @@
 ghost use Rattle.std.specs.Prelude.{◌≡◌, ◌≤◌, length};
 ghost use Rattle.std.specs.Option.{option_copied};
 ghost use Rattle.xdg_domain.specs.Shapes.{shape, sizes_in};
+ghost use Rattle.xdg_names.specs.Texts.{place_of};
 ghost use Rattle.xdg_domain.specs.Sized.{sizes_of};
 ghost use Rattle.xdg_terms.specs.Forms.{constant_of, card_of, counted_elem, keyed_elem};
 ghost use Rattle.xdg_terms.specs.Built as spec;
@@ -10,6 +11,7 @@ ghost use Rattle.xdg_terms.specs.Built as spec;
 use xdg_ast::{CardTerm, Elem, ElemKind, Name, Term, TermKind};
 use xdg_base::Text;
 use xdg_domain::Ty;
+use xdg_names::place_of;
 
 /// The fields of a tuple type.
 pub(crate) fn fields(ty: &Ty) -> &[Ty]
@@ -22,17 +24,15 @@ pub(crate) fn fields(ty: &Ty) -> &[Ty]
     }
 }
 
-/// The place of a text among others, from 0.
-pub(crate) fn place_of(constants: &[Text], name: &str) -> Option<u8>
+/// The place of a constant among those of its domain, from 0.
+pub(crate) fn constant_place(constants: &[Text], name: &str) -> Option<u8>
     requires few { length constants.now ≤ 64 }
-    ensures { result ≡ spec.place_from 0 constants.now name.now }
+    ensures { result ≡ place_of constants.now name.now }
 {
-    for (i, constant) in constants.iter().enumerate() {
-        if constant.as_str() == name {
-            return Some(i as u8);
-        }
+    match place_of(constants, name) {
+        None => None,
+        Some(place) => Some(place as u8),
     }
-    None
 }
 
 /// The constant that a term is, if it is one.

@@ -1,12 +1,12 @@
 //! What terms mean that hold no other terms.
 
-ghost use Rattle.std.specs.Prelude.{◌≡◌, ◌≤◌, length, IfOk, bytes_eq, codes};
+ghost use Rattle.std.specs.Prelude.{◌≡◌, ◌≤◌, length, IfOk, bytes_eq, codes, unwrap_or};
 ghost use Rattle.xdg_domain.specs.Shapes.{shape, IsTupleType};
 ghost use Rattle.xdg_terms.specs.Forms.{constant_of, number_of, card_of, counted_elem};
 ghost use Rattle.xdg_terms.specs.Built as spec;
 
 use crate::cardinalities::cards;
-use crate::parts::{card_for, constant, names, place_of};
+use crate::parts::{card_for, constant, constant_place, names};
 use crate::tuples::tuple_number;
 use std::alloc::Global;
 use xdg_ast::{Elem, Term, TermKind};
@@ -20,7 +20,7 @@ pub(crate) fn member(constants: &[Text], term: &Term) -> u8
 {
     match constant(term) {
         None => 0,
-        Some(name) => match place_of(constants, name.text.as_str()) {
+        Some(name) => match constant_place(constants, name.text.as_str()) {
             None => 0,
             Some(place) => place,
         },
@@ -30,7 +30,7 @@ pub(crate) fn member(constants: &[Text], term: &Term) -> u8
 /// The number of the tuple, or 0.
 pub(crate) fn tuple(alloc: Global, ty: &Ty, term: &Term) -> Result<u16, OutOfMemory>
     requires { IsTupleType (shape ty.now) }
-    ensures { IfOk result (λ number. number ≡ spec.or_zero (spec.tuple_number (shape ty.now) (spec.names_of term.now))) }
+    ensures { IfOk result (λ number. number ≡ unwrap_or (spec.tuple_number (shape ty.now) (spec.names_of term.now)) 0) }
 {
     match tuple_number(alloc, ty, names(term))? {
         None => Ok(0),
@@ -51,7 +51,7 @@ pub(crate) fn truth(term: &Term) -> bool
 /// The number, or 0.
 #[tactic(auto, unfolding(crate::specs::Forms::number_of))]
 pub(crate) fn number(term: &Term) -> u32
-    ensures { result ≡ spec.or_zero (number_of term.now) }
+    ensures { result ≡ unwrap_or (number_of term.now) 0 }
 {
     match &term.kind {
         TermKind::Number(number) => *number,

@@ -5,7 +5,7 @@ ghost use Rattle.xdg_domain.specs.Shapes.{shape, IsSmall};
 ghost use Rattle.xdg_terms.specs.Built as spec;
 
 use crate::generators::generated;
-use crate::parts::place_of;
+use crate::parts::constant_place;
 use crate::tuples::tuple_number;
 use std::alloc::Global;
 use xdg_ast::{Elem, ElemKind, Term, TermKind};
@@ -51,7 +51,7 @@ fn number_of(alloc: Global, ty: &Ty, elem: &Elem) -> Result<Option<u16>, OutOfMe
 {
     match (ty, &elem.kind) {
         (Ty::Domain(constants), ElemKind::Const(name)) => {
-            match place_of(constants.as_slice(), name.text.as_str()) {
+            match constant_place(constants.as_slice(), name.text.as_str()) {
                 None => Ok(None),
                 Some(place) => Ok(Some(u16::from(place))),
             }

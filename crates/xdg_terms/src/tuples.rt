@@ -6,7 +6,7 @@ ghost use Rattle.xdg_domain.specs.Sized.{sizes_of};
 ghost use Rattle.xdg_domain.specs.Values.{AllBelow};
 ghost use Rattle.xdg_terms.specs.Built as spec;
 
-use crate::parts::{fields, place_of};
+use crate::parts::{constant_place, fields};
 use std::alloc::Global;
 use xdg_ast::Name;
 use xdg_base::{List, OutOfMemory};
@@ -37,7 +37,7 @@ fn places(alloc: Global, fields: &[Ty], names: &[Name]) -> Result<Option<List<u8
     }
     let mut found = List::new(alloc);
     for (i, field) in fields.iter().enumerate() {
-        match place_of(field.constants(), names[i].text.as_str()) {
+        match constant_place(field.constants(), names[i].text.as_str()) {
             None => return Ok(None),
             Some(place) => found.push(place)?,
         }

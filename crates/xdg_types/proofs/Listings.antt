@@ -3,7 +3,7 @@ use Rattle.std.proofs.Common.{◌≡◌, ◌⊎◌, inl, inr, List, [], ◌∷�
 use Rattle.std.specs.List.{flat_map}
 use Rattle.std.proofs.lemmas.Grind.{flat_map-append}
 use Rattle.xdg_base.specs.declared.faults.Fault.{Fault}
-use Rattle.xdg_names.proofs.Listing.{Lists}
+use Rattle.xdg_facts.proofs.Parts.{Lists}
 use Rattle.xdg_facts.proofs.In.{in_append, in_left, in_right, in_flat_map, flat_map_in}
 
 -- in each item a list of the one kind and then one of the other

@@ -10,13 +10,14 @@ use Rattle.xdg_names.specs.First.{Tells, first}
 use Rattle.xdg_types.specs.Answers.{None_of}
 use Rattle.xdg_ast.specs.Misnamed.{IsAgain, IsTwice}
 use Rattle.xdg_types.specs.NameFaults.{repeated, repeats, different}
-use Rattle.xdg_names.proofs.Listing.{Lists, lists_as, lists_known, lists_behind, lists_tell}
+use Rattle.xdg_names.proofs.Listing.{lists_known, lists_tell}
 use Rattle.xdg_types.proofs.Again.{with_all-append}
 use Rattle.xdg_types.proofs.Distinct.{same_known}
 use Rattle.xdg_types.proofs.Elements.{differ_unless}
 use Rattle.xdg_facts.specs.Membership.{In, Differ}
 use Rattle.xdg_facts.proofs.In.{in_append, in_left, in_right, in_flat_map, flat_map_in}
 use Rattle.xdg_ast.specs.Texts.{texts}
+use Rattle.xdg_facts.proofs.Parts.{Lists, lists_as, lists_behind}
 
 again_here : (before : List Name) (name : Name) → Lists (repeated (different before) name) (λ f. In (texts before) name.text × (fault_at causes.Twice name.span.start ≡ f))
 again_here before name = rw (same_known before name.text) (lists_known (texts before) name.text (fault_at causes.Twice name.span.start))

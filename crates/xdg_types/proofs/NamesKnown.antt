@@ -9,11 +9,12 @@ use Rattle.xdg_names.specs.Texts.{has_text}
 use Rattle.xdg_types.specs.Answers.{None_of}
 use Rattle.xdg_ast.specs.Misnamed.{IsUnknown}
 use Rattle.xdg_types.specs.NameFaults.{unknown_as, unknown, different}
-use Rattle.xdg_names.proofs.Listing.{Lists, lists_as, lists_each, lists_unknown}
+use Rattle.xdg_names.proofs.Listing.{lists_unknown}
 use Rattle.xdg_types.proofs.Distinct.{same_known}
 use Rattle.xdg_types.proofs.Elements.{among_or_not}
 use Rattle.xdg_ast.specs.Texts.{texts}
 use Rattle.xdg_facts.specs.Membership.{In}
+use Rattle.xdg_facts.proofs.Parts.{Lists, lists_as, lists_each}
 
 -- those that are looked for among texts in which the same are found
 pub all_unknown : (cause : Cause) (seen known : List (List ℕ)) → ((t : List ℕ) → has_text seen t ≡ has_text known t) → (names : List Name) → Lists (flat_map (unknown_as cause seen) names) (IsUnknown cause known names)

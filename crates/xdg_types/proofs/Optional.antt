@@ -1,7 +1,7 @@
 -- Lists of what may be there, and lists under a test.
 use Rattle.std.proofs.Common.{◌≡◌, ◌⊎◌, inl, inr, Bool, true, false, List, [], ◌∷◌, Option, None, Some, refl, sym, subst}
 use Rattle.std.specs.Prelude.{if◌then◌else◌}
-use Rattle.xdg_names.proofs.Listing.{Lists}
+use Rattle.xdg_facts.proofs.Parts.{Lists}
 use Rattle.xdg_facts.proofs.Options.{some_same, none_some}
 
 pub lists_one : {A : Type 0} (y : A) → Lists (y ∷ []) (λ x. y ≡ x)

@@ -10,7 +10,7 @@ use Rattle.xdg_types.specs.Written.{Tree, listed, tupled, Trees}
 use Rattle.xdg_types.specs.Meaning.{meaning, domains_meaning, as_domain}
 use Rattle.xdg_types.specs.Kinds.{Wanted, the_labels, Site, is_of_kind, has_no_field, reaching, IsWrongKind, IsTooBig, HasManyLabels, HasManyTuples, SharesConstant, HasWrongAttributes, SiteOffends}
 use Rattle.xdg_typing.specs.KindFaults.{kind_faults, big_faults, label_faults, wide_faults, attributes_faults, shared_faults, site_faults}
-use Rattle.xdg_names.proofs.Listing.{Lists, lists_as, lists_both, lists_unless}
+use Rattle.xdg_facts.proofs.Parts.{Lists, lists_as, lists_both, lists_unless}
 use Rattle.xdg_typing.proofs.RecordRows.{above_limit, all_attributes}
 use Rattle.xdg_typing.proofs.SharedRows.{shares_sound, shares_complete}
 use Rattle.xdg_facts.specs.Membership.{In}

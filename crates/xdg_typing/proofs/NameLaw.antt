@@ -11,12 +11,13 @@ use Rattle.xdg_ast.specs.Misnamed.{IsUnknown, IsTwice}
 use Rattle.xdg_types.specs.Parts.{TypeTerm, Statement, Dimension, dimensions, dim_names, used_names, defined_names, in_parts, type_in, types}
 use Rattle.xdg_types.specs.Names.{NameOffends, IsPartTwice, type_names}
 use Rattle.xdg_types.specs.NameFaults.{unknown, repeats, different}
-use Rattle.xdg_names.proofs.Listing.{Lists, lists_tell, lists_both}
+use Rattle.xdg_names.proofs.Listing.{lists_tell}
 use Rattle.xdg_types.proofs.Listings.{joined_each, nested, regrouped, swapped}
 use Rattle.xdg_types.proofs.NamesAgain.{all_twice, all_of_one, more_lists}
 use Rattle.xdg_types.proofs.NamesKnown.{unknown_names}
 use Rattle.xdg_typing.specs.Listed.{in_type, none_stood, parts_again, in_dimension, name_faults}
 use Rattle.xdg_typing.proofs.PartsAgain.{all_parts}
+use Rattle.xdg_facts.proofs.Parts.{Lists, lists_both}
 
 module _ (statements : List Statement) where
   -- the names that are defined, as the code has found them

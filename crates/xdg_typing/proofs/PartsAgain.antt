@@ -8,7 +8,7 @@ use Rattle.xdg_base.specs.declared.faults.Fault.{Fault}
 use Rattle.xdg_typing.specs.declared.singles.Stood.{Stood}
 use Rattle.xdg_types.specs.Parts.{DimPart, Statement, Dimension, dimensions}
 use Rattle.xdg_types.specs.Names.{Single, the_labels, the_attributes, the_features, single, IsPartTwice}
-use Rattle.xdg_names.proofs.Listing.{Lists}
+use Rattle.xdg_facts.proofs.Parts.{Lists}
 use Rattle.xdg_typing.specs.Listed.{has_stood, with_part, none_stood, part_again, parts_again}
 use Rattle.xdg_facts.specs.Membership.{In}
 use Rattle.xdg_facts.proofs.In.{in_append, in_left, in_right, in_when, when_in, in_flat_map, flat_map_in}

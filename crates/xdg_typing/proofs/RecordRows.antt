@@ -7,7 +7,7 @@ use Rattle.xdg_base.specs.declared.faults.Cause.TheVariants as causes
 use Rattle.xdg_base.specs.declared.faults.Fault.{Fault}
 use Rattle.xdg_ast.specs.declared.names.Name.{Name}
 use Rattle.xdg_domain.specs.Shapes.{Shape, fields, Fields, no_field, field_then}
-use Rattle.xdg_names.proofs.Listing.{Lists, lists_none, lists_as, lists_both, lists_when}
+use Rattle.xdg_facts.proofs.Parts.{Lists, lists_none, lists_as, lists_both, lists_when}
 use Rattle.xdg_types.specs.Written.{Tree, recorded, named, member_names}
 use Rattle.xdg_types.specs.Meaning.{as_domain}
 use Rattle.xdg_types.specs.Kinds.{Wanted, the_attributes, Site, is_attribute, reaching, field_count, HasOther, NamedOffends, AttributesOffend, HasWrongAttributes}

@@ -10,10 +10,11 @@ use Rattle.xdg_types.specs.Meaning.{meaning, domains_meaning, as_domain}
 use Rattle.xdg_types.specs.Kinds.{Site, Split, SharesAt, SharesConstant}
 use Rattle.xdg_typing.specs.KindFaults.{add_texts, has_one, field_faults, shared_in, shared_faults}
 use Rattle.xdg_typing.proofs.KindAmong.{Alike, alike_none, alike_more, has_one_in, in_has_one}
-use Rattle.xdg_names.proofs.Listing.{Lists, lists_none, lists_as, lists_each, lists_when, lists_known}
+use Rattle.xdg_names.proofs.Listing.{lists_known}
 use Rattle.xdg_facts.specs.Membership.{In}
 use Rattle.xdg_facts.proofs.In.{in_append, in_left, in_right}
 use Rattle.xdg_types.specs.NameFaults.{repeated}
+use Rattle.xdg_facts.proofs.Parts.{Lists, lists_none, lists_as, lists_each, lists_when}
 
 module _ (names : List ℕ → Shape) where
   all_field : (seen earlier : List (List ℕ)) → Alike seen earlier → (at : ℕ) (t : Tree) → Lists (field_faults names seen at t) (SharesAt names earlier at t)

@@ -6,8 +6,8 @@ use Rattle.std.proofs.lemmas.List.{get_or_default}
 use Rattle.std.specs.List.{sum_by}
 use Rattle.std.proofs.lemmas.List.Sums.{length-filter, sum_by-cons}
 use Rattle.std.proofs.lemmas.List.Elements.{All-weaker, All-contains_itself}
-use Rattle.xdg_problem.proofs.Ordered.{contains_head, contains_cases, contains_none, contains_filter}
-use Rattle.xdg_problem.proofs.FilterFacts.{filter_both, count_of_filter, filter_alike, filter_contained}
+use Rattle.xdg_facts.proofs.Contained.{contains_head, contains_cases, contains_none, contains_filter}
+use Rattle.xdg_facts.proofs.Filters.{filter_both, count_of_filter, filter_alike, filter_contained}
 use Rattle.xdg_facts.proofs.Lists.{contains_more}
 
 -- of the elements of a list, what passes the first test passes the second

@@ -3,7 +3,7 @@ use Rattle.std.proofs.Common.{◌≡◌, ◌≤◌, Bool, true, false, ◌&&◌,
 use Rattle.std.specs.Prelude.{filter, All, Contains, count_by}
 use Rattle.std.proofs.lemmas.List.Elements.{All-head, All-tail, All-contains_itself, All-filter, All-contains, filter_passes}
 use Rattle.std.proofs.lemmas.List.Sums.{length-filter}
-use Rattle.xdg_problem.proofs.Ordered.{contains_filter}
+use Rattle.xdg_facts.proofs.Contained.{contains_filter}
 
 module _ {X : Type 0} where
   filter_cond : (p : X → Bool) (b : Bool) (x : X) (ys zs : List X) → filter p ys ≡ zs → filter p (cond b (x ∷ ys) ys) ≡ cond (b && p x) (x ∷ zs) zs
