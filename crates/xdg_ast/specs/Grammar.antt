@@ -1,6 +1,5 @@
 -- The grammar of grammar texts, a line a rule. What stands in brackets is given, so that a rule says how one level looks.
-use Rattle.std.specs.Prelude.{ℕ, zero, suc, Bool, ◌&&◌, if◌then◌else◌, List, [], ◌∷◌, map, Option, bytes_eq}
-use Rattle.std.specs.List.{list_any}
+use Rattle.std.specs.Prelude.{ℕ, zero, suc, Bool, ◌&&◌, if◌then◌else◌, List, [], ◌∷◌, map, Option}
 use Rattle.xdg_base.specs.declared.places.Span.{Span}
 use Rattle.xdg_ast.specs.declared.token.Kind.TheVariants as k
 use Rattle.xdg_ast.specs.Lexemes.{Lexeme}
@@ -28,6 +27,7 @@ use Rattle.xdg_ast.specs.declared.grammar.StatementKind.{StatementKind}
 use Rattle.xdg_ast.specs.declared.grammar.StatementKind.TheVariants as s
 use Rattle.xdg_ast.specs.Language.{Language, Kinds, is, ◌or◌, Within, full, room, token, nothing, bind, both, either, many, nested, spanned, made, behind, pair}
 use Rattle.xdg_ast.specs.Language.{optional, chain}
+use Rattle.xdg_base.specs.Texts.{has_text}
 
 abbrev pub Term : Type 0
 Term = Spanned TermKind
@@ -58,9 +58,6 @@ Statement = Spanned StatementKind
 -- the names of the parameters of the class in whose body something stands
 abbrev pub Params : Type 0
 Params = List (List ℕ)
-
-abbrev pub is_among : Params → List ℕ → Bool
-is_among params text = list_any (λ param. bytes_eq param text) params
 
 abbrev pub is_constant : Kinds
 is_constant = is k.Name or is k.Quoted
@@ -179,7 +176,7 @@ gen w = spanned disjunction (gconjs w)
 
 -- a name that is a parameter of the class is that parameter; a quoted text is a constant
 abbrev pub named : Params → Lexeme → TermKind
-named params token = if is k.Name token.kind && is_among params (content_of token.kind token.text) then t.Param (name_of token) else t.Const (name_of token)
+named params token = if is k.Name token.kind && has_text params (content_of token.kind token.text) then t.Param (name_of token) else t.Const (name_of token)
 
 -- term = NUMBER | card | "{" { elem } "}" | "[" { const } "]" | "$" gen | const
 unfoldable pub term_kind : Params → Within Inside → Language TermKind

@@ -21,7 +21,8 @@ use Rattle.xdg_ast.specs.declared.terms.GenKind.TheFolds.{fold-GenKind}
 use Rattle.xdg_ast.specs.declared.expressions.ExprKind.{ExprKind}
 use Rattle.xdg_ast.specs.declared.expressions.ExprKind.TheOpen.{ExprKind-F}
 use Rattle.xdg_ast.specs.declared.expressions.ExprKind.TheFolds.{fold-ExprKind}
-use Rattle.xdg_ast.specs.Grammar.{Params, is_among}
+use Rattle.xdg_ast.specs.Grammar.{Params}
+use Rattle.xdg_base.specs.Texts.{has_text}
 use Rattle.xdg_ast.specs.Words.{Word, mark, number, quoted, constant}
 
 -- ---- names, numbers, brackets
@@ -107,7 +108,7 @@ gen_phrase = fold-GenKind Phrase gen_step
 
 -- in the body of a class a constant with the characters of a parameter is quoted
 abbrev pub constant_in : Params → List ℕ → Word
-constant_in params text = if is_among params text then quoted text else constant text
+constant_in params text = if has_text params text then quoted text else constant text
 
 abbrev pub term_step : Params → TermKind-F (List Word) (List Word) → List Word
 term_step params (TermKind-F.TermKind::Const name) = constant_in params name.text ∷ []

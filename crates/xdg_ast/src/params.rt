@@ -1,7 +1,8 @@
 //! The parameters of a class, among which the names in its body are looked up.
 
 ghost use Rattle.std.specs.Prelude.{◌≡◌, [], IfOk};
-ghost use Rattle.xdg_ast.specs.Grammar.{is_among, params_of};
+ghost use Rattle.xdg_ast.specs.Grammar.{params_of};
+ghost use Rattle.xdg_base.specs.Texts.{has_text};
 
 use crate::grammar::ClassParam;
 use std::alloc::Global;
@@ -21,7 +22,7 @@ impl Model for Params {
     ghost use Rattle.std.specs.Prelude.{◌≡◌, List, ℕ};
     ghost use Rattle.std.specs.BTreeSet.{contains_text};
     ghost use Rattle.std.specs.Coded.{coded_list, coded_ℕ};
-    ghost use Rattle.xdg_ast.specs.Grammar.{is_among};
+    ghost use Rattle.xdg_base.specs.Texts.{has_text};
 
     ghost Value = { List (List ℕ) };
 
@@ -29,7 +30,7 @@ impl Model for Params {
 
     ghost view = { λ params. params.names };
 
-    ghost invariant = { λ params. (text : List ℕ) → contains_text params.sorted text ≡ is_among params.names text };
+    ghost invariant = { λ params. (text : List ℕ) → contains_text params.sorted text ≡ has_text params.names text };
 }
 
 impl Params {
@@ -59,7 +60,7 @@ impl Params {
 
     /// Whether a parameter has this name. The time is logarithmic in the number of parameters.
     pub fn contains(&self, text: &str) -> bool
-        ensures { result ≡ is_among self.now text.now }
+        ensures { result ≡ has_text self.now text.now }
     {
         self.sorted.contains(text)
     }

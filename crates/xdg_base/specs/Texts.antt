@@ -1,7 +1,7 @@
 -- Texts among texts.
-use Rattle.std.specs.Prelude.{ℕ, Bool, false, ◌||◌, List, [], ◌∷◌, bytes_eq}
+use Rattle.std.specs.Prelude.{ℕ, Bool, List, bytes_eq}
+use Rattle.std.specs.List.{list_any}
 
 -- whether a text stands among texts
 abbrev pub has_text : List (List ℕ) → List ℕ → Bool
-has_text [] text = false
-has_text (first ∷ texts) text = bytes_eq first text || has_text texts text
+has_text texts text = list_any (λ other. bytes_eq other text) texts

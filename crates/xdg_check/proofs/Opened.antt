@@ -4,7 +4,7 @@ use Rattle.std.specs.Prelude.{if◌then◌else◌, bytes_eq}
 use Rattle.std.specs.List.{flat_map}
 use Rattle.std.proofs.lemmas.List.Folds.{flat_map-map}
 use Rattle.xdg_base.specs.declared.faults.Fault.{Fault}
-use Rattle.xdg_ast.specs.Grammar.{is_among}
+use Rattle.xdg_base.specs.Texts.{has_text}
 use Rattle.xdg_ast.specs.declared.names.Name.{Name}
 use Rattle.xdg_ast.specs.declared.names.Spanned.{Spanned}
 use Rattle.xdg_ast.specs.declared.terms.TermKind.{TermKind, out-TermKind, fold_out-TermKind, map-TermKind}
@@ -29,7 +29,7 @@ seen_plain free t P = by (out-TermKind t.kind)
     param false h = h
 
     by : (layer : TermKind-F ElemKind TermKind) → OfSeen (unless_open free t layer) P → P t
-    by (TermKind-F.Param name) h = param (is_among free name.text) h
+    by (TermKind-F.Param name) h = param (has_text free name.text) h
     by _ h = h
 
 plain_seen : (t : Term) (P : Term → Type 0) → P t → OfSeen (with_open [] t) P
@@ -115,7 +115,7 @@ module _ (free : List (List ℕ)) where
       chosen false n e = absurd (cc)
 
       by : (layer : TermKind-F ElemKind TermKind) → free_in free layer ≡ Some name → In (layer_tokens layer) name
-      by (TermKind-F.Param n) e = inl (chosen (is_among free n.text) n e)
+      by (TermKind-F.Param n) e = inl (chosen (has_text free n.text) n e)
       by _ e = absurd (cc)
 
   -- the parameter stands in the term

@@ -22,7 +22,7 @@ use Rattle.xdg_facts.specs.Membership.{In}
 scoped_unless : (free : List (List ℕ)) (t : Term) → ((f : Fault) → IsStrayParam free t f → ⊥) → IsScoped free t
 scoped_unless free t none name stands = elim (among_or_not free name.text) [
   | inl a ↦ a
-  | inr b ↦ absurd (none (fault_at causes.WrongKind name.span.start) (record { name = name; stands = stands; missing = b; fault = refl }))
+  | inr b ↦ absurd (none (fault_at causes.WrongKind name.span.start) (record { name = name; used = stands; missing = b; fault = refl }))
 ]
 
 module _ (statements : List Statement) (table : Table) (none : None_of (ValueOffends statements table)) where

@@ -6,7 +6,8 @@ use Rattle.clap.specs.Simple.{App}
 use Rattle.clap.specs.declared.parser.matches.ArgMatches.{ArgMatches}
 use Rattle.xdg_command.specs.Answers.{IsExactly}
 use Rattle.xdg_command.specs.Found.{Matches}
-use Rattle.xdg_command.specs.Items.{AreItems, Item, has_flag, is_among, operands_of, value_of}
+use Rattle.xdg_command.specs.Items.{AreItems, Item, has_flag, operands_of, value_of}
+use Rattle.xdg_base.specs.Texts.{has_text}
 use Rattle.xdg_command.specs.Readings.{AreWords}
 use Rattle.xdg_command.specs.Syntax.{Table, app_in, is_right}
 use Rattle.xdg_command.proofs.Lookups.{right}
@@ -61,7 +62,7 @@ module _ {A : Type 0} {t : Table} {S : List Item → A → Type 0} (means : Mean
         cc)
 
     -- the value of an option can't be read
-    pub unread : {B : Type 0} (R : Option (List ℕ) → B → Type 0) (name : List ℕ) → is_among t.values name ≡ true → {given : Option (List ℕ)} → given ≡ first_value (found_of found) name
+    pub unread : {B : Type 0} (R : Option (List ℕ) → B → Type 0) (name : List ℕ) → has_text t.values name ≡ true → {given : Option (List ℕ)} → given ≡ first_value (found_of found) name
         → ((b : B) → R given b → ⊥) → ((a : A) → S m.0 a → (b : B) × R (value_of name m.0) b) → (a : A) → AreSaid t S words a → ⊥
     unread R name mine is none reads = unsaid (λ a says. let r = reads a says in none r.0 (subst (λ o. R o r.0) (sym (is ∙ m.2.values name mine)) r.1))
 
@@ -75,11 +76,11 @@ module _ {t : Table} {words : List (List ℕ)} {found : ArgMatches} (m : Matches
       → slice_get (operands_of m.0) k ≡ Some file
   operand_said k name here is same = sym (m.2.operands k name here) ∙ sym is ∙ ap (λ x. Some x) (sym same)
 
-  pub value_said : {B : Type 0} (R : Option (List ℕ) → B → Type 0) (name : List ℕ) → is_among t.values name ≡ true → {given : Option (List ℕ)} → given ≡ first_value (found_of found) name
+  pub value_said : {B : Type 0} (R : Option (List ℕ) → B → Type 0) (name : List ℕ) → has_text t.values name ≡ true → {given : Option (List ℕ)} → given ≡ first_value (found_of found) name
       → {b : B} → IsExactly (R given) (Some b) → R (value_of name m.0) b
   value_said R name mine is {b} exact = subst (λ o. R o b) (is ∙ m.2.values name mine) exact.0
 
-  pub flag_said : (name : List ℕ) → is_among t.flags name ≡ true → (b : Bool) → (one_text (found_of found) name ≡ Some (codes "true") → b ≡ true)
+  pub flag_said : (name : List ℕ) → has_text t.flags name ≡ true → (b : Bool) → (one_text (found_of found) name ≡ Some (codes "true") → b ≡ true)
       → (one_text (found_of found) name ≡ Some (codes "false") → b ≡ false) → b ≡ has_flag name m.0
   flag_said name mine b set unset = go (has_flag name m.0) (m.2.flags name mine)
     where

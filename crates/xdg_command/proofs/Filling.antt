@@ -5,7 +5,8 @@ use Rattle.std.specs.Str.{bytes_eq}
 use Rattle.std.proofs.lemmas.Bool.{not-true, or_from, true≢false}
 use Rattle.clap.proofs.WalkLemmas.{both}
 use Rattle.clap.specs.Walk.{Row, Rule, has_row}
-use Rattle.xdg_command.specs.Items.{AreItems, ended, operands, by_operand, by_flag, by_next, by_equals, Item, operand, valued, flagged, is_among, one_if, operands_of, uses_of}
+use Rattle.xdg_command.specs.Items.{AreItems, ended, operands, by_operand, by_flag, by_next, by_equals, Item, operand, valued, flagged, one_if, operands_of, uses_of}
+use Rattle.xdg_base.specs.Texts.{has_text}
 use Rattle.xdg_command.specs.Syntax.{Table, all_differ}
 use Rattle.xdg_command.proofs.Fitting.{has_more, most, no_more}
 use Rattle.xdg_command.proofs.Lookups.{Right, among_at, not_operand}
@@ -30,9 +31,9 @@ distinct_at [] k j a b different e f lt = absurd cc
 distinct_at (n ∷ names) k zero a b different e f lt = absurd (omega (arith, lt))
 distinct_at (n ∷ names) zero (suc j) a b different e f lt =
     let is : n ≡ a = cc in
-    let first = not-true (is_among names n) (both (not (is_among names n)) (all_differ names) different).0 in
-    other_test a b (λ x. true≢false (sym (among_at names j b f) ∙ ap (is_among names) (sym x ∙ sym is) ∙ first))
-distinct_at (n ∷ names) (suc k) (suc j) a b different e f lt = distinct_at names k j a b (both (not (is_among names n)) (all_differ names) different).1 e f (omega (arith, lt))
+    let first = not-true (has_text names n) (both (not (has_text names n)) (all_differ names) different).0 in
+    other_test a b (λ x. true≢false (sym (among_at names j b f) ∙ ap (has_text names) (sym x ∙ sym is) ∙ first))
+distinct_at (n ∷ names) (suc k) (suc j) a b different e f lt = distinct_at names k j a b (both (not (has_text names n)) (all_differ names) different).1 e f (omega (arith, lt))
 
 module _ (t : Table) (r : Right t) where
   formed_operands : (words : List (List ℕ)) → Formed t (map operand words)
@@ -49,10 +50,10 @@ module _ (t : Table) (r : Right t) where
 
   -- an operand has no name of an option
   pub other_name : (k : ℕ) (a name : List ℕ) (b : Bool) → slice_get t.operands k ≡ Some a → form t name ≡ Some b → bytes_eq a name ≡ false
-  other_name k a name b e f = other_test a name (λ x. true≢false (sym (among_at t.operands k a e) ∙ ap (is_among t.operands) x ∙ not_operand t r name b f))
+  other_name k a name b e f = other_test a name (λ x. true≢false (sym (among_at t.operands k a e) ∙ ap (has_text t.operands) x ∙ not_operand t r name b f))
 
   pub other_operand : (k : ℕ) (a name : List ℕ) (b : Bool) → slice_get t.operands k ≡ Some a → form t name ≡ Some b → bytes_eq name a ≡ false
-  other_operand k a name b e f = other_test name a (λ x. true≢false (sym (among_at t.operands k a e) ∙ ap (is_among t.operands) (sym x) ∙ not_operand t r name b f))
+  other_operand k a name b e f = other_test name a (λ x. true≢false (sym (among_at t.operands k a e) ∙ ap (has_text t.operands) (sym x) ∙ not_operand t r name b f))
 
   -- each option is used at most once, counting that it is found already, and the places from the kth on are free
   abbrev Left : List Row → List Item → Type 0

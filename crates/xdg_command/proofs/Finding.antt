@@ -8,7 +8,8 @@ use Rattle.std.proofs.lemmas.Bool.{cases_Bool, cond_both, or_parts, true≢false
 use Rattle.std.proofs.lemmas.List.Folds.{find-append}
 use Rattle.clap.specs.Walk.{Row, first_of, has_row, more_values, one_of, reading_by, row_text, with_default}
 use Rattle.clap.specs.declared.parser.matches.ValueSource.TheVariants.{DefaultValue}
-use Rattle.xdg_command.specs.Items.{Item, operand, valued, flagged, has_flag, is_among, operands_of, value_of}
+use Rattle.xdg_command.specs.Items.{Item, operand, valued, flagged, has_flag, operands_of, value_of}
+use Rattle.xdg_base.specs.Texts.{has_text}
 use Rattle.xdg_command.specs.Syntax.{Table}
 use Rattle.xdg_command.proofs.Built.{numbered, rules_in}
 use Rattle.xdg_command.proofs.Filling.{Formed, distinct_at, other_name, other_operand}
@@ -130,20 +131,20 @@ all_stays name [] rows x e = e
 all_stays name (f ∷ flags) rows x e = all_stays name flags (with_default rows (flag_rule f)) x (default_stays name f rows x e)
 
 -- no flag has the name
-unflagged : (name : List ℕ) (flags : List (List ℕ)) (rows : List Row) → is_among flags name ≡ false → found_in name (fold with_default rows (map flag_rule flags)) ≡ found_in name rows
+unflagged : (name : List ℕ) (flags : List (List ℕ)) (rows : List Row) → has_text flags name ≡ false → found_in name (fold with_default rows (map flag_rule flags)) ≡ found_in name rows
 unflagged name [] rows e = refl
 unflagged name (f ∷ flags) rows e =
-    let parts = or_parts (bytes_eq f name) (is_among flags name) e in
+    let parts = or_parts (bytes_eq f name) (has_text flags name) e in
     unflagged name flags (with_default rows (flag_rule f)) parts.1 ∙ other_default name f rows parts.0
 
 -- a flag has the name, and isn't found
-flag_unset : (name : List ℕ) (flags : List (List ℕ)) (rows : List Row) → is_among flags name ≡ true → found_in name rows ≡ None → found_in name (fold with_default rows (map flag_rule flags)) ≡ Some (unset name)
+flag_unset : (name : List ℕ) (flags : List (List ℕ)) (rows : List Row) → has_text flags name ≡ true → found_in name rows ≡ None → found_in name (fold with_default rows (map flag_rule flags)) ≡ Some (unset name)
 flag_unset name [] rows e none = absurd (true≢false (sym e))
 flag_unset name (f ∷ flags) rows e none = go (bytes_eq f name) refl (flag_unset name flags (with_default rows (flag_rule f))) e
   where
     go : (b : Bool) → bytes_eq f name ≡ b
-        → (is_among flags name ≡ true → found_in name (with_default rows (flag_rule f)) ≡ None → found_in name (fold with_default (with_default rows (flag_rule f)) (map flag_rule flags)) ≡ Some (unset name))
-        → (b || is_among flags name) ≡ true → found_in name (fold with_default (with_default rows (flag_rule f)) (map flag_rule flags)) ≡ Some (unset name)
+        → (has_text flags name ≡ true → found_in name (with_default rows (flag_rule f)) ≡ None → found_in name (fold with_default (with_default rows (flag_rule f)) (map flag_rule flags)) ≡ Some (unset name))
+        → (b || has_text flags name) ≡ true → found_in name (fold with_default (with_default rows (flag_rule f)) (map flag_rule flags)) ≡ Some (unset name)
     go true is next e =
         let name_is : f ≡ name = same_text f name is in
         let no : has_row f rows ≡ false = ap (λ n. has_row n rows) name_is ∙ none_found name rows none in
@@ -153,11 +154,11 @@ flag_unset name (f ∷ flags) rows e none = go (bytes_eq f name) refl (flag_unse
     go false is next e = next e (other_default name f rows is ∙ none)
 
 module _ (t : Table) where
-  pub first_kept : (name : List ℕ) (rows : List Row) → is_among t.flags name ≡ false → first_of name (fold with_default rows (rules_in t)) ≡ first_of name rows
+  pub first_kept : (name : List ℕ) (rows : List Row) → has_text t.flags name ≡ false → first_of name (fold with_default rows (rules_in t)) ≡ first_of name rows
   first_kept name rows e =
       ap (first_of name) (without_defaults t.operands t.values t.flags 1 rows) ∙ ap first_in (unflagged name t.flags rows e)
 
-  pub flag_kept : (name : List ℕ) (rows : List Row) (b : Bool) → is_among t.flags name ≡ true → found_in name rows ≡ given name b
+  pub flag_kept : (name : List ℕ) (rows : List Row) (b : Bool) → has_text t.flags name ≡ true → found_in name rows ≡ given name b
       → one_of name (fold with_default rows (rules_in t)) ≡ Some (if b then codes "true" else codes "false")
   flag_kept name rows true mine e =
       ap (one_of name) (without_defaults t.operands t.values t.flags 1 rows) ∙ ap (option_and_then row_text) (all_stays name t.flags rows _ e)

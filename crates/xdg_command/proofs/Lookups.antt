@@ -7,7 +7,7 @@ use Rattle.std.specs.Str.{bytes_eq}
 use Rattle.std.proofs.lemmas.Bool.{cases_Bool, eq-eqb, false_from_ne_true, leb-true, ne_eqb, not-true, or_cases, or_right, true≢false}
 use Rattle.clap.proofs.WalkLemmas.{both}
 use Rattle.clap.specs.Walk.{Rule, arg_by_id, arg_by_index, arg_by_long, arg_by_short, has_long, has_short}
-use Rattle.xdg_command.specs.Items.{is_among}
+use Rattle.xdg_base.specs.Texts.{has_text}
 use Rattle.xdg_command.specs.Syntax.{Table, all_differ, are_apart, is_name, is_right}
 use Rattle.xdg_command.proofs.Built.{numbered, options_in, rules_in}
 use Rattle.xdg_command.proofs.Rules.{Finds, flag_rule, form, operand_rule, option_rule, value_rule}
@@ -17,21 +17,21 @@ use Rattle.xdg_facts.proofs.Texts.{equal, same_text, other_test}
 -- ---- names
 
 -- a text that stands in a list is among its texts
-pub among_at : (names : List (List ℕ)) (k : ℕ) (name : List ℕ) → slice_get names k ≡ Some name → is_among names name ≡ true
+pub among_at : (names : List (List ℕ)) (k : ℕ) (name : List ℕ) → slice_get names k ≡ Some name → has_text names name ≡ true
 among_at [] k name e = absurd cc
 among_at (n ∷ names) zero name e = let is : n ≡ name = cc in rw is (rw (equal name) refl)
-among_at (n ∷ names) (suc k) name e = or_right (bytes_eq n name) (is_among names name) (among_at names k name e)
+among_at (n ∷ names) (suc k) name e = or_right (bytes_eq n name) (has_text names name) (among_at names k name e)
 
 -- what holds of all names holds of one that is among them
-pub named : (p : List ℕ → Bool) (names : List (List ℕ)) (name : List ℕ) → list_all p names ≡ true → is_among names name ≡ true → p name ≡ true
+pub named : (p : List ℕ → Bool) (names : List (List ℕ)) (name : List ℕ) → list_all p names ≡ true → has_text names name ≡ true → p name ≡ true
 named p [] name all e = absurd (true≢false (sym e))
 named p (n ∷ names) name all e =
     let parts = both (p n) (list_all p names) all in
-    elim (or_cases (bytes_eq n name) (is_among names name) e) [ inl is ↦ ap p (sym (same_text n name is)) ∙ parts.0 | inr more ↦ named p names name parts.1 more ]
+    elim (or_cases (bytes_eq n name) (has_text names name) e) [ inl is ↦ ap p (sym (same_text n name is)) ∙ parts.0 | inr more ↦ named p names name parts.1 more ]
 
 -- a text among the first list is not among the second
-pub apart_at : (names others : List (List ℕ)) (name : List ℕ) → are_apart names others ≡ true → is_among names name ≡ true → is_among others name ≡ false
-apart_at names others name apart e = not-true (is_among others name) (named (λ n. not (is_among others n)) names name apart e)
+pub apart_at : (names others : List (List ℕ)) (name : List ℕ) → are_apart names others ≡ true → has_text names name ≡ true → has_text others name ≡ false
+apart_at names others name apart e = not-true (has_text others name) (named (λ n. not (has_text others n)) names name apart e)
 
 -- what `is_right` says
 pub record Right (t : Table) : Type 0 where
@@ -56,15 +56,15 @@ right t e =
 -- ---- search
 
 -- operands that don't pass are passed over
-skipped : (test : Rule → Bool) (place : ℕ) (names : List (List ℕ)) (rest : List Rule) → ((p : ℕ) (name : List ℕ) → is_among names name ≡ true → test (operand_rule p name) ≡ false)
+skipped : (test : Rule → Bool) (place : ℕ) (names : List (List ℕ)) (rest : List Rule) → ((p : ℕ) (name : List ℕ) → has_text names name ≡ true → test (operand_rule p name) ≡ false)
     → find test (numbered place names ++ rest) ≡ find test rest
 skipped test place [] rest e = refl
 skipped test place (n ∷ names) rest e =
-    rw (e place n (rw (equal n) refl)) (skipped test (suc place) names rest (λ p name is. e p name (or_right (bytes_eq n name) (is_among names name) is)))
+    rw (e place n (rw (equal n) refl)) (skipped test (suc place) names rest (λ p name is. e p name (or_right (bytes_eq n name) (has_text names name) is)))
 
 -- the options of one kind, among which a name is looked for
 looked : (name : List ℕ) (test : Rule → Bool) (f : List ℕ → Rule) → ((n : List ℕ) → test (f n) ≡ bytes_eq n name) → (names : List (List ℕ)) (rest : List Rule)
-    → find test (map f names ++ rest) ≡ (if is_among names name then Some (f name) else find test rest)
+    → find test (map f names ++ rest) ≡ (if has_text names name then Some (f name) else find test rest)
 looked name test f e [] rest = refl
 looked name test f e (n ∷ names) rest = elim (cases_Bool (bytes_eq n name)) [
   | inl is ↦ rw (e n, is) (ap (λ x. Some (f x)) (same_text n name is))
@@ -91,9 +91,9 @@ module _ (t : Table) where
       → find test (options_in t) ≡ option_map (option_rule name) (form t name)
   among_options name test v f =
       looked name test value_rule v t.values (map flag_rule t.flags)
-      ∙ ap (λ o. if is_among t.values name then Some (value_rule name) else o)
+      ∙ ap (λ o. if has_text t.values name then Some (value_rule name) else o)
       (ap (find test) (sym (append-nil (map flag_rule t.flags))) ∙ looked name test flag_rule f t.flags [])
-      ∙ chosen (is_among t.values name) (is_among t.flags name) name
+      ∙ chosen (has_text t.values name) (has_text t.flags name) name
 
   -- no option passes
   no_option : (test : Rule → Bool) → ((n : List ℕ) → test (value_rule n) ≡ false) → ((n : List ℕ) → test (flag_rule n) ≡ false) → find test (options_in t) ≡ None
@@ -112,8 +112,8 @@ module _ (t : Table) where
       skipped test 1 t.operands (options_in t) (λ p n e. refl) ∙ no_option test (λ n. refl) (λ n. refl)
 
   -- a name of an option is that of no operand
-  pub not_operand : Right t → (name : List ℕ) (b : Bool) → form t name ≡ Some b → is_among t.operands name ≡ false
-  not_operand r name b e = false_from_ne_true (is_among t.operands name) (λ is.
+  pub not_operand : Right t → (name : List ℕ) (b : Bool) → form t name ≡ Some b → has_text t.operands name ≡ false
+  not_operand r name b e = false_from_ne_true (has_text t.operands name) (λ is.
       let v = apart_at t.operands t.values name r.from_values is in
       let f = apart_at t.operands t.flags name r.from_flags is in
       let bad : None ≡ Some b = rw (v, f) at e in
@@ -122,7 +122,7 @@ module _ (t : Table) where
   by_its_name : Right t → (name : List ℕ) (b : Bool) → form t name ≡ Some b → arg_by_id (rules_in t) name ≡ Some (option_rule name b)
   by_its_name r name b e =
       let test : Rule → Bool = λ a. bytes_eq a.id name in
-      skipped test 1 t.operands (options_in t) (λ p n is. other_test n name (λ x. true≢false (sym is ∙ ap (is_among t.operands) x ∙ not_operand r name b e)))
+      skipped test 1 t.operands (options_in t) (λ p n is. other_test n name (λ x. true≢false (sym is ∙ ap (has_text t.operands) x ∙ not_operand r name b e)))
       ∙ among_options name test (λ n. refl) (λ n. refl) ∙ ap (option_map (option_rule name)) e
 
 -- operands by their place
@@ -147,9 +147,9 @@ at_name place zero (n ∷ names) rest name different e =
     let here : place ≡ place + 0 = omega arith in
     rw (ap (λ x. bytes_eq x name) is ∙ equal name) (ap₂ (λ p x. Some (operand_rule p x)) here is)
 at_name place (suc k) (n ∷ names) rest name different e =
-    let parts = both (not (is_among names n)) (all_differ names) different in
+    let parts = both (not (has_text names n)) (all_differ names) different in
     let next : suc place + k ≡ place + suc k = omega arith in
-    let other = other_test n name (λ x. true≢false (sym (among_at names k name e) ∙ ap (is_among names) (sym x) ∙ not-true _ parts.0)) in
+    let other = other_test n name (λ x. true≢false (sym (among_at names k name e) ∙ ap (has_text names) (sym x) ∙ not-true _ parts.0)) in
     rw other (at_name (suc place) k names rest name parts.1 e ∙ ap (λ p. Some (operand_rule p name)) next)
 
 pub finds_in : (t : Table) → Right t → Finds t (rules_in t)

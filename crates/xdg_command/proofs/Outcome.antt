@@ -14,7 +14,8 @@ use Rattle.clap.specs.Faults.{built_fault, check_fault, default_fault, defaults_
 use Rattle.clap.specs.declared.parser.matches.ArgMatches.{ArgMatches}
 use Rattle.clap.proofs.FaultLemmas.{leaf_fault}
 use Rattle.clap.proofs.WalkLemmas.{first_value-rows, one_text-rows}
-use Rattle.xdg_command.specs.Items.{Item, has_flag, is_among}
+use Rattle.xdg_command.specs.Items.{Item, has_flag}
+use Rattle.xdg_base.specs.Texts.{has_text}
 use Rattle.xdg_command.specs.Found.{Holds, Matches}
 use Rattle.xdg_command.specs.Syntax.{Table, app_in}
 use Rattle.xdg_command.proofs.Built.{app_is, built_is, no_rule, numbered, rules_in, shape_in}
@@ -94,8 +95,8 @@ module _ (t : Table) (r : Right t) (words : List (List ℕ)) (texts : AreTexts w
 
   -- ---- items that are found
 
-  not_flag : (name : List ℕ) → is_among t.values name ≡ true → is_among t.flags name ≡ false
-  not_flag name mine = false_from_ne_true (is_among t.flags name) (λ e. true≢false (sym mine ∙ apart_at t.flags t.values name r.flags e))
+  not_flag : (name : List ℕ) → has_text t.values name ≡ true → has_text t.flags name ≡ false
+  not_flag name mine = false_from_ne_true (has_text t.flags name) (λ e. true≢false (sym mine ∙ apart_at t.flags t.values name r.flags e))
 
   module _ (found : ArgMatches) (end : List Row) (items : List Item) (form : Formed t items) (end_is : end ≡ rows_of_items t 0 items)
       (rows : rows_of (found_of found) ≡ fold with_default end (rules_in t)) where

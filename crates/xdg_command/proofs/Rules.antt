@@ -8,7 +8,7 @@ use Rattle.clap.specs.declared.builder.range.ValueRange.{ValueRange}
 use Rattle.clap.specs.declared.builder.action.ArgAction.TheVariants.{Set, SetTrue}
 use Rattle.clap.specs.declared.builder.value_parser.ValueParser.TheVariants as parsers
 use Rattle.clap.specs.declared.parser.matches.ValueSource.TheVariants.{CommandLine}
-use Rattle.xdg_command.specs.Items.{is_among}
+use Rattle.xdg_base.specs.Texts.{has_text}
 use Rattle.xdg_command.specs.Syntax.{Table}
 
 abbrev one : ValueRange
@@ -36,7 +36,7 @@ option_rule name false = flag_rule name
 
 -- whether an option takes a value, or None where no option has the name
 abbrev pub form : Table → List ℕ → Option Bool
-form t name = if is_among t.values name then Some true else (if is_among t.flags name then Some false else None)
+form t name = if has_text t.values name then Some true else (if has_text t.flags name then Some false else None)
 
 -- which argument is found by its long name, its name, its place or a letter
 pub record Finds (t : Table) (c : List Rule) : Type 0 where

@@ -5,7 +5,8 @@ use Rattle.std.specs.List.{after_first, before_first, position_or_len, list_any}
 use Rattle.std.specs.Str.{bytes_eq}
 use Rattle.std.proofs.lemmas.Bool.{and_right, cases_Bool, eqb-true, not-true, or_parts, or_right, true≢false}
 use Rattle.clap.specs.Lexer.{has_byte, long_of, short_of}
-use Rattle.xdg_command.specs.Items.{AreItems, ended, operands, by_operand, by_flag, by_next, by_equals, Item, operand, valued, flagged, dashed, is_among, is_dashed}
+use Rattle.xdg_command.specs.Items.{AreItems, ended, operands, by_operand, by_flag, by_next, by_equals, Item, operand, valued, flagged, dashed, is_dashed}
+use Rattle.xdg_base.specs.Texts.{has_text}
 use Rattle.xdg_command.specs.Syntax.{Table, is_name}
 use Rattle.xdg_command.proofs.Lookups.{Right, apart_at, named}
 use Rattle.xdg_command.proofs.Reader.{behind, by_form, by_letters, by_long, by_value, read, unless_long}
@@ -140,10 +141,10 @@ equals_word (x ∷ name) value e =
     }
 
 module _ (t : Table) (r : Right t) where
-  pub value_form : (name : List ℕ) → is_among t.values name ≡ true → form t name ≡ Some true
+  pub value_form : (name : List ℕ) → has_text t.values name ≡ true → form t name ≡ Some true
   value_form name e = rw e refl
 
-  pub flag_form : (name : List ℕ) → is_among t.flags name ≡ true → form t name ≡ Some false
+  pub flag_form : (name : List ℕ) → has_text t.flags name ≡ true → form t name ≡ Some false
   flag_form name e = rw (apart_at t.flags t.values name r.flags e, e) refl
 
   operand_read : (word : List ℕ) (words : List (List ℕ)) → is_dashed word ≡ false → read t None (word ∷ words) ≡ behind (operand word) (read t None words)
@@ -191,11 +192,11 @@ module _ (t : Table) (r : Right t) where
   form_is false true b e = let is : false ≡ b = cc in subst (λ c. (if c then false else true) ≡ true) is refl
   form_is false false b e = absurd cc
 
-  is_value : (name : List ℕ) → form t name ≡ Some true → is_among t.values name ≡ true
-  is_value name e = form_is (is_among t.values name) (is_among t.flags name) true e
+  is_value : (name : List ℕ) → form t name ≡ Some true → has_text t.values name ≡ true
+  is_value name e = form_is (has_text t.values name) (has_text t.flags name) true e
 
-  is_flag : (name : List ℕ) → form t name ≡ Some false → is_among t.flags name ≡ true
-  is_flag name e = form_is (is_among t.values name) (is_among t.flags name) false e
+  is_flag : (name : List ℕ) → form t name ≡ Some false → has_text t.flags name ≡ true
+  is_flag name e = form_is (has_text t.values name) (has_text t.flags name) false e
 
   -- the reading of one item more
   behind_is : (item : Item) (o : Option (List Item)) (items : List Item) → behind item o ≡ Some items → (rest : List Item) × (o ≡ Some rest) × (items ≡ item ∷ rest)
@@ -206,7 +207,7 @@ module _ (t : Table) (r : Right t) where
   Reads words = (items : List Item) → read t None words ≡ Some items → Items words items
 
   abbrev Follows : List (List ℕ) → Type 0
-  Follows words = (name : List ℕ) (items : List Item) → is_among t.values name ≡ true → read t (Some name) words ≡ Some items → Items (dashed name ∷ words) items
+  Follows words = (name : List ℕ) (items : List Item) → has_text t.values name ≡ true → read t (Some name) words ≡ Some items → Items (dashed name ∷ words) items
 
   value_is : (name value : List ℕ) (words : List (List ℕ)) (items : List Item) → Reads words → by_value name value (read t None words) ≡ Some items
       → (rest : List Item) × (value ≢ []) × Items words rest × (items ≡ valued name value ∷ rest)
@@ -251,7 +252,7 @@ module _ (t : Table) (r : Right t) where
         subst (λ w. Items (w ∷ words) items) (sym (same_text word (dashed []) is)) (subst (Items (dashed [] ∷ words)) items_are (operands words))
     by_the_word false follows is e = by_the_name (long_of word) follows refl is e
 
-    module _ (name : List ℕ) (mine : is_among t.values name ≡ true) where
+    module _ (name : List ℕ) (mine : has_text t.values name ≡ true) where
       abbrev Wanted : Type 0
       Wanted = Items (dashed name ∷ word ∷ words) items
 

@@ -2,7 +2,8 @@
 use Rattle.std.specs.Prelude.{◌≡◌, ◌≤◌, ℕ, true, List, Option, Some, None, length, slice_get, codes, if◌then◌else◌}
 use Rattle.clap.specs.Matches.{first_value, found_of, one_text}
 use Rattle.clap.specs.declared.parser.matches.ArgMatches.{ArgMatches}
-use Rattle.xdg_command.specs.Items.{Item, AreItems, IsOnce, has_flag, is_among, operands_of, value_of}
+use Rattle.xdg_command.specs.Items.{Item, AreItems, IsOnce, has_flag, operands_of, value_of}
+use Rattle.xdg_base.specs.Texts.{has_text}
 use Rattle.xdg_command.specs.Syntax.{Table}
 
 -- the words are these items, each option given at most once, and not too many operands
@@ -14,8 +15,8 @@ pub record Fits (t : Table) (words : List (List ℕ)) (items : List Item) : Type
 -- what is found by its name is what the items say
 pub record Holds (t : Table) (items : List Item) (found : ArgMatches) : Type 0 where
   pub operands : (k : ℕ) (name : List ℕ) → slice_get t.operands k ≡ Some name → first_value (found_of found) name ≡ slice_get (operands_of items) k
-  pub values : (name : List ℕ) → is_among t.values name ≡ true → first_value (found_of found) name ≡ value_of name items
-  pub flags : (name : List ℕ) → is_among t.flags name ≡ true
+  pub values : (name : List ℕ) → has_text t.values name ≡ true → first_value (found_of found) name ≡ value_of name items
+  pub flags : (name : List ℕ) → has_text t.flags name ≡ true
       → one_text (found_of found) name ≡ Some (if has_flag name items then codes "true" else codes "false")
 
 -- no items fit, or the items that fit are found

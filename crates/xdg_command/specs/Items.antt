@@ -1,17 +1,13 @@
 -- What the words after the name of a command say.
 use Rattle.std.specs.Prelude.{◌≡◌, ◌≢◌, ◌≤◌, ◌+◌, ◌==◌, ℕ, Bool, true, false, List, [], ◌∷◌, ◌++◌, map, Option, Some, None, if◌then◌else◌}
-use Rattle.std.specs.List.{list_any}
 use Rattle.std.specs.Str.{bytes_eq}
+use Rattle.xdg_base.specs.Texts.{has_text}
 
 -- What a word says, or two of them: the option `--name value` or `--name=value`, the option `--name`, or an operand.
 pub data Item : Type 0 where
   operand : List ℕ → Item
   valued : List ℕ → List ℕ → Item
   flagged : List ℕ → Item
-
--- the text is one of the names
-abbrev pub is_among : List (List ℕ) → List ℕ → Bool
-is_among names name = list_any (λ one. bytes_eq one name) names
 
 -- a word that begins with `-` and has two or more bytes, so that it is no operand
 abbrev pub is_dashed : List ℕ → Bool
@@ -33,13 +29,13 @@ pub data AreItems (values flags : List (List ℕ)) : List (List ℕ) → List It
   by_operand : (word : List ℕ) (words : List (List ℕ)) (items : List Item) → is_dashed word ≡ false → AreItems values flags words items
       → AreItems values flags (word ∷ words) (operand word ∷ items)
   -- `--name` of an option without value
-  by_flag : (name : List ℕ) (words : List (List ℕ)) (items : List Item) → is_among flags name ≡ true → AreItems values flags words items
+  by_flag : (name : List ℕ) (words : List (List ℕ)) (items : List Item) → has_text flags name ≡ true → AreItems values flags words items
       → AreItems values flags (dashed name ∷ words) (flagged name ∷ items)
   -- `--name` and the value as the next word, which is neither dashed nor empty
-  by_next : (name value : List ℕ) (words : List (List ℕ)) (items : List Item) → is_among values name ≡ true → value ≢ [] → is_dashed value ≡ false
+  by_next : (name value : List ℕ) (words : List (List ℕ)) (items : List Item) → has_text values name ≡ true → value ≢ [] → is_dashed value ≡ false
       → AreItems values flags words items → AreItems values flags (dashed name ∷ value ∷ words) (valued name value ∷ items)
   -- `--name=value`, where the value isn't empty
-  by_equals : (name value : List ℕ) (words : List (List ℕ)) (items : List Item) → is_among values name ≡ true → value ≢ [] → AreItems values flags words items
+  by_equals : (name value : List ℕ) (words : List (List ℕ)) (items : List Item) → has_text values name ≡ true → value ≢ [] → AreItems values flags words items
       → AreItems values flags ((dashed name ++ 61 ∷ value) ∷ words) (valued name value ∷ items)
 
 -- the operands in order

@@ -1,7 +1,7 @@
 -- The command of `clap` that reads the words after a command's name.
 use Rattle.std.specs.Prelude.{◌∷◌, ◌++◌, ◌==◌, ◌&&◌, ℕ, Bool, true, false, not, List, [], Some, map, fold, codes, length, nat_le}
 use Rattle.std.specs.List.{list_all, list_any}
-use Rattle.xdg_command.specs.Items.{is_among}
+use Rattle.xdg_base.specs.Texts.{has_text}
 use Rattle.clap.specs.Walk.{Rule}
 use Rattle.clap.specs.Simple.{App, new_app, new_rule, on_top, with_rule}
 use Rattle.clap.specs.declared.builder.action.ArgAction.TheVariants.{Set, SetTrue}
@@ -70,11 +70,11 @@ is_name (first ∷ more) = not (list_any (λ byte. byte == 61) (first ∷ more))
 -- no text stands twice
 abbrev pub all_differ : List (List ℕ) → Bool
 all_differ [] = true
-all_differ (name ∷ names) = not (is_among names name) && all_differ names
+all_differ (name ∷ names) = not (has_text names name) && all_differ names
 
 -- no text of the first list stands in the second
 abbrev pub are_apart : List (List ℕ) → List (List ℕ) → Bool
-are_apart names others = list_all (λ name. not (is_among others name)) names
+are_apart names others = list_all (λ name. not (has_text others name)) names
 
 -- there are at most two operands, each with a name of its own, and no option has the name of an operand or of another kind of option
 abbrev pub is_right : Table → Bool

@@ -1,10 +1,6 @@
 -- Sets of nodes as what is so at each node of a sentence, and bindings as tables.
-use Rattle.std.specs.Prelude.{◌≡◌, ◌⊎◌, ◌↔◌, ℕ, ◌<◌, ◌&&◌, Bool, true, false, not, List, slice_index}
+use Rattle.std.specs.Prelude.{◌≡◌, ◌⊎◌, ◌↔◌, ℕ, ◌<◌, ◌&&◌, Bool, true, false, not, List}
 use Rattle.xdg_facts.specs.Rises.{has}
-
--- the node for which a name stands, in a table with a node for each name
-abbrev pub stands : List ℕ → ℕ → ℕ
-stands table name = slice_index table name
 
 -- of the first nodes, the set has those at which something is so
 abbrev pub IsRow : ℕ → (ℕ → Type 0) → List ℕ → Type 0

@@ -5,23 +5,21 @@ ghost use Rattle.xdg_facts.specs.Rises.{has};
 ghost use Rattle.xdg_problem.specs.Analyses.{IsPlace};
 ghost use Rattle.xdg_problem.specs.Claims.{IsOf, claim, claims_of};
 ghost use Rattle.xdg_problem.specs.Places.{nodes};
-ghost use Rattle.xdg_problem.specs.Truths.{unbound, AreNodes};
+ghost use Rattle.xdg_problem.specs.Truths.{unbound, AreNodes, stands};
 ghost use Rattle.xdg_rules.specs.Worths.{Makes};
 ghost use Rattle.xdg_store.specs.Decisions.{IsDecision};
 ghost use Rattle.xdg_propcore.specs.Standing.{box_at};
 ghost use Rattle.xdg_formula_value.specs.Filling.{ArePaths};
 ghost use Rattle.xdg_formula_value.specs.Lost.{AgreeBut, AsksIf, Concerns, ConcernsSome, Finds, HasEarlier, LosesOne, OnNames, Seen};
 ghost use Rattle.xdg_formula_value.specs.Lost.{IsAttrOf, IsEdgeOf, IsEntryOf};
-ghost use Rattle.xdg_formula_value.specs.Rows.{stands};
 
 use crate::along::found_path;
-use crate::binding::{bind, none_bound};
 use crate::lost::{fewer, found};
 use crate::names::{is_named, outside};
 use crate::paths::Paths;
 use xdg_base::{AttrId, DimId, LabelId, NodeId};
 use xdg_nodeset::NodeSet;
-use xdg_problem::{Edge, Formula};
+use xdg_problem::{Binding, Edge, Formula, bind, none_bound};
 use xdg_store::{Decision, Mark, Store};
 
 /// Whether some nodes for free names, and for others those of a binding, let the box make a formula true, or false, where a name that is
@@ -29,7 +27,7 @@ use xdg_store::{Decision, Mark, Store};
 fn found_named(
     store: &Store,
     paths: &Paths,
-    binding: &[u8; 256],
+    binding: &Binding,
     free: NodeSet,
     names: NodeSet,
     name: u8,

@@ -12,7 +12,6 @@ ghost use Rattle.xdg_propcore.specs.Standing.{box_at};
 ghost use Rattle.xdg_formula_value.specs.Filling.{ArePaths};
 ghost use Rattle.xdg_formula_value.specs.Lost.{AgreeBut, Finds, HasEarlier, IsBy, IsMade, MovesPath, OnNames, Passes, Seen};
 
-use crate::binding::{bind, none_bound};
 use crate::kept::are_paths_kept;
 use crate::lost::{fewer, found};
 use crate::names::is_named;
@@ -23,7 +22,7 @@ use crate::way::Way;
 use xdg_base::DimId;
 use xdg_graph::{Which, node_count};
 use xdg_nodeset::NodeSet;
-use xdg_problem::{Edge, Formula};
+use xdg_problem::{Edge, Formula, bind, none_bound};
 use xdg_store::{Decision, Mark, Store};
 
 /// So many ends of paths at most, and a look goes to all of them.

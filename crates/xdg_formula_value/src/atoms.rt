@@ -6,19 +6,18 @@ ghost use Rattle.xdg_problem.specs.Boxes.{IsOnly, attr_decision};
 ghost use Rattle.xdg_problem.specs.Claims.{IsTable};
 ghost use Rattle.xdg_problem.specs.Places.{nodes};
 ghost use Rattle.xdg_problem.specs.Problems.{IsProblem};
-ghost use Rattle.xdg_problem.specs.Truths.{bound, says, HasTruth, AreNodes};
+ghost use Rattle.xdg_problem.specs.Truths.{bound, says, HasTruth, AreNodes, stands};
 ghost use Rattle.xdg_rules.specs.Rules.{EachEntry};
 ghost use Rattle.xdg_rules.specs.Worths.{EachValue};
 ghost use Rattle.xdg_store.specs.InRange.{HasValue};
 ghost use Rattle.xdg_store.specs.States.{Known};
-ghost use Rattle.xdg_formula_value.specs.Rows.{AreFirst, IsRowOn, stands};
+ghost use Rattle.xdg_formula_value.specs.Rows.{AreFirst, IsRowOn};
 
-use crate::binding::node_of;
 use crate::rows::{constant, kept};
 use xdg_base::{AttrId, DimId, List, NodeId};
 use xdg_graph::entry_count;
 use xdg_nodeset::NodeSet;
-use xdg_problem::Parts;
+use xdg_problem::{Binding, Parts, node_of};
 use xdg_store::Store;
 
 /// How many values an attribute has.
@@ -65,7 +64,7 @@ fn attr_told(store: &Store, node: NodeId, dim: DimId, attr: AttrId, value: u16, 
 /// Of some nodes, those for which a name has to stand so that the box makes true, or false, that an attribute has a value.
 pub(crate) fn attr_row(
     store: &Store,
-    binding: &[u8; 256],
+    binding: &Binding,
     name: u8,
     node: u8,
     dim: DimId,
@@ -126,7 +125,7 @@ fn entries_told(store: &Store, node: NodeId, table: &List<List<bool>>, truth: bo
 /// Of some nodes, those for which a name has to stand so that the box makes true, or false, what a table says of entries.
 pub(crate) fn feat_row(
     store: &Store,
-    binding: &[u8; 256],
+    binding: &Binding,
     name: u8,
     node: u8,
     table: &List<List<bool>>,

@@ -4,7 +4,6 @@
 mod about;
 mod along;
 mod atoms;
-mod binding;
 mod kept;
 mod kinds;
 mod local;

@@ -5,20 +5,18 @@ ghost use Rattle.xdg_nodeset.specs.Nodes.{without};
 ghost use Rattle.xdg_facts.specs.Rises.{has};
 ghost use Rattle.xdg_problem.specs.Claims.{IsOf, claim};
 ghost use Rattle.xdg_problem.specs.Places.{nodes};
-ghost use Rattle.xdg_problem.specs.Truths.{bound, AreNodes};
+ghost use Rattle.xdg_problem.specs.Truths.{bound, AreNodes, stands};
 ghost use Rattle.xdg_rules.specs.Worths.{Makes};
 ghost use Rattle.xdg_formula_value.specs.Filling.{ArePaths};
 ghost use Rattle.xdg_formula_value.specs.Lost.{AgreeBut, Finds, HasNode, HasNodes};
-ghost use Rattle.xdg_formula_value.specs.Rows.{stands};
 
-use crate::binding::{bind, node_of};
 use crate::paths::Paths;
 use crate::possible::{possible_row, possible_second};
 use crate::value::{makes, row_of};
 use xdg_base::NodeId;
 use xdg_graph::node_count;
 use xdg_nodeset::NodeSet;
-use xdg_problem::Formula;
+use xdg_problem::{Binding, Formula, bind, node_of};
 use xdg_store::Store;
 
 /// A name that no set of names has.
@@ -39,7 +37,7 @@ pub(crate) fn fewer(names: NodeSet, name: u8) -> NodeSet
 fn may_be_found(
     store: &Store,
     paths: &Paths,
-    binding: &[u8; 256],
+    binding: &Binding,
     name: u8,
     formula: &Formula,
     truth: bool,
@@ -59,7 +57,7 @@ fn may_be_found(
 fn found_one(
     store: &Store,
     paths: &Paths,
-    binding: &[u8; 256],
+    binding: &Binding,
     name: u8,
     formula: &Formula,
     truth: bool,
@@ -81,7 +79,7 @@ fn found_one(
 fn found_two(
     store: &Store,
     paths: &Paths,
-    binding: &[u8; 256],
+    binding: &Binding,
     name: u8,
     other: u8,
     formula: &Formula,
@@ -114,7 +112,7 @@ fn found_two(
 pub(crate) fn found(
     store: &Store,
     paths: &Paths,
-    binding: &[u8; 256],
+    binding: &Binding,
     free: NodeSet,
     formula: &Formula,
     truth: bool,

@@ -3,18 +3,18 @@
 ghost use Rattle.std.specs.Prelude.{◌≡◌, ◌≤◌, ◌<◌, ◌↔◌, ℕ, true};
 ghost use Rattle.xdg_facts.specs.Rises.{has};
 ghost use Rattle.xdg_problem.specs.Places.{nodes};
-ghost use Rattle.xdg_problem.specs.Truths.{bound, HasTruth, AreNodes};
+ghost use Rattle.xdg_problem.specs.Truths.{bound, HasTruth, AreNodes, stands};
 ghost use Rattle.xdg_formula_value.specs.Filling.{ArePaths};
 ghost use Rattle.xdg_formula_value.specs.Pairs.{Along, IsPairOf, Relates, edges_for};
-ghost use Rattle.xdg_formula_value.specs.Rows.{IsRow, stands};
+ghost use Rattle.xdg_formula_value.specs.Rows.{IsRow};
 
-use crate::binding::node_of;
 use crate::paths::{Paths, far};
 use crate::rows::{constant, kept, opposite, told};
 use crate::way::Way;
 use xdg_base::{DimId, LabelId, NodeId};
 use xdg_graph::{Which, daughters_by, labels_of, mothers_by, node_count, up_to};
 use xdg_nodeset::NodeSet;
+use xdg_problem::{Binding, node_of};
 use xdg_store::Store;
 
 /// What may hold of two nodes.
@@ -121,7 +121,7 @@ fn to_itself(store: &Store, paths: &Paths, pair: Pair, which: Which) -> NodeSet
 fn related_row(
     store: &Store,
     paths: &Paths,
-    binding: &[u8; 256],
+    binding: &Binding,
     name: u8,
     pair: Pair,
     which: Which,
@@ -168,7 +168,7 @@ fn edges_for(truth: bool) -> Which
 pub(crate) fn pair_row(
     store: &Store,
     paths: &Paths,
-    binding: &[u8; 256],
+    binding: &Binding,
     name: u8,
     pair: Pair,
     first: u8,

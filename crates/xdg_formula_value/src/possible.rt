@@ -4,11 +4,11 @@ ghost use Rattle.std.specs.Prelude.{◌≡◌, ◌<◌, ℕ, map, true};
 ghost use Rattle.xdg_facts.specs.Rises.{has};
 ghost use Rattle.xdg_problem.specs.Claims.{EachIsOf, IsOf, claim, claims_of};
 ghost use Rattle.xdg_problem.specs.Places.{nodes};
-ghost use Rattle.xdg_problem.specs.Truths.{bound, HasTruth, AreNodes};
+ghost use Rattle.xdg_problem.specs.Truths.{bound, HasTruth, AreNodes, stands};
 ghost use Rattle.xdg_rules.specs.Worths.{Makes};
 ghost use Rattle.xdg_formula_value.specs.Filling.{ArePaths};
 ghost use Rattle.xdg_formula_value.specs.Pairs.{IsPairOf, Relates, edges_for};
-ghost use Rattle.xdg_formula_value.specs.Rows.{AreFirst, Bounds, stands};
+ghost use Rattle.xdg_formula_value.specs.Rows.{AreFirst, Bounds};
 ghost use Rattle.xdg_formula_value.specs.Several.{MakesSeveral};
 
 use crate::atoms::{attr_row, feat_row};
@@ -16,7 +16,7 @@ use crate::pair::{Pair, pair_row};
 use crate::paths::Paths;
 use crate::rows::{constant, joined, still_open};
 use xdg_nodeset::NodeSet;
-use xdg_problem::Formula;
+use xdg_problem::{Binding, Formula};
 use xdg_store::Store;
 
 /// Nodes for which a name may have to stand so that the box makes true, or false, that what two names stand for is related. A further
@@ -24,7 +24,7 @@ use xdg_store::Store;
 fn possible_pair(
     store: &Store,
     paths: &Paths,
-    binding: &[u8; 256],
+    binding: &Binding,
     name: u8,
     other: u8,
     pair: Pair,
@@ -57,7 +57,7 @@ fn possible_pair(
 pub(crate) fn possible_row(
     store: &Store,
     paths: &Paths,
-    binding: &[u8; 256],
+    binding: &Binding,
     name: u8,
     other: u8,
     formula: &Formula,
@@ -138,7 +138,7 @@ pub(crate) fn possible_row(
 fn possible_joined(
     store: &Store,
     paths: &Paths,
-    binding: &[u8; 256],
+    binding: &Binding,
     name: u8,
     other: u8,
     formulas: &[Formula],
@@ -171,7 +171,7 @@ fn possible_joined(
 pub(crate) fn possible_second(
     store: &Store,
     paths: &Paths,
-    binding: &[u8; 256],
+    binding: &Binding,
     name: u8,
     other: u8,
     formula: &Formula,

@@ -2,19 +2,18 @@
 
 ghost use Rattle.xdg_problem.specs.Claims.{IsOf, claim};
 ghost use Rattle.xdg_problem.specs.Places.{nodes};
-ghost use Rattle.xdg_problem.specs.Truths.{bound, AreNodes};
+ghost use Rattle.xdg_problem.specs.Truths.{bound, AreNodes, stands};
 ghost use Rattle.xdg_rules.specs.Worths.{Makes};
 ghost use Rattle.xdg_formula_value.specs.Filling.{ArePaths};
-ghost use Rattle.xdg_formula_value.specs.Rows.{AreFirst, IsRowOn, Over, stands};
+ghost use Rattle.xdg_formula_value.specs.Rows.{AreFirst, IsRowOn, Over};
 
-use crate::binding::rebind;
 use crate::paths::Paths;
 use crate::possible::{possible_row, possible_second};
 use crate::rows::kept;
 use crate::value::row_of;
 use xdg_graph::node_count;
 use xdg_nodeset::NodeSet;
-use xdg_problem::Formula;
+use xdg_problem::{Binding, Formula, rebind};
 use xdg_store::Store;
 
 /// Of some nodes, those for which a name has to stand so that the box makes a formula true, or false, whichever node a further name stands
@@ -26,7 +25,7 @@ use xdg_store::Store;
 pub(crate) fn quantified_row(
     store: &Store,
     paths: &Paths,
-    binding: &[u8; 256],
+    binding: &Binding,
     name: u8,
     other: u8,
     formula: &Formula,

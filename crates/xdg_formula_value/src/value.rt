@@ -3,15 +3,14 @@
 ghost use Rattle.std.specs.Prelude.{◌≡◌, ◌↔◌, false, IsTrue, map};
 ghost use Rattle.xdg_problem.specs.Claims.{EachIsOf, IsOf, Suits, claim, claims_of};
 ghost use Rattle.xdg_problem.specs.Places.{nodes};
-ghost use Rattle.xdg_problem.specs.Truths.{bound, AreNodes};
+ghost use Rattle.xdg_problem.specs.Truths.{bound, AreNodes, stands};
 ghost use Rattle.xdg_rules.specs.Worths.{Makes, RuleFalse};
 ghost use Rattle.xdg_store.specs.States.{Known};
 ghost use Rattle.xdg_formula_value.specs.Filling.{ArePaths};
-ghost use Rattle.xdg_formula_value.specs.Rows.{AreFirst, IsRowOn, stands};
+ghost use Rattle.xdg_formula_value.specs.Rows.{AreFirst, IsRowOn};
 ghost use Rattle.xdg_formula_value.specs.Several.{MakesSeveral};
 
 use crate::atoms::{attr_row, feat_row};
-use crate::binding::{node_of, none_bound};
 use crate::pair::{Pair, pair_row};
 use crate::paths::{Paths, dims_asked, tables_of};
 use crate::quantified::quantified_row;
@@ -19,7 +18,7 @@ use crate::rows::{constant, joined, still_open};
 use crate::way::Way;
 use xdg_graph::node_count;
 use xdg_nodeset::NodeSet;
-use xdg_problem::Formula;
+use xdg_problem::{Binding, Formula, node_of, none_bound};
 use xdg_store::Store;
 
 /// Of some nodes, those for which a name has to stand so that the box makes a formula true, or false.
@@ -28,7 +27,7 @@ use xdg_store::Store;
 pub(crate) fn row_of(
     store: &Store,
     paths: &Paths,
-    binding: &[u8; 256],
+    binding: &Binding,
     name: u8,
     formula: &Formula,
     truth: bool,
@@ -93,7 +92,7 @@ pub(crate) fn row_of(
 fn joined_row(
     store: &Store,
     paths: &Paths,
-    binding: &[u8; 256],
+    binding: &Binding,
     name: u8,
     formulas: &[Formula],
     truth: bool,
@@ -125,7 +124,7 @@ fn joined_row(
 pub(crate) fn makes(
     store: &Store,
     paths: &Paths,
-    binding: &[u8; 256],
+    binding: &Binding,
     formula: &Formula,
     truth: bool,
 ) -> bool
@@ -167,7 +166,7 @@ pub(crate) fn makes(
 fn makes_joined(
     store: &Store,
     paths: &Paths,
-    binding: &[u8; 256],
+    binding: &Binding,
     formulas: &[Formula],
     truth: bool,
     each: bool,

@@ -10,7 +10,6 @@ pub mod Judging
 pub mod Asked
 pub mod Guards
 pub mod Skipping
-pub mod Bindings
 pub mod AtomFacts
 pub mod Formed
 pub mod Bounds

@@ -1,5 +1,5 @@
 -- What formulas are judged on.
-use Rattle.std.specs.Prelude.{ℕ, ◌<◌, List, length, slice_index, slice_index_or}
+use Rattle.std.specs.Prelude.{ℕ, ◌<◌, List, length, slice_index_or}
 use Rattle.xdg_problem.specs.declared.analysis.Analysis.{Analysis}
 use Rattle.xdg_problem.specs.declared.parts.Parts.{Parts}
 use Rattle.xdg_problem.specs.Analyses.{IsAnalysis}
@@ -19,7 +19,3 @@ pub record IsReady (parts : Parts) (analysis : Analysis) (tables : List Neighbou
   pub problem : IsProblem parts
   pub fits : IsAnalysis parts analysis
   pub graphs : AreGraphs (length parts.dims) analysis tables
-
--- the node for which a name stands, in a table with a node for each name
-abbrev pub stands : List ℕ → ℕ → ℕ
-stands table name = slice_index table name

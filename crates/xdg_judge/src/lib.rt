@@ -4,7 +4,6 @@
 
 mod asking;
 mod atoms;
-mod binding;
 mod counts;
 mod judge;
 mod links;

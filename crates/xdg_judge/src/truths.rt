@@ -4,13 +4,12 @@ ghost use Rattle.std.specs.Prelude.{◌≡◌, ◌≤◌, ◌↔◌, IsTrue, len
 ghost use Rattle.xdg_problem.specs.Analyses.{IsAnalysis};
 ghost use Rattle.xdg_problem.specs.Claims.{claim};
 ghost use Rattle.xdg_problem.specs.Problems.{IsProblem};
-ghost use Rattle.xdg_problem.specs.Truths.{FormulaHolds, IsTrueIn, AreNodes};
-ghost use Rattle.xdg_judge.specs.Graphs.{AreGraphs, IsReady, stands};
+ghost use Rattle.xdg_problem.specs.Truths.{FormulaHolds, IsTrueIn, AreNodes, stands};
+ghost use Rattle.xdg_judge.specs.Graphs.{AreGraphs, IsReady};
 
 use crate::atoms::{has_entry, has_value, is_edge, is_path};
-use crate::binding::{Binding, bind, node_of, none_bound};
 use crate::links::{Direction, Neighbours};
-use xdg_problem::{Analysis, Formula, Parts};
+use xdg_problem::{Analysis, Binding, Formula, Parts, bind, node_of, none_bound};
 
 /// Whether a formula is true under a binding of names to nodes.
 #[cycle(truth)]
@@ -62,26 +61,26 @@ fn is_true(
             false
         }
         Formula::Edge(dim, mother, label, daughter) => {
-            let (upper, lower) = (node_of(binding, *mother), node_of(binding, *daughter));
+            let (upper, lower) = (node_of(binding, *mother).0, node_of(binding, *daughter).0);
             is_edge(parts, analysis, tables, *dim, upper, *label, lower)
         }
         Formula::Above(dim, upper, lower) => {
-            let (upper, lower) = (node_of(binding, *upper), node_of(binding, *lower));
+            let (upper, lower) = (node_of(binding, *upper).0, node_of(binding, *lower).0);
             is_path(parts, analysis, tables, *dim, upper, lower)
         }
-        Formula::Left(first, second) => node_of(binding, *first) < node_of(binding, *second),
-        Formula::Same(first, second) => node_of(binding, *first) == node_of(binding, *second),
+        Formula::Left(first, second) => node_of(binding, *first).0 < node_of(binding, *second).0,
+        Formula::Same(first, second) => node_of(binding, *first).0 == node_of(binding, *second).0,
         Formula::Attr(name, dim, attr, value) => {
             has_value(
                 parts,
                 analysis,
-                node_of(binding, *name),
+                node_of(binding, *name).0,
                 *dim,
                 *attr,
                 *value,
             )
         }
-        Formula::Feat(name, table) => has_entry(parts, analysis, node_of(binding, *name), table),
+        Formula::Feat(name, table) => has_entry(parts, analysis, node_of(binding, *name).0, table),
     }
 }
 

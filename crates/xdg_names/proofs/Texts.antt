@@ -1,5 +1,5 @@
 -- What is told of texts by number: where a text stands, and what one text more changes.
-use Rattle.std.proofs.Common.{◌≡◌, ℕ, zero, suc, ◌<◌, ◌+◌, Bool, true, false, cond, ◌||◌, if◌then◌else◌, List, [], ◌∷◌, ◌++◌, length, get_or, map, position, Option, None, Some, is_some, option_map, refl, sym, ap, subst, ◌∙◌, inl, inr, arith, true≢false}
+use Rattle.std.proofs.Common.{◌≡◌, ℕ, zero, suc, ◌<◌, ◌≤◌, ◌+◌, Bool, true, false, cond, ◌||◌, if◌then◌else◌, List, [], ◌∷◌, ◌++◌, length, get_or, map, position, Option, None, Some, is_some, option_map, unwrap_or, refl, sym, ap, subst, ◌∙◌, inl, inr, arith, true≢false}
 use Rattle.std.specs.List.{list_any, position_from}
 use Rattle.std.specs.Str.{bytes_eq}
 use Rattle.std.proofs.Math.Bool.{or-false}
@@ -76,6 +76,14 @@ place_of-Some (first ∷ texts) text place e = by (bytes_eq first text) refl (pl
         let l = later (place_of texts text) place e in
         let r = rest l.0 l.1 in
         (omega (arith, r.0, l.2), ap (λ k. get_or (first ∷ texts) k []) (sym l.2) ∙ r.1)
+
+-- and no place is past the last
+pub place_of-most : (texts : List (List ℕ)) (text : List ℕ) → unwrap_or (place_of texts text) 0 ≤ length texts
+place_of-most texts text = by (place_of texts text) refl
+  where
+    by : (found : Option ℕ) → place_of texts text ≡ found → unwrap_or found 0 ≤ length texts
+    by None e = omega arith
+    by (Some place) e = let stands = place_of-Some texts text place e in omega (arith, stands.0)
 
 pub place_of-None : (texts : List (List ℕ)) (text : List ℕ) → place_of texts text ≡ None → has_text texts text ≡ false
 place_of-None texts text e = sym (is_some-place_of texts text) ∙ ap is_some e

@@ -8,7 +8,8 @@ use Rattle.xdg_ast.specs.declared.terms.TermKind.{TermKind}
 use Rattle.xdg_ast.specs.declared.terms.TermKind.TheVariants as t
 use Rattle.xdg_ast.specs.declared.terms.ElemKind.TheVariants as e
 use Rattle.xdg_ast.specs.Language.{Language, is, token, made}
-use Rattle.xdg_ast.specs.Grammar.{Params, is_among, is_constant, name_of, number_of, named, inside, under, card, term_kind, term, elem_tail, elem_kind, elem, elems, keyed_term, terms}
+use Rattle.xdg_ast.specs.Grammar.{Params, is_constant, name_of, number_of, named, inside, under, card, term_kind, term, elem_tail, elem_kind, elem, elems, keyed_term, terms}
+use Rattle.xdg_base.specs.Texts.{has_text}
 use Rattle.xdg_base.specs.Spelling.{is_name}
 use Rattle.xdg_ast.specs.Words.{Word, word_of, quoted, constant, IsShortText, IsSpellable}
 use Rattle.xdg_ast.specs.Trees.{constant_in, term_words, elem_words}
@@ -26,7 +27,7 @@ use Rattle.xdg_ast.proofs.Bared.{bare_term_braces}
 -- ---- constants and parameters
 
 -- a text that is no parameter is a constant
-as_constant : (params : Params) (u : Lexeme) → is_among params (content_of u.kind u.text) ≡ false → named params u ≡ t.Const (name_of u)
+as_constant : (params : Params) (u : Lexeme) → has_text params (content_of u.kind u.text) ≡ false → named params u ≡ t.Const (name_of u)
 as_constant params u h = rw (h, and_false (is k.Name u.kind)) refl
 
 -- so is a quoted text
@@ -34,7 +35,7 @@ as_quoted : (params : Params) (u : Lexeme) → is k.Name u.kind ≡ false → na
 as_quoted params u h = rw h refl
 
 -- a name of a parameter is the parameter
-as_param : (params : Params) (u : Lexeme) → is k.Name u.kind ≡ true → is_among params (content_of u.kind u.text) ≡ true → named params u ≡ t.Param (name_of u)
+as_param : (params : Params) (u : Lexeme) → is k.Name u.kind ≡ true → has_text params (content_of u.kind u.text) ≡ true → named params u ≡ t.Param (name_of u)
 as_param params u h i = rw (h, i) refl
 
 quoted_says : (text : List ℕ) (u : Lexeme) → word_of u ≡ quoted text → (is k.Name u.kind ≡ false) × (content_of u.kind u.text ≡ text)
@@ -58,32 +59,32 @@ module _ (params : Params) where
   abbrev words_of_named : Language TermKind
   words_of_named = made (named params) (token is_constant)
 
-  const_words : (a : Name) (v : Bool) → is_among params a.text ≡ v → term_words params (t.Const a) ≡ (if v then quoted a.text else constant a.text) ∷ []
+  const_words : (a : Name) (v : Bool) → has_text params a.text ≡ v → term_words params (t.Const a) ≡ (if v then quoted a.text else constant a.text) ∷ []
   const_words a v h = term_words-Const params a ∙ ap (λ w. (if w then quoted a.text else constant a.text) ∷ []) h
 
   abbrev LikeTerm : TermKind → TermKind → Type 0
   LikeTerm = Like bare_term (term_words params)
 
-  const_written : (a : Name) (v : Bool) → is_among params a.text ≡ v → IsShortText a.text → Written words_of_named ((if v then quoted a.text else constant a.text) ∷ []) (λ y. LikeTerm y (t.Const a))
+  const_written : (a : Name) (v : Bool) → has_text params a.text ≡ v → IsShortText a.text → Written words_of_named ((if v then quoted a.text else constant a.text) ∷ []) (λ y. LikeTerm y (t.Const a))
   const_written a true h s = made_written (token_written is_constant (quoted a.text) (s, refl) refl)
       (λ u i. let says = quoted_says a.text u i in subst (λ y. LikeTerm y (t.Const a)) (sym (as_quoted params u says.0)) (const_like (name_of u) a says.1))
   const_written a false h s = made_written (token_written is_constant (constant a.text) (constant_spellable a.text s) (constant_kind (is_name a.text)))
-      (λ u i. let says = constant_says a.text u i in subst (λ y. LikeTerm y (t.Const a)) (sym (as_constant params u (ap (is_among params) says.1 ∙ h))) (const_like (name_of u) a says.1))
+      (λ u i. let says = constant_says a.text u i in subst (λ y. LikeTerm y (t.Const a)) (sym (as_constant params u (ap (has_text params) says.1 ∙ h))) (const_like (name_of u) a says.1))
 
-  param_written : (a : Name) → is_among params a.text ≡ true → is_name a.text ≡ true → IsShortText a.text → Written words_of_named (constant a.text ∷ []) (λ y. LikeTerm y (t.Param a))
+  param_written : (a : Name) → has_text params a.text ≡ true → is_name a.text ≡ true → IsShortText a.text → Written words_of_named (constant a.text ∷ []) (λ y. LikeTerm y (t.Param a))
   param_written a h n s = made_written (token_written is_constant (constant a.text) (constant_spellable a.text s) (constant_kind (is_name a.text)))
       (λ u i.
       let says = constant_says a.text u i in
       let e : is k.Name u.kind ≡ true = ap (λ (v : Word). is k.Name v.kind) i ∙ ap (λ b. is k.Name (if b then k.Name else k.Quoted)) n in
-      subst (λ y. LikeTerm y (t.Param a)) (sym (as_param params u e (ap (is_among params) says.1 ∙ h))) (param_like (name_of u) a says.1))
+      subst (λ y. LikeTerm y (t.Param a)) (sym (as_param params u e (ap (has_text params) says.1 ∙ h))) (param_like (name_of u) a says.1))
 
   abbrev NamedKept : TermKind → Type 0
   NamedKept = Kept words_of_named bare_term (term_words params)
 
-  const_kept : (u : Lexeme) (v : Bool) → is_among params (content_of u.kind u.text) ≡ v → IsShortText (content_of u.kind u.text) → named params u ≡ t.Const (name_of u) → NamedKept (named params u)
+  const_kept : (u : Lexeme) (v : Bool) → has_text params (content_of u.kind u.text) ≡ v → IsShortText (content_of u.kind u.text) → named params u ≡ t.Const (name_of u) → NamedKept (named params u)
   const_kept u v h s e = subst NamedKept (sym e) (kept_by (const_written (name_of u) v h s) (const_words (name_of u) v h))
 
-  named_kept : (u : Lexeme) (v w : Bool) → is_among params (content_of u.kind u.text) ≡ v → is k.Name u.kind ≡ w → is_constant u.kind ≡ true → IsSpellable (word_of u) → NamedKept (named params u)
+  named_kept : (u : Lexeme) (v w : Bool) → has_text params (content_of u.kind u.text) ≡ v → is k.Name u.kind ≡ w → is_constant u.kind ≡ true → IsSpellable (word_of u) → NamedKept (named params u)
   named_kept u false w h i c s = const_kept u false h (short_text u c s) (as_constant params u h)
   named_kept u true false h i c s = const_kept u true h (short_text u c s) (as_quoted params u i)
   named_kept u true true h i c s =
@@ -92,7 +93,7 @@ module _ (params : Params) where
   named_keeps : Keeps words_of_named words_of_named bare_term (term_words params)
   named_keeps = record {
     all = made_gives {G = λ u. (is_constant u.kind ≡ true) × IsSpellable (word_of u)} (token_gives (λ u c s. (c, s)))
-        (λ u g. named_kept u (is_among params (content_of u.kind u.text)) (is k.Name u.kind) refl refl g.0 g.1);
+        (λ u g. named_kept u (has_text params (content_of u.kind u.text)) (is k.Name u.kind) refl refl g.0 g.1);
   }
 
 -- ---- terms

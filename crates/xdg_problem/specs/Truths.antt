@@ -15,6 +15,10 @@ use Rattle.xdg_problem.specs.Claims.{claim_then, claim}
 abbrev pub bound : (ℕ → ℕ) → ℕ → ℕ → ℕ → ℕ
 bound binding name node other = cond (other == name) node (binding other)
 
+-- the node for which a name stands, in a table with a node for each name
+abbrev pub stands : List ℕ → ℕ → ℕ
+stands table name = slice_index table name
+
 -- no name is bound: each stands for the first node
 abbrev pub unbound : ℕ → ℕ
 unbound name = 0

@@ -6,6 +6,7 @@
 
 mod analysis;
 mod arguments;
+mod binding;
 mod branching;
 mod comparing;
 mod conditions;
@@ -30,6 +31,7 @@ mod with_rules;
 
 pub use analysis::{Analysis, Edge, is_before};
 pub use arguments::{attr_of, dim_of, truth_of};
+pub use binding::{Binding, bind, node_of, none_bound, rebind};
 pub use conditions::Condition;
 pub use copying::copy_words;
 pub use costing::cost_of;

@@ -7,7 +7,7 @@ use Rattle.std.proofs.lemmas.List.{map-id}
 use Rattle.xdg_base.specs.declared.faults.Cause.TheVariants as causes
 use Rattle.xdg_base.specs.declared.faults.Fault.{Fault}
 use Rattle.xdg_ast.specs.Misnamed.{IsUnknown, IsAgain}
-use Rattle.xdg_ast.specs.Grammar.{is_among}
+use Rattle.xdg_base.specs.Texts.{has_text}
 use Rattle.xdg_ast.specs.declared.names.Name.{Name}
 use Rattle.xdg_ast.specs.declared.terms.TermKind.{TermKind, out-TermKind}
 use Rattle.xdg_ast.specs.declared.terms.ElemKind.{ElemKind}
@@ -63,7 +63,7 @@ pub data Seen (free : List (List ℕ)) (t : Term) : Type 0 where
   open_param : (name : Name) → free_of free t ≡ Some name → ((bs : Bindings) → bound bs t ≡ bound_or t (bound_to bs name.text)) → Seen free t
   looked_at : free_of free t ≡ None → with_open free t ≡ Some t → Seen free t
 
-param_by : (free : List (List ℕ)) (t : Term) (name : Name) → out-TermKind t.kind ≡ TermKind-F.Param name → (b : Bool) → is_among free name.text ≡ b → Seen free t
+param_by : (free : List (List ℕ)) (t : Term) (name : Name) → out-TermKind t.kind ≡ TermKind-F.Param name → (b : Bool) → has_text free name.text ≡ b → Seen free t
 unfolding free_of with_open bound
 param_by free t name is true among =
     open_param name (ap (free_in free) is ∙ ap (λ (c : Bool). if c then Some name else None) among) (λ bs. ap (bound_in bs t) is)
@@ -75,7 +75,7 @@ unfolding free_of with_open
 other_by free t l is none some = looked_at (ap (free_in free) is ∙ none) (ap (unless_open free t) is ∙ some)
 
 seen_by : (free : List (List ℕ)) (t : Term) (l : TermKind-F ElemKind TermKind) → out-TermKind t.kind ≡ l → Seen free t
-seen_by free t (TermKind-F.Param name) is = param_by free t name is (is_among free name.text) refl
+seen_by free t (TermKind-F.Param name) is = param_by free t name is (has_text free name.text) refl
 seen_by free t l is = other_by free t l is refl refl
 
 pub seen : (free : List (List ℕ)) (t : Term) → Seen free t

@@ -1,6 +1,5 @@
 -- The parameters in braces are those of the elements.
-use Rattle.std.proofs.Common.{◌≡◌, ℕ, ◌+◌, ◌<◌, ◌≤◌, List, [], ◌∷◌, length, drop, get_or, Option, refl, sym, ap, ◌∙◌, subst}
-use Rattle.std.specs.Prelude.{bytes_eq, ◌||◌}
+use Rattle.std.proofs.Common.{◌≡◌, ℕ, ◌+◌, ◌<◌, ◌≤◌, List, length, drop, get_or, Option, sym, ap, ◌∙◌, subst}
 use Rattle.std.specs.List.{flat_map}
 use Rattle.std.proofs.lemmas.List.{at_drop_all}
 use Rattle.std.proofs.lemmas.Grind.{flat_map-append}
@@ -8,7 +7,6 @@ use Rattle.std.proofs.lemmas.List.Folds.{flat_map-map}
 use Rattle.xdg_base.specs.Faults.{fault_at}
 use Rattle.xdg_base.specs.declared.faults.Cause.TheVariants as causes
 use Rattle.xdg_base.specs.declared.faults.Fault.{Fault}
-use Rattle.xdg_ast.specs.Grammar.{is_among}
 use Rattle.xdg_ast.specs.declared.names.Name.{Name}
 use Rattle.xdg_ast.specs.declared.names.Spanned.{Spanned}
 use Rattle.xdg_ast.specs.declared.terms.TermKind.{TermKind}
@@ -18,7 +16,6 @@ use Rattle.xdg_ast.specs.declared.terms.ElemKind.TheVariants as e
 use Rattle.xdg_ast.specs.declared.terms.ElemKind.TheOpen.{TermKind-F, ElemKind-F}
 use Rattle.xdg_ast.specs.declared.terms.ElemKind.TheFolds.{fold-roll-ElemKind, fold-roll-TermKind}
 use Rattle.xdg_names.specs.First.{Tells, first, earlier}
-use Rattle.xdg_names.specs.Texts.{has_text}
 use Rattle.xdg_names.proofs.Listing.{lists_unknown, lists_tell}
 use Rattle.xdg_names.proofs.First.{first_turn, earlier-none}
 use Rattle.xdg_terms.specs.Forms.{Term}
@@ -28,18 +25,14 @@ use Rattle.xdg_facts.proofs.Parts.{Lists, lists_as, lists_each}
 
 -- ---- the law
 
-same_among : (free : List (List ℕ)) (text : List ℕ) → is_among free text ≡ has_text free text
-same_among [] text = refl
-same_among (x ∷ free) text = ap (λ b. bytes_eq x text || b) (same_among free text)
-
 stray_is : (free : List (List ℕ)) (name : Name) → Lists (stray free name) (λ f. (In free name.text → ⊥) × (fault_at causes.WrongKind name.span.start ≡ f))
 unfolding stray
-stray_is free name = rw (same_among free name.text) (lists_unknown free name.text (fault_at causes.WrongKind name.span.start))
+stray_is free name = lists_unknown free name.text (fault_at causes.WrongKind name.span.start)
 
 all_stray_are : (free : List (List ℕ)) (t : Term) → Lists (all_stray free t.kind) (IsStrayParam free t)
 all_stray_are free t = lists_as
     (lists_each (stray free) (λ name f. (In free name.text → ⊥) × (fault_at causes.WrongKind name.span.start ≡ f)) (tokens t.kind) (λ name _. stray_is free name))
-    (λ f. (λ k. record { name = k.0; stands = k.1.0; missing = k.1.1.0; fault = sym k.1.1.1 }, λ r. (r.name, (r.stands, (r.missing, sym r.fault)))))
+    (λ f. (λ k. record { name = k.0; used = k.1.0; missing = k.1.1.0; fault = sym k.1.1.1 }, λ r. (r.name, (r.used, (r.missing, sym r.fault)))))
 
 pub stray_law : (free : List (List ℕ)) (t : Term) (found : Option Fault) → found ≡ first (all_stray free t.kind) → Tells (IsStrayParam free t) found
 stray_law free t found is = subst (Tells (IsStrayParam free t)) (sym is) (lists_tell (all_stray free t.kind) (all_stray_are free t))

@@ -1,6 +1,6 @@
 -- What a term is where a type is wanted: which forms of terms there are, with the parameters bound.
 use Rattle.std.specs.Prelude.{ℕ, ◌==◌, if◌then◌else◌, List, [], ◌∷◌, length, Option, Some, None, bytes_eq}
-use Rattle.xdg_ast.specs.Grammar.{is_among}
+use Rattle.xdg_base.specs.Texts.{has_text}
 use Rattle.xdg_ast.specs.declared.names.Name.{Name}
 use Rattle.xdg_ast.specs.declared.names.Pair.{Pair}
 use Rattle.xdg_ast.specs.declared.names.Spanned.{Spanned}
@@ -53,7 +53,7 @@ abbrev pub with_bound : Bindings → Look
 with_bound bs t = Some (bound bs t)
 
 abbrev pub unless_open : List (List ℕ) → Term → TermKind-F ElemKind TermKind → Option Term
-unless_open free t (TermKind-F.Param name) = if is_among free name.text then None else Some t
+unless_open free t (TermKind-F.Param name) = if has_text free name.text then None else Some t
 unless_open free t _ = Some t
 
 -- the term, and nothing where it is one of the open parameters

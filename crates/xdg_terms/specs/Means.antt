@@ -24,6 +24,7 @@ use Rattle.xdg_terms.specs.Offences.{all_told}
 use Rattle.xdg_facts.specs.Membership.{In}
 use Rattle.xdg_facts.specs.Rises.{has}
 use Rattle.xdg_ast.specs.Texts.{texts}
+use Rattle.xdg_base.specs.Texts.{has_text}
 
 -- the constant with that number
 abbrev pub IsAt : List (List ℕ) → ℕ → List ℕ → Type 0
@@ -41,7 +42,7 @@ abbrev pub tuple_texts : Shapes → ℕ → List (List ℕ)
 tuple_texts ss n = chosen (d.constants_of ss) (places (sizes ss) n)
 
 abbrev pub fulfils_step : List (List ℕ) → GenKind-F Bool → Bool
-fulfils_step constants (GenKind-F.Const name) = list_any (λ constant. bytes_eq constant name.text) constants
+fulfils_step constants (GenKind-F.Const name) = has_text constants name.text
 fulfils_step constants (GenKind-F.And members) = list_all (λ member. member.kind) members
 fulfils_step constants (GenKind-F.Or members) = list_any (λ member. member.kind) members
 

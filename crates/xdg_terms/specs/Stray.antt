@@ -1,16 +1,16 @@
 -- Parameters where no class has them.
-use Rattle.std.specs.Prelude.{◌≡◌, ℕ, List, [], ◌∷◌, flat_map, if◌then◌else◌}
+use Rattle.std.specs.Prelude.{ℕ, List, [], ◌∷◌, flat_map, if◌then◌else◌}
 use Rattle.xdg_base.specs.Faults.{fault_at}
 use Rattle.xdg_base.specs.declared.faults.Cause.TheVariants as causes
 use Rattle.xdg_base.specs.declared.faults.Fault.{Fault}
-use Rattle.xdg_ast.specs.Grammar.{is_among}
+use Rattle.xdg_base.specs.Texts.{has_text}
 use Rattle.xdg_ast.specs.declared.names.Name.{Name}
 use Rattle.xdg_ast.specs.declared.terms.TermKind.{TermKind}
 use Rattle.xdg_ast.specs.declared.terms.ElemKind.{ElemKind}
 use Rattle.xdg_ast.specs.declared.terms.ElemKind.TheOpen.{TermKind-F, ElemKind-F}
 use Rattle.xdg_ast.specs.declared.terms.ElemKind.TheFolds.{fold-TermKind, fold-ElemKind}
 use Rattle.xdg_terms.specs.Forms.{Term}
-use Rattle.xdg_facts.specs.Membership.{In}
+use Rattle.xdg_ast.specs.Misnamed.{IsUnknown}
 
 -- ---- all parameters in a term
 
@@ -31,16 +31,13 @@ abbrev pub elem_tokens : ElemKind → List Name
 elem_tokens = fold-ElemKind (List Name) (List Name) elem_step term_step
 
 -- A parameter stands in the term, anywhere, that is none of these.
-pub record IsStrayParam (free : List (List ℕ)) (t : Term) (f : Fault) : Type 0 where
-  pub name : Name
-  pub stands : In (tokens t.kind) name
-  pub missing : In free name.text → ⊥
-  pub fault : f ≡ fault_at causes.WrongKind name.span.start
+abbrev pub IsStrayParam : List (List ℕ) → Term → Fault → Type 0
+IsStrayParam free t f = IsUnknown causes.WrongKind free (tokens t.kind) f
 
 -- ---- the same as a list
 
 unfoldable pub stray : List (List ℕ) → Name → List Fault
-stray free name = if is_among free name.text then [] else fault_at causes.WrongKind name.span.start ∷ []
+stray free name = if has_text free name.text then [] else fault_at causes.WrongKind name.span.start ∷ []
 
 abbrev pub all_stray : List (List ℕ) → TermKind → List Fault
 all_stray free kind = flat_map (stray free) (tokens kind)

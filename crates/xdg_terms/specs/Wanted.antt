@@ -1,6 +1,6 @@
 -- The open parameters that stand in a term, each with the type that is wanted there.
 use Rattle.std.specs.Prelude.{ℕ, List, [], ◌∷◌, map, flat_map, Option, Some, None, if◌then◌else◌, bytes_eq}
-use Rattle.xdg_ast.specs.Grammar.{is_among}
+use Rattle.xdg_base.specs.Texts.{has_text}
 use Rattle.xdg_ast.specs.declared.names.Name.{Name}
 use Rattle.xdg_ast.specs.declared.names.Spanned.{Spanned}
 use Rattle.xdg_ast.specs.declared.terms.TermKind.{TermKind, out-TermKind}
@@ -20,7 +20,7 @@ abbrev pub wants_of : List Wanted → List Want
 wants_of found = map (λ one. (one.name.now.text, shape one.ty.now)) found
 
 abbrev pub free_in : List (List ℕ) → TermKind-F ElemKind TermKind → Option Name
-free_in free (TermKind-F.Param name) = if is_among free name.text then Some name else None
+free_in free (TermKind-F.Param name) = if has_text free name.text then Some name else None
 free_in free _ = None
 
 -- the open parameter that the term is, if it is one

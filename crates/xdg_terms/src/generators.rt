@@ -74,7 +74,7 @@ fn is_some_fulfilled(members: &[Gen], fields: &[Ty], tuple: &Tuple<'_>) -> bool
 /// Whether the tuple has the constant in some field.
 fn has_constant(fields: &[Ty], tuple: &Tuple<'_>, name: &str) -> bool
     requires { InRange (sizes_of fields.now) tuple.now }
-    ensures { result ≡ list_any (λ constant. bytes_eq constant name.now) (chosen (spec.constants_each fields.now) tuple.now) }
+    ensures { result ≡ has_text (chosen (spec.constants_each fields.now) tuple.now) name.now }
 {
     for (i, field) in fields.iter().enumerate() {
         let constants = field.constants();

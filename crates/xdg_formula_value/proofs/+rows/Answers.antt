@@ -1,7 +1,7 @@
 use Rattle.std.proofs.Common.{ap, arith, refl, rules, ◌∙◌}
 use Rattle.xdg_problem.specs.declared.formula.Formula.TheViews.{the_lemmas}
 use Rattle.xdg_problem.specs.Places.{nodes}
-use Rattle.xdg_formula_value.specs.Rows.{stands}
+use Rattle.xdg_problem.specs.Truths.{stands}
 use Rattle.xdg_formula_value.proofs.Forms.{several_turn}
 use Rattle.xdg_problem.proofs.Bindings.{nodes_inside}
 use Rattle.xdg_formula_value.proofs.Narrowed.{IsSoOver, narrowed_none, narrowed_told, narrowed_first, narrowed_row}

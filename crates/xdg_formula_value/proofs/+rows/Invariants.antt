@@ -1,6 +1,7 @@
 use Rattle.std.proofs.Common.{take}
 use Rattle.xdg_problem.specs.Places.{nodes}
-use Rattle.xdg_formula_value.specs.Rows.{AreFirst, IsRowOn, stands}
+use Rattle.xdg_formula_value.specs.Rows.{AreFirst, IsRowOn}
+use Rattle.xdg_problem.specs.Truths.{stands}
 use Rattle.xdg_formula_value.proofs.Forms.{SeveralSo}
 use Rattle.xdg_formula_value.proofs.Narrowed.{IsSoOver}
 use Rattle.xdg_formula_value.proofs.Rowed.{Gathered}

@@ -1,5 +1,5 @@
 use Rattle.xdg_problem.specs.Claims.{claim}
-use Rattle.xdg_formula_value.specs.Rows.{stands}
+use Rattle.xdg_problem.specs.Truths.{stands}
 use Rattle.xdg_formula_value.proofs.Concerning.{attr_found}
 use Rattle.xdg_problem.proofs.Bindings.{nodes_unbound}
 use Rattle.xdg_formula_value.proofs.about.found_attr.Goals as goal

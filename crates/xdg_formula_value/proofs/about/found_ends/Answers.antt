@@ -1,6 +1,6 @@
 use Rattle.std.proofs.Common.{arith}
 use Rattle.xdg_problem.specs.Claims.{claim}
-use Rattle.xdg_formula_value.specs.Rows.{stands}
+use Rattle.xdg_problem.specs.Truths.{stands}
 use Rattle.xdg_formula_value.proofs.Concerning.{ends_second, ends_both}
 use Rattle.xdg_problem.proofs.Bindings.{nodes_inside, nodes_unbound}
 use Rattle.xdg_formula_value.proofs.about.found_ends.Goals as goal

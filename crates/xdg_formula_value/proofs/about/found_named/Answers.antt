@@ -1,7 +1,7 @@
 use Rattle.std.proofs.Common.{◌≡◌, true}
 use Rattle.xdg_problem.specs.Claims.{claim}
 use Rattle.xdg_formula_value.specs.Lost.{AgreeBut}
-use Rattle.xdg_formula_value.specs.Rows.{stands}
+use Rattle.xdg_problem.specs.Truths.{stands}
 use Rattle.xdg_formula_value.proofs.Finding.{agree_rest, finds_weaker}
 use Rattle.xdg_problem.proofs.Bindings.{nodes_inside}
 use Rattle.xdg_formula_value.proofs.about.found_named.Goals as goal

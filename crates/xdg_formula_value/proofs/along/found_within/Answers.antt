@@ -2,7 +2,7 @@ use Rattle.std.proofs.Common.{◌≡◌, ◌∙◌, subst, sym, true}
 use Rattle.std.proofs.lemmas.Bool.{and_parts}
 use Rattle.xdg_problem.specs.Claims.{claim}
 use Rattle.xdg_problem.specs.Places.{nodes}
-use Rattle.xdg_formula_value.specs.Rows.{stands}
+use Rattle.xdg_problem.specs.Truths.{stands}
 use Rattle.xdg_formula_value.proofs.Finding.{finds_on}
 use Rattle.xdg_problem.proofs.Bindings.{nodes_inside, nodes_unbound}
 use Rattle.xdg_formula_value.proofs.Rowed.{first_later}

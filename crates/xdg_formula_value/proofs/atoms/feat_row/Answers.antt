@@ -1,8 +1,8 @@
 use Rattle.std.proofs.Common.{◌≡◌, ◌∙◌, true, arith, sym, subst}
 use Rattle.xdg_problem.specs.Places.{nodes}
-use Rattle.xdg_problem.specs.Truths.{says, HasTruth}
+use Rattle.xdg_problem.specs.Truths.{says, HasTruth, stands}
 use Rattle.xdg_rules.specs.Rules.{EachEntry}
-use Rattle.xdg_formula_value.specs.Rows.{AreFirst, stands}
+use Rattle.xdg_formula_value.specs.Rows.{AreFirst}
 use Rattle.xdg_formula_value.proofs.Rowed.{first_later, gathered_more, gathered_row, gathered_start}
 use Rattle.xdg_facts.proofs.Rising.{head_in}
 use Rattle.xdg_formula_value.proofs.Told.{else_row, name_row}

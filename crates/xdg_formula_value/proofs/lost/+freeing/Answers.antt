@@ -1,7 +1,7 @@
 use Rattle.std.proofs.Common.{ap, arith, length}
 use Rattle.xdg_problem.specs.Claims.{claim}
 use Rattle.xdg_formula_value.specs.Lost.{AgreeBut}
-use Rattle.xdg_formula_value.specs.Rows.{stands}
+use Rattle.xdg_problem.specs.Truths.{stands}
 use Rattle.xdg_formula_value.proofs.Finding.{finds_on, found_whole, found_single, found_double, nodes_start, nodes_turn, nodes_end}
 use Rattle.xdg_problem.proofs.Bindings.{nodes_inside}
 use Rattle.xdg_formula_value.proofs.lost.+freeing.Goals as goal

@@ -1,6 +1,6 @@
 use Rattle.std.proofs.Common.{length}
 use Rattle.xdg_problem.specs.Claims.{claim}
-use Rattle.xdg_formula_value.specs.Rows.{stands}
+use Rattle.xdg_problem.specs.Truths.{stands}
 use Rattle.xdg_formula_value.proofs.Finding.{NoneUpTo}
 use Rattle.xdg_formula_value.proofs.lost.+freeing.Given as goal
 

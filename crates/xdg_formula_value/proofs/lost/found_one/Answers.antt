@@ -1,9 +1,8 @@
 use Rattle.std.proofs.Common.{false}
 use Rattle.xdg_problem.specs.Claims.{claim}
 use Rattle.xdg_problem.specs.Places.{nodes}
-use Rattle.xdg_problem.specs.Truths.{bound}
+use Rattle.xdg_problem.specs.Truths.{bound, stands}
 use Rattle.xdg_rules.specs.Worths.{Makes}
-use Rattle.xdg_formula_value.specs.Rows.{stands}
 use Rattle.xdg_formula_value.proofs.Finding.{found_nowhere}
 use Rattle.xdg_formula_value.proofs.Rowed.{over_told}
 use Rattle.xdg_formula_value.proofs.lost.found_one.Goals as goal

@@ -1,6 +1,7 @@
 use Rattle.xdg_problem.specs.Claims.{claim}
 use Rattle.xdg_problem.specs.Places.{nodes}
-use Rattle.xdg_formula_value.specs.Rows.{AreFirst, stands}
+use Rattle.xdg_formula_value.specs.Rows.{AreFirst}
+use Rattle.xdg_problem.specs.Truths.{stands}
 use Rattle.xdg_formula_value.proofs.Finding.{NonePassed}
 use Rattle.xdg_formula_value.proofs.lost.found_two.Given as goal
 

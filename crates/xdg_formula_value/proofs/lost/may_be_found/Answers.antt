@@ -1,5 +1,5 @@
 use Rattle.xdg_problem.specs.Claims.{claim}
-use Rattle.xdg_formula_value.specs.Rows.{stands}
+use Rattle.xdg_problem.specs.Truths.{stands}
 use Rattle.xdg_formula_value.proofs.Finding.{found_outside}
 use Rattle.xdg_formula_value.proofs.lost.may_be_found.Goals as goal
 

@@ -1,9 +1,9 @@
 use Rattle.std.proofs.Common.{subst}
 use Rattle.xdg_problem.specs.Places.{nodes}
-use Rattle.xdg_problem.specs.Truths.{bound}
+use Rattle.xdg_problem.specs.Truths.{bound, stands}
 use Rattle.xdg_formula_value.specs.Pairs.{Relates}
 use Rattle.xdg_formula_value.specs.Pairs as spec
-use Rattle.xdg_formula_value.specs.Rows.{IsRow, stands}
+use Rattle.xdg_formula_value.specs.Rows.{IsRow}
 use Rattle.xdg_formula_value.proofs.Rowed.{row_told}
 use Rattle.xdg_formula_value.proofs.pair.pair_row.Goals as goal
 

@@ -1,7 +1,8 @@
 use Rattle.std.proofs.Common.{◌≡◌, subst}
 use Rattle.xdg_problem.specs.Places.{nodes}
 use Rattle.xdg_formula_value.specs.Pairs.{Along, Relates}
-use Rattle.xdg_formula_value.specs.Rows.{IsRow, stands}
+use Rattle.xdg_formula_value.specs.Rows.{IsRow}
+use Rattle.xdg_problem.specs.Truths.{stands}
 use Rattle.xdg_formula_value.specs.declared.way.Way.TheVariants as ways
 use Rattle.xdg_formula_value.proofs.Paired.{both_row, first_row, second_row, neither_row}
 use Rattle.xdg_formula_value.proofs.pair.related_row.Goals as goal

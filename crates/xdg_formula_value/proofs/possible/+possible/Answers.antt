@@ -1,4 +1,4 @@
-use Rattle.xdg_formula_value.specs.Rows.{stands}
+use Rattle.xdg_problem.specs.Truths.{stands}
 use Rattle.xdg_formula_value.proofs.Bounding.{several_bounds_turn}
 use Rattle.xdg_formula_value.proofs.possible.+possible.Goals as goal
 

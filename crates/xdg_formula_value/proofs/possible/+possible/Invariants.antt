@@ -1,5 +1,6 @@
 use Rattle.std.proofs.Common.{take}
-use Rattle.xdg_formula_value.specs.Rows.{Bounds, stands}
+use Rattle.xdg_formula_value.specs.Rows.{Bounds}
+use Rattle.xdg_problem.specs.Truths.{stands}
 use Rattle.xdg_formula_value.proofs.Bounding.{SeveralPossible}
 use Rattle.xdg_formula_value.proofs.possible.+possible.Given as goal
 

@@ -1,5 +1,5 @@
 use Rattle.std.proofs.Common.{[]}
-use Rattle.xdg_formula_value.specs.Rows.{stands}
+use Rattle.xdg_problem.specs.Truths.{stands}
 use Rattle.xdg_formula_value.proofs.Bounding.{second_bounds}
 use Rattle.xdg_formula_value.proofs.possible.possible_second.Goals as goal
 

@@ -1,4 +1,4 @@
-use Rattle.xdg_formula_value.specs.Rows.{stands}
+use Rattle.xdg_problem.specs.Truths.{stands}
 use Rattle.xdg_formula_value.proofs.Wholes.{several_skip, several_turn, every_told, any_told}
 use Rattle.xdg_formula_value.proofs.Told.{alike, differ}
 use Rattle.xdg_formula_value.proofs.value.+whole.Goals as goal

@@ -1,5 +1,5 @@
 use Rattle.std.proofs.Common.{◌≡◌, ◌↔◌, true, take}
-use Rattle.xdg_formula_value.specs.Rows.{stands}
+use Rattle.xdg_problem.specs.Truths.{stands}
 use Rattle.xdg_formula_value.proofs.Wholes.{SeveralMade}
 use Rattle.xdg_formula_value.proofs.value.+whole.Given as goal
 

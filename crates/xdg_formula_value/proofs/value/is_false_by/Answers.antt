@@ -2,7 +2,7 @@ use Rattle.std.proofs.Common.{◌↔◌, false, subst}
 use Rattle.std.specs.Prelude.{IsTrue}
 use Rattle.xdg_problem.specs.Claims.{claim}
 use Rattle.xdg_rules.specs.Worths.{Makes}
-use Rattle.xdg_formula_value.specs.Rows.{stands}
+use Rattle.xdg_problem.specs.Truths.{stands}
 use Rattle.xdg_problem.proofs.Bindings.{nodes_unbound}
 use Rattle.xdg_formula_value.proofs.value.is_false_by.Goals as goal
 

@@ -1,6 +1,6 @@
 use Rattle.std.proofs.Common.{rules, arith, true, false, ap, ◌∙◌}
 use Rattle.xdg_problem.specs.declared.formula.Formula.TheViews.{the_lemmas}
-use Rattle.xdg_judge.specs.Graphs.{stands}
+use Rattle.xdg_problem.specs.Truths.{stands}
 use Rattle.xdg_problem.proofs.Bindings.{nodes_inside}
 use Rattle.xdg_problem.proofs.Claimed.{claim_and, claim_or, claim_every, claim_any}
 use Rattle.xdg_problem.specs.Claims.{claim}

@@ -1,5 +1,5 @@
 use Rattle.std.specs.Prelude.{true, false}
-use Rattle.xdg_judge.specs.Graphs.{stands}
+use Rattle.xdg_problem.specs.Truths.{stands}
 use Rattle.xdg_judge.proofs.Formed.{SoFar, SoBelow}
 use Rattle.xdg_judge.proofs.truths.+truth.Given as goal
 

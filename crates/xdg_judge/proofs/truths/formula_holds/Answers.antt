@@ -1,4 +1,4 @@
-use Rattle.xdg_judge.specs.Graphs.{stands}
+use Rattle.xdg_problem.specs.Truths.{stands}
 use Rattle.xdg_problem.proofs.Bindings.{nodes_unbound}
 use Rattle.xdg_judge.proofs.Formed.{holds_unbound}
 use Rattle.xdg_judge.proofs.truths.formula_holds.Goals as goal

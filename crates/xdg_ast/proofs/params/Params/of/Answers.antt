@@ -5,7 +5,8 @@ use Rattle.std.proofs.lemmas.List.{map_more}
 use Rattle.std.proofs.lemmas.List.Folds.{list_any-append}
 use Rattle.std.proofs.lemmas.Map.Text.{btree_set_updates_text}
 use Rattle.xdg_ast.specs.declared.grammar.ClassParam.{ClassParam}
-use Rattle.xdg_ast.specs.Grammar.{is_among, params_of}
+use Rattle.xdg_ast.specs.Grammar.{params_of}
+use Rattle.xdg_base.specs.Texts.{has_text}
 use Rattle.xdg_ast.proofs.params.Params.of.Goals as goal
 
 last_first : (a b : Bool) → (a || (b || false)) ≡ cond b true a
@@ -15,8 +16,8 @@ last_first false true = refl
 last_first false false = refl
 
 -- a text is among names and one more if it is that one, or among them
-one_more : (names : List (List ℕ)) (name text : List ℕ) → is_among (names ++ name ∷ []) text ≡ cond (bytes_eq name text) true (is_among names text)
-one_more names name text = list_any-append (λ param. bytes_eq param text) names (name ∷ []) ∙ last_first (is_among names text) (bytes_eq name text)
+one_more : (names : List (List ℕ)) (name text : List ℕ) → has_text (names ++ name ∷ []) text ≡ cond (bytes_eq name text) true (has_text names text)
+one_more names name text = list_any-append (λ param. bytes_eq param text) names (name ∷ []) ∙ last_first (has_text names text) (bytes_eq name text)
 
 -- the names of one parameter more
 next_name : (params : List ClassParam) (i : ℕ) (param : ClassParam) (name : List ℕ) → i < length params → param ≡ get_or params i param → name ≡ param.name.text
@@ -26,8 +27,8 @@ next_name params i param name within is same =
 
 -- what is found among them
 found_next : (names more : List (List ℕ)) (name key : List ℕ) (old new : List ℕ → Bool) → key ≡ name → more ≡ names ++ name ∷ []
-    → ((text : List ℕ) → new text ≡ cond (bytes_eq key text) true (old text)) → ((text : List ℕ) → old text ≡ is_among names text)
-    → (text : List ℕ) → new text ≡ is_among more text
+    → ((text : List ℕ) → new text ≡ cond (bytes_eq key text) true (old text)) → ((text : List ℕ) → old text ≡ has_text names text)
+    → (text : List ℕ) → new text ≡ has_text more text
 found_next names more name key old new same all step found text =
     step text ∙ rw (same, found text, all) (sym (one_more names name text))
 
