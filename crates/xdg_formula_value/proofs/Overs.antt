@@ -1,17 +1,13 @@
 -- Whether a set of nodes has members, and what that says of other sets.
-use Rattle.std.proofs.Common.{◌≡◌, ◌↔◌, ◌⊎◌, ℕ, ◌<◌, IsTrue, inl, inr, zero, suc, Bool, true, false, ◌&&◌, List, [], ◌∷◌, length, refl, sym, ◌∙◌, arith}
+use Rattle.std.proofs.Common.{◌≡◌, ◌↔◌, ◌⊎◌, ℕ, ◌<◌, IsTrue, inl, inr, zero, suc, Bool, true, false, ◌&&◌, List, length, refl, sym, ◌∙◌, arith}
 use Rattle.std.specs.Prelude.{not, ◌==◌}
-use Rattle.std.proofs.lemmas.Bool.{cases_Bool, and_parts, and_from, eq-eqb, eqb-true, false≢true, false_from_ne_true, not_from_false, both_ways, not-true}
+use Rattle.std.proofs.lemmas.Bool.{cases_Bool, and_parts, and_from, eqb-true, false≢true, false_from_ne_true, not_from_false, both_ways, not-true}
 use Rattle.xdg_graph.specs.Every.{IsEvery}
 use Rattle.xdg_formula_value.specs.Rows.{Over}
 use Rattle.xdg_facts.proofs.Rising.{contains_of_has}
-use Rattle.xdg_facts.proofs.Truths.{or_here}
 use Rattle.xdg_facts.specs.Rises.{has}
 use Rattle.xdg_nodeset.proofs.TableSets.{none_in}
-
-some_has : (s : List ℕ) → 0 < length s → (v : ℕ) × (has s v ≡ true)
-some_has [] some = absurd (omega (arith, some))
-some_has (m ∷ s) some = (m, or_here (m == m) (has s m) (eq-eqb m m refl))
+use Rattle.xdg_store.proofs.Labelled.{some_in}
 
 -- no member is missing
 pub over_each : (n : ℕ) (all set rest : List ℕ) → IsEvery n all → ((v : ℕ) → has rest v ≡ (has all v && not (has set v))) → (length rest ≡ 0) ↔ Over true n (λ v. has set v ≡ true)
@@ -22,7 +18,7 @@ over_each n all set rest every is = (
   ],
   λ each. elim (cases_none (length rest)) [
     | inl none ↦ none
-    | inr some ↦ (let found = some_has rest some in let both = and_parts (has all found.0) (not (has set found.0)) (sym (is found.0) ∙ found.1) in
+    | inr some ↦ (let found = some_in rest some in let both = and_parts (has all found.0) (not (has set found.0)) (sym (is found.0) ∙ found.1) in
         absurd (both_ways (has set found.0) (not-true (has set found.0) both.1) (each found.0 ((every found.0).0 both.0))))
   ],
 )
@@ -34,7 +30,7 @@ over_each n all set rest every is = (
 -- some member is there
 pub over_some : (n : ℕ) (all set rest : List ℕ) → IsEvery n all → ((v : ℕ) → has rest v ≡ (has all v && has set v)) → (0 < length rest) ↔ Over false n (λ v. has set v ≡ true)
 over_some n all set rest every is = (
-  λ some. (let found = some_has rest some in let both = and_parts (has all found.0) (has set found.0) (sym (is found.0) ∙ found.1) in (found.0, (every found.0).0 both.0, both.1)),
+  λ some. (let found = some_in rest some in let both = and_parts (has all found.0) (has set found.0) (sym (is found.0) ∙ found.1) in (found.0, (every found.0).0 both.0, both.1)),
   λ some. (let within = (contains_of_has rest some.0 (is some.0 ∙ and_from (has all some.0) (has set some.0) ((every some.0).1 some.1) some.2)).1 in omega (arith, within)),
 )
 
