@@ -13,12 +13,12 @@ use Rattle.xdg_inputs.specs.Grammars.{IsBadGrammar}
 use Rattle.xdg_inputs.specs.Outcomes.{MeaningThen}
 use Rattle.xdg_inputs.specs.Refusals.{Refuses, Stops, refusal_of}
 use Rattle.xdg_inputs.specs.Runs.{Ends, Leaves}
-use Rattle.xdg_inputs.specs.Stages.{Accepts, Behind, accepted, refused}
+use Rattle.xdg_inputs.specs.Stages.{Accepts, Behind}
 use Rattle.xdg_inputs.specs.GrammarFiles.{ReadText}
 use Rattle.xdg_inputs.specs.declared.refusals.Refusal.{Refusal}
 use Rattle.xdg_inputs.specs.declared.status.Status.{Status}
 use Rattle.xdg_inputs.specs.declared.status.Status.TheVariants as statuses
-use Rattle.xdg_inputs.proofs.Leaving.{stopped_leaves}
+use Rattle.xdg_inputs.proofs.Leaving.{accepted_ends, past, stopped_leaves}
 use Rattle.xdg_inputs.proofs.Meaning.{Only, meaning_accepted, meaning_refused}
 
 -- where nothing was added, all is left
@@ -38,19 +38,12 @@ memory_part O held = λ status text o. nothing_added held held text refl
 -- ---- a step
 
 module _ (A : Type 0) (bad : Status) (Refused : List ℕ → Fault → Type 0) (Has : A → Type 0) (next : A → Status → List ℕ → Type 0) where
-  past : (a : A) (status : Status) (line : List ℕ) → Accepts A Refused Has a → Behind A bad Refused Has next status line → next a status line
-  past a status line k (refused text f r s l) = absurd (k.never text f r)
-  past a status line k (accepted b h n) = subst (λ z. next z status line) (k.one b h) n
-
-  ends_past : (a : A) (result : Status) (old new : Option (List ℕ)) → Accepts A Refused Has a → Ends (next a) result old new → Ends (Behind A bad Refused Has next) result old new
-  ends_past a result old new k e = record { text = e.text; outcome = accepted a k.has e.outcome; only = λ other more o. e.only other more (past a other more k o); appends = e.appends }
-
   -- what comes next leaves what the step leaves
   pub accepted_part : (a : A) (result : Status) (old new : Option (List ℕ)) → Accepts A Refused Has a → LeavesPart (next a) result old new → LeavesPart (Behind A bad Refused Has next) result old new
   accepted_part a statuses.ReadFault old new k e = e
-  accepted_part a statuses.OutOfMemory old new k e = λ status text o. e status text (past a status text k o)
-  accepted_part a statuses.WriteFault old new k e = λ status text o. e status text (past a status text k o)
-  accepted_part a result old new k e = ends_past a result old new k e
+  accepted_part a statuses.OutOfMemory old new k e = λ status text o. e status text (past A bad Refused Has next a status text k o)
+  accepted_part a statuses.WriteFault old new k e = λ status text o. e status text (past A bad Refused Has next a status text k o)
+  accepted_part a result old new k e = accepted_ends A bad Refused Has next a result old new k e
 
   -- why a step came to nothing, as `stopped_leaves` says it
   pub stopped_part : (Told : Type 0) (before after : ℕ) (result : Status) (refusal : Refusal) (old new : Option (List ℕ)) → Told → (Ends (Behind A bad Refused Has next) bad old new → Leaves (Behind A bad Refused Has next) bad old new)

@@ -48,11 +48,11 @@ module _ (A : Type 0) (bad : Status) (Refused : List ℕ → Fault → Type 0) (
   O : Status → List ℕ → Type 0
   O = Behind A bad Refused Has next
 
-  past : (a : A) (status : Status) (line : List ℕ) → Accepts A Refused Has a → Behind A bad Refused Has next status line → next a status line
+  pub past : (a : A) (status : Status) (line : List ℕ) → Accepts A Refused Has a → Behind A bad Refused Has next status line → next a status line
   past a status line k (refused text f r s l) = absurd (k.never text f r)
   past a status line k (accepted b h n) = subst (λ z. next z status line) (k.one b h) n
 
-  accepted_ends : (a : A) (result : Status) (old new : Option (List ℕ)) → Accepts A Refused Has a → Ends (next a) result old new → Ends (Behind A bad Refused Has next) result old new
+  pub accepted_ends : (a : A) (result : Status) (old new : Option (List ℕ)) → Accepts A Refused Has a → Ends (next a) result old new → Ends (Behind A bad Refused Has next) result old new
   accepted_ends a result old new k e = record { text = e.text; outcome = accepted a k.has e.outcome; only = λ other more o. e.only other more (past a other more k o); appends = e.appends }
 
   -- what comes next leaves what the step leaves

@@ -8,6 +8,7 @@ use Rattle.xdg_problem.specs.Vectors.{shape}
 use Rattle.xdg_store.specs.States.{State, Known}
 use Rattle.xdg_propcore.specs.Standing.{AreHeld, Held, box_at}
 use Rattle.xdg_propcore.specs.Steps.{Extends}
+use Rattle.xdg_facts.proofs.Options.{same_mark}
 
 module _ (still : Parts → List (List Bool) → Type 0) where
   -- a box of the history is one of it still
@@ -53,14 +54,11 @@ module _ {P : Type 0} (still : P → Parts → List (List Bool) → Type 0) (pro
     each = λ at d l mark is. absurd (let n : None ≡ Some mark = sym (none at (omega (arith, l, count))) ∙ is in cc);
   }
 
-  some_same : (a b : ℕ) → Some a ≡ Some b → a ≡ b
-  some_same a b e = cc
-
   -- all have the same
   pub all_held : (s : State) (mark : ℕ) (marks : List (Option ℕ)) → length marks ≡ length props → ((at : ℕ) → at < length marks → get_or marks at None ≡ Some mark) → All (λ p. Held (still p) s mark) props → AreHeld still props s marks
   all_held s mark marks count all held = record {
     count = count;
-    each = λ at d l other is. subst (λ m. Held (still (get_or props at d)) s m) (some_same mark other (sym (all at (omega (arith, l, count))) ∙ is)) (held at d l);
+    each = λ at d l other is. subst (λ m. Held (still (get_or props at d)) s m) (same_mark mark other (sym (all at (omega (arith, l, count))) ∙ is)) (held at d l);
   }
 
   -- one gets another
@@ -72,7 +70,7 @@ module _ {P : Type 0} (still : P → Parts → List (List Bool) → Type 0) (pro
         each = λ i d m other some. elim (cases_eq at i) [
           | inl q ↦
               let here : get_or next i None ≡ Some mark = ap (λ z. get_or z i None) next_is ∙ ap (λ z. get_or (set marks at (Some mark)) z None) (sym q) ∙ get_or-set_same marks at (Some mark) None (omega (arith, l, count)) in
-              subst (λ z. Held (still z) s other) (is ∙ ap (λ z. get_or props z p) q ∙ get_or_default props i p d m) (subst (Held (still p) s) (some_same mark other (sym here ∙ some)) held)
+              subst (λ z. Held (still z) s other) (is ∙ ap (λ z. get_or props z p) q ∙ get_or_default props i p d m) (subst (Held (still p) s) (same_mark mark other (sym here ∙ some)) held)
           | inr f ↦ h.each i d m other (sym (ap (λ z. get_or z i None) next_is ∙ get_or-set_other marks at i (Some mark) None (λ z. f (sym z))) ∙ some)
         ];
       }

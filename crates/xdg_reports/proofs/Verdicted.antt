@@ -1,5 +1,5 @@
 -- The texts of verdicts, piece by piece.
-use Rattle.std.proofs.Common.{◌≡◌, ℕ, suc, ◌<◌, ◌+◌, List, ◌∷◌, ◌++◌, length, get_or, slice_get, drop, None, unwrap_or, sym, ap, ap₂, ◌∙◌, add-one}
+use Rattle.std.proofs.Common.{◌≡◌, ℕ, ◌<◌, ◌+◌, List, ◌++◌, length, get_or, slice_get, drop, None, unwrap_or, sym, ap, ap₂, ◌∙◌, add-one}
 use Rattle.std.proofs.Math.Seq.{drop-cons}
 use Rattle.std.proofs.lemmas.Option.{unwrap_or-slice_get}
 use Rattle.xdg_base.specs.declared.ids.DimId.{DimId}
@@ -11,6 +11,7 @@ use Rattle.xdg_problem.specs.declared.parts.Parts.{Parts}
 use Rattle.xdg_problem.specs.Arguments.{no_plan}
 use Rattle.xdg_judge.specs.declared.verdict.Verdict.{Verdict}
 use Rattle.xdg_reports.specs.VerdictsText.{behind, item_text, items_text, verdict_line, verdict_lines}
+use Rattle.xdg_facts.proofs.Lists.{from_place}
 
 abbrev pub zero_dim : DimId
 zero_dim = record { 0 = 0 }
@@ -30,6 +31,3 @@ pub lines_from : (parts : Parts) (own : ℕ) (rules : List Rule) (groups : List 
     → verdict_lines parts own rules i (drop i groups) (drop i verdicts) ≡ verdict_line parts own rules i group verdict ++ verdict_lines parts own rules (i + 1) (drop (i + 1) groups) (drop (i + 1) verdicts)
 lines_from parts own rules groups verdicts i group verdict within is there at =
     ap₂ (verdict_lines parts own rules i) (from_place groups i group within is) (from_place verdicts i verdict there at)
-  where
-    from_place : {X : Type 0} (xs : List X) (k : ℕ) (x : X) → k < length xs → x ≡ get_or xs k x → drop k xs ≡ x ∷ drop (k + 1) xs
-    from_place xs k x h e = rw (add-one) (drop-cons xs k x h ∙ ap (λ z. z ∷ drop (suc k) xs) (sym e))
