@@ -1,5 +1,5 @@
 -- The value of a term, as a function of it. Of a term with an offence it is some value.
-use Rattle.std.specs.Prelude.{ℕ, true, List, [], ◌∷◌, ◌++◌, map, Option, Some, None, if◌then◌else◌, unwrap_or, bytes_eq, codes}
+use Rattle.std.specs.Prelude.{ℕ, ◌+◌, true, List, [], ◌∷◌, ◌++◌, map, Option, Some, None, if◌then◌else◌, unwrap_or, bytes_eq, codes}
 use Rattle.xdg_ast.specs.declared.names.Name.{Name}
 use Rattle.xdg_ast.specs.declared.names.Spanned.{Spanned}
 use Rattle.xdg_ast.specs.declared.terms.CardKind.{CardKind}

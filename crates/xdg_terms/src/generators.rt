@@ -1,7 +1,8 @@
 //! The tuples that a generator tells.
 
-ghost use Rattle.std.specs.Prelude.{◌≡◌, IfOk, bytes_eq};
+ghost use Rattle.std.specs.Prelude.{◌≡◌, IfOk};
 ghost use Rattle.std.specs.List.{list_any, list_all};
+ghost use Rattle.xdg_base.specs.Texts.{has_text};
 ghost use Rattle.xdg_domain.specs.Shapes.{shape, IsTupleType};
 ghost use Rattle.xdg_domain.specs.Sized.{sizes_of};
 ghost use Rattle.xdg_domain.specs.Tuples.{InRange};
