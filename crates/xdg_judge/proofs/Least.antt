@@ -1,14 +1,14 @@
 -- The least tuple from the first three numbers that fail.
-use Rattle.std.proofs.Common.{ℕ, ◌<◌, inl, inr, List, [], ◌∷◌, refl, sym, subst, arith, rules}
-use Rattle.std.proofs.lemmas.Bool.{cases_order}
+use Rattle.std.proofs.Common.{◌≡◌, ℕ, ◌<◌, inl, inr, true, List, [], ◌∷◌, length, get_or, take, drop, map, refl, sym, subst, arith, rules}
+use Rattle.std.specs.Prelude.{nat_lt}
+use Rattle.std.proofs.lemmas.Bool.{cases_order, ltb-true}
 use Rattle.xdg_facts.specs.Order.{AtMost}
 use Rattle.xdg_problem.specs.declared.analysis.Edge.{Edge}
 use Rattle.xdg_problem.specs.declared.conditions.Condition.{Condition}
 use Rattle.xdg_problem.specs.declared.conditions.Condition.TheVariants as conditions
 use Rattle.xdg_problem.specs.declared.parts.Group.{Group}
 use Rattle.xdg_problem.specs.declared.parts.Parts.{Parts}
-use Rattle.xdg_problem.specs.Arguments.{first_dim, label_count}
-use Rattle.xdg_problem.specs.Conditions.{AreBelow, IsTuple}
+use Rattle.xdg_problem.specs.Conditions.{AreBelow, IsTuple, items_of, item_count}
 use Rattle.xdg_problem.specs.Places.{nodes}
 use Rattle.xdg_problem.proofs.Tuples.{EachBelow, tuples_of}
 use Rattle.xdg_problem.proofs.Verdicts.{at_most_more}
@@ -38,50 +38,37 @@ first_at_most (size ∷ sizes) P (u ∷ t) (a ∷ other) f w fails = elim (cases
 ]
 first_at_most sizes P t other f w fails = absurd (search rules)
 
-least : (sizes : List ℕ) (P : List ℕ → Type 0) (t : List ℕ) → First sizes P t → Least sizes P t
-least sizes P t f = (first_below sizes P t f, λ other. first_at_most sizes P t other f)
+least_first : (sizes : List ℕ) (P : List ℕ → Type 0) (t : List ℕ) → First sizes P t → Least sizes P t
+least_first sizes P t f = (first_below sizes P t f, λ other. first_at_most sizes P t other f)
 
-least_one : (n : ℕ) (P : List ℕ → Type 0) (u x y : ℕ) → FirstThree n 1 1 (λ a b c. P (a ∷ [])) u x y → Least (n ∷ []) P (u ∷ [])
-least_one n P u x y f = least (n ∷ []) P (u ∷ []) (f.within, f.here.here.fails, λ a l. f.before a l 0 (omega arith) 0 (omega arith))
+-- The tuples of one to three sizes, from three numbers of which those that they have no place for are below 1.
+module _ (P : List ℕ → Type 0) where
+  kept : (n : ℕ) (sizes : List ℕ) → nat_lt (length sizes) 3 ≡ true → ((a : ℕ) → a < n → (b : ℕ) → b < get_or sizes 0 1 → (c : ℕ) → c < get_or sizes 1 1 → P (a ∷ take (length sizes) (b ∷ c ∷ []))) → (t : List ℕ) → AreBelow (n ∷ sizes) t → P t
+  kept n [] few h = tuples_of (n ∷ []) P (λ a l. h a l 0 (omega arith) 0 (omega arith))
+  kept n (m ∷ []) few h = tuples_of (n ∷ m ∷ []) P (λ a l b k. h a l b k 0 (omega arith))
+  kept n (m ∷ k ∷ []) few h = tuples_of (n ∷ m ∷ k ∷ []) P h
+  kept n (m ∷ k ∷ j ∷ sizes) few h = absurd (omega (arith, ltb-true _ _ few))
 
-least_two : (n m : ℕ) (P : List ℕ → Type 0) (u x y : ℕ) → FirstThree n m 1 (λ a b c. P (a ∷ b ∷ [])) u x y → Least (n ∷ m ∷ []) P (u ∷ x ∷ [])
-least_two n m P u x y f = least (n ∷ m ∷ []) P (u ∷ x ∷ [])
-    (f.within, (f.here.within, f.here.here.fails, λ b l. f.here.before b l 0 (omega arith)), λ a l b m. f.before a l b m 0 (omega arith))
+  least : (n : ℕ) (sizes : List ℕ) (u x y : ℕ) → nat_lt (length sizes) 3 ≡ true → FirstThree n (get_or sizes 0 1) (get_or sizes 1 1) (λ a b c. P (a ∷ take (length sizes) (b ∷ c ∷ []))) u x y → Least (n ∷ sizes) P (u ∷ take (length sizes) (x ∷ y ∷ []))
+  least n [] u x y few f = least_first (n ∷ []) P (u ∷ []) (f.within, f.here.here.fails, λ a l. f.before a l 0 (omega arith) 0 (omega arith))
+  least n (m ∷ []) u x y few f = least_first (n ∷ m ∷ []) P (u ∷ x ∷ []) (f.within, (f.here.within, f.here.here.fails, λ b l. f.here.before b l 0 (omega arith)), λ a l b k. f.before a l b k 0 (omega arith))
+  least n (m ∷ k ∷ []) u x y few f = least_first (n ∷ m ∷ k ∷ []) P (u ∷ x ∷ y ∷ []) (f.within, (f.here.within, (f.here.here.within, f.here.here.fails, f.here.here.before), f.here.before), f.before)
+  least n (m ∷ k ∷ j ∷ sizes) u x y few f = absurd (omega (arith, ltb-true _ _ few))
 
-least_three : (n m k : ℕ) (P : List ℕ → Type 0) (u x y : ℕ) → FirstThree n m k (λ a b c. P (a ∷ b ∷ c ∷ [])) u x y → Least (n ∷ m ∷ k ∷ []) P (u ∷ x ∷ y ∷ [])
-least_three n m k P u x y f = least (n ∷ m ∷ k ∷ []) P (u ∷ x ∷ y ∷ [])
-    (f.within, (f.here.within, (f.here.here.within, f.here.here.fails, λ c l. f.here.here.before c l), λ b l c m. f.here.before b l c m), λ a l b m c k. f.before a l b m c k)
+-- the sizes of all items but the first, which is a node
+abbrev sizes_of : Condition → Parts → Group → List ℕ
+sizes_of condition parts group = map (item_count parts group) (drop 1 (items_of condition))
 
 -- every triple passes, so every tuple in the range does
 pub kept_of : (condition : Condition) (parts : Parts) (group : Group) (edges : List Edge) (P : List ℕ → Type 0) → IsSearched condition → ((a : ℕ) → a < nodes parts → (b : ℕ) → b < second_size condition parts group → (c : ℕ) → c < third_size condition parts group → P (tuple_for condition a b c)) → (t : List ℕ) → IsTuple condition parts group edges t → P t
 kept_of conditions.Roots parts group edges P searched h = absurd searched
-kept_of conditions.Pair parts group edges P searched h = tuples_of (nodes parts ∷ nodes parts ∷ []) P (λ a l b m. h a l b m 0 (omega arith))
-kept_of conditions.InCount parts group edges P searched h = tuples_of (nodes parts ∷ label_count parts (first_dim group) ∷ []) P (λ a l b m. h a l b m 0 (omega arith))
-kept_of conditions.OutCount parts group edges P searched h = tuples_of (nodes parts ∷ label_count parts (first_dim group) ∷ []) P (λ a l b m. h a l b m 0 (omega arith))
-kept_of conditions.Order parts group edges P searched h = tuples_of (nodes parts ∷ nodes parts ∷ nodes parts ∷ []) P h
-kept_of conditions.Between parts group edges P searched h = tuples_of (nodes parts ∷ nodes parts ∷ nodes parts ∷ []) P h
-kept_of conditions.Agree parts group edges P searched h = tuples_of (nodes parts ∷ label_count parts (first_dim group) ∷ nodes parts ∷ []) P h
-kept_of conditions.Govern parts group edges P searched h = tuples_of (nodes parts ∷ label_count parts (first_dim group) ∷ nodes parts ∷ []) P h
-kept_of conditions.Below parts group edges P searched h = tuples_of (nodes parts ∷ nodes parts ∷ []) P (λ a l b m. h a l b m 0 (omega arith))
-kept_of conditions.Blocked parts group edges P searched h = tuples_of (nodes parts ∷ nodes parts ∷ []) P (λ a l b m. h a l b m 0 (omega arith))
 kept_of conditions.Rule parts group edges P searched h = absurd searched
 kept_of conditions.Bound parts group edges P searched h = absurd searched
-kept_of conditions.Link parts group edges P searched h = tuples_of (nodes parts ∷ label_count parts (first_dim group) ∷ nodes parts ∷ []) P h
-kept_of condition parts group edges P searched h = tuples_of (nodes parts ∷ []) P (λ a l. h a l 0 (omega arith) 0 (omega arith))
+kept_of condition parts group edges P searched h = kept P (nodes parts) (sizes_of condition parts group) refl h
 
 -- the first triple that fails gives the least tuple
 pub least_of : (condition : Condition) (parts : Parts) (group : Group) (edges : List Edge) (P : List ℕ → Type 0) (u x y : ℕ) → IsSearched condition → FirstThree (nodes parts) (second_size condition parts group) (third_size condition parts group) (λ a b c. P (tuple_for condition a b c)) u x y → IsTuple condition parts group edges (tuple_for condition u x y) × ((other : List ℕ) → IsTuple condition parts group edges other → (P other → ⊥) → AtMost (tuple_for condition u x y) other)
 least_of conditions.Roots parts group edges P u x y searched f = absurd searched
-least_of conditions.Pair parts group edges P u x y searched f = least_two (nodes parts) (nodes parts) P u x y f
-least_of conditions.InCount parts group edges P u x y searched f = least_two (nodes parts) (label_count parts (first_dim group)) P u x y f
-least_of conditions.OutCount parts group edges P u x y searched f = least_two (nodes parts) (label_count parts (first_dim group)) P u x y f
-least_of conditions.Order parts group edges P u x y searched f = least_three (nodes parts) (nodes parts) (nodes parts) P u x y f
-least_of conditions.Between parts group edges P u x y searched f = least_three (nodes parts) (nodes parts) (nodes parts) P u x y f
-least_of conditions.Agree parts group edges P u x y searched f = least_three (nodes parts) (label_count parts (first_dim group)) (nodes parts) P u x y f
-least_of conditions.Govern parts group edges P u x y searched f = least_three (nodes parts) (label_count parts (first_dim group)) (nodes parts) P u x y f
-least_of conditions.Below parts group edges P u x y searched f = least_two (nodes parts) (nodes parts) P u x y f
-least_of conditions.Blocked parts group edges P u x y searched f = least_two (nodes parts) (nodes parts) P u x y f
 least_of conditions.Rule parts group edges P u x y searched f = absurd searched
 least_of conditions.Bound parts group edges P u x y searched f = absurd searched
-least_of conditions.Link parts group edges P u x y searched f = least_three (nodes parts) (label_count parts (first_dim group)) (nodes parts) P u x y f
-least_of condition parts group edges P u x y searched f = least_one (nodes parts) P u x y f
+least_of condition parts group edges P u x y searched f = least P (nodes parts) (sizes_of condition parts group) u x y refl f
