@@ -1,7 +1,7 @@
 -- What a condition asks of a tuple, from what is read and tested.
 use Rattle.std.proofs.Common.{◌≡◌, ℕ, ◌+◌, ◌<◌, ◌↔◌, ◌==◌, inl, inr, Bool, true, false, List, length, get_or, map, refl, ap, sym, ◌∙◌, subst, arith}
 use Rattle.std.specs.Prelude.{IsTrue, not, Contains, AllPairs, slice_index}
-use Rattle.std.proofs.lemmas.Bool.{cases_eq, eq-eqb, eqb-true, false≢true}
+use Rattle.std.proofs.lemmas.Bool.{cases_Bool, eq-eqb, eqb-true, false≢true}
 use Rattle.std.proofs.lemmas.List.{get_or_default}
 use Rattle.xdg_base.specs.declared.ids.LabelId.{LabelId}
 use Rattle.xdg_problem.specs.declared.analysis.Edge.{Edge}
@@ -17,6 +17,7 @@ use Rattle.xdg_judge.specs.declared.links.Links.{Links}
 use Rattle.xdg_judge.specs.Joining.{IsLed}
 use Rattle.xdg_judge.specs.Links.{AreLinks}
 use Rattle.xdg_facts.proofs.InOrder.{pairs_mapped}
+use Rattle.xdg_facts.proofs.Numbers.{all_next}
 use Rattle.xdg_judge.proofs.Meeting.{led_exact}
 use Rattle.xdg_judge.proofs.Ways.{last_exact}
 use Rattle.xdg_facts.proofs.Facts.{both_steps}
@@ -59,15 +60,11 @@ pub record Ordering (InX InY : ℕ → Type 0) (labels : List LabelId) (i : ℕ)
   pub none : seen ≡ false → (j : ℕ) (d : LabelId) → j < i → InX (get_or labels j d).0 → ⊥
   pub kept : (j k : ℕ) (d : LabelId) → j < k → k < i → InX (get_or labels j d).0 → InY (get_or labels k d).0 → ⊥
 
-more_kept : (InX InY : ℕ → Type 0) (labels : List LabelId) (i : ℕ) (seen : Bool) (label : LabelId) → i < length labels → label ≡ get_or labels i label → Ordering InX InY labels i seen → (seen ≡ true → InY label.0 → ⊥) → (j k : ℕ) (d : LabelId) → j < k → k < i + 1 → InX (get_or labels j d).0 → InY (get_or labels k d).0 → ⊥
-more_kept InX InY labels i true label l at o n j k d m p x y = elim (cases_eq k i) [
-  | inl e ↦ n refl (subst (λ (z : LabelId). InY z.0) (sym (at ∙ get_or_default labels i label d l)) (subst (λ z. InY (get_or labels z d).0) e y))
-  | inr other ↦ o.kept j k d m (omega (arith, p, other)) x y
-]
-more_kept InX InY labels i false label l at o n j k d m p x y = elim (cases_eq k i) [
-  | inl e ↦ o.none refl j d (omega (arith, m, e)) x
-  | inr other ↦ o.kept j k d m (omega (arith, p, other)) x y
-]
+more_kept : (InX InY : ℕ → Type 0) (labels : List LabelId) (i : ℕ) (seen : Bool) (label : LabelId) → i < length labels → label ≡ get_or labels i label → Ordering InX InY labels i seen → (seen ≡ true → InY label.0 → ⊥)
+    → (j k : ℕ) (d : LabelId) → j < k → k < i + 1 → InX (get_or labels j d).0 → InY (get_or labels k d).0 → ⊥
+more_kept InX InY labels i seen label l at o n j k d m p =
+    all_next (λ k. (j : ℕ) (d : LabelId) → j < k → InX (get_or labels j d).0 → InY (get_or labels k d).0 → ⊥) i (λ k p j d m. o.kept j k d m p)
+    (λ j d m x y. elim (cases_Bool seen) [ inl s ↦ n s (subst (λ (z : LabelId). InY z.0) (sym (at ∙ get_or_default labels i label d l)) y) | inr f ↦ o.none f j d m x ]) k p j d m
 
 pub ordering_seen : (InX InY : ℕ → Type 0) (labels : List LabelId) (i : ℕ) (seen : Bool) (label : LabelId) → i < length labels → label ≡ get_or labels i label → Ordering InX InY labels i seen → (seen ≡ true → InY label.0 → ⊥) → InX label.0 → Ordering InX InY labels (i + 1) true
 ordering_seen InX InY labels i seen label l at o n x = record {
@@ -79,10 +76,7 @@ ordering_seen InX InY labels i seen label l at o n x = record {
 pub ordering_same : (InX InY : ℕ → Type 0) (labels : List LabelId) (i : ℕ) (seen : Bool) (label : LabelId) → i < length labels → label ≡ get_or labels i label → Ordering InX InY labels i seen → (seen ≡ true → InY label.0 → ⊥) → (InX label.0 → ⊥) → Ordering InX InY labels (i + 1) seen
 ordering_same InX InY labels i seen label l at o n x = record {
   some = λ e. let h = o.some e in (h.0, h.1, (let m = h.2 in omega (arith, m)), h.3, h.4);
-  none = λ e j d m. elim (cases_eq j i) [
-    | inl s ↦ λ y. x (subst (λ (z : LabelId). InX z.0) (sym (at ∙ get_or_default labels i label d l)) (subst (λ z. InX (get_or labels z d).0) s y))
-    | inr other ↦ o.none e j d (omega (arith, m, other))
-  ];
+  none = λ e j d m. all_next (λ j. (d : LabelId) → InX (get_or labels j d).0 → ⊥) i (λ j m d. o.none e j d m) (λ d y. x (subst (λ (z : LabelId). InX z.0) (sym (at ∙ get_or_default labels i label d l)) y)) j m d;
   kept = more_kept InX InY labels i seen label l at o n;
 }
 

@@ -56,8 +56,6 @@ edge_told parts analysis tables table dim u l v result ready within is told = bo
 pub path_told : (parts : Parts) (analysis : Analysis) (tables : List Neighbours) (table : Neighbours) (dim u v : ℕ) (result : Bool) → IsReady parts analysis tables → dim < length parts.dims → table ≡ slice_index_or tables dim table → IsTrue result ↔ In table.far u v → IsTrue result ↔ Above (edges_on dim analysis.edges) u v
 path_told parts analysis tables table dim u v result ready within is told = both_steps told ((table_is parts analysis tables table dim ready within is).far u v)
 
--- one more table
-
 -- the entry of a node
 
 pub has_candidates : (parts : Parts) (node : ℕ) → IsProblem parts → node < nodes parts → node < length parts.candidates

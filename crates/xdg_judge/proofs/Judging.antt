@@ -23,7 +23,7 @@ use Rattle.xdg_judge.proofs.Least.{kept_of, least_of}
 use Rattle.xdg_facts.proofs.Lists.{zip_more as zip_push}
 use Rattle.xdg_problem.specs.Principles.{conditions_for}
 
--- what holds of each number below one, and of the one
+-- what holds of each number below one holds of each below a lesser one
 
 pub less_all : (Q : ℕ → Type 0) (i n : ℕ) → ((k : ℕ) → k < i → Q k) → n ≤ i → (k : ℕ) → k < n → Q k
 less_all Q i n h le k l = h k (omega (arith, l, le))
@@ -52,10 +52,7 @@ condition_kept parts group analysis condition size middle last searched e f g h 
 
 pub condition_broken : (parts : Parts) (group : Group) (analysis : Analysis) (condition : Condition) (size middle last u x y : ℕ) → IsSearched condition → size ≡ nodes parts → middle ≡ second_size condition parts group → last ≡ third_size condition parts group → FirstThree size middle last (λ a b c. AsksHere parts group analysis condition (tuple_for condition a b c)) u x y → IsLeastBroken parts group analysis condition (tuple_for condition u x y)
 condition_broken parts group analysis condition size middle last u x y searched e f g found =
-    let at = least_of condition parts group analysis.edges (AsksHere parts group analysis condition) u x y searched
-    (subst (λ z. FirstThree (nodes parts) (second_size condition parts group) z (λ a b c. AsksHere parts group analysis condition (tuple_for condition a b c)) u x y) g
-    (subst (λ z. FirstThree (nodes parts) z last (λ a b c. AsksHere parts group analysis condition (tuple_for condition a b c)) u x y) f
-    (subst (λ z. FirstThree z middle last (λ a b c. AsksHere parts group analysis condition (tuple_for condition a b c)) u x y) e found))) in
+    let at = least_of condition parts group analysis.edges (AsksHere parts group analysis condition) u x y searched (rw (e, f, g) at found) in
     record {
       breaks = record { within = at.0; fails = found.here.here.fails };
       least = λ other b. at.1 other b.within b.fails;

@@ -1,7 +1,7 @@
 -- What holds of many tuples at once.
 use Rattle.std.proofs.Common.{◌≡◌, ℕ, ◌+◌, ◌<◌, ◌≤◌, ◌&&◌, inl, inr, Bool, true, List, length, get_or, map, sym, ◌∙◌, ap, subst, arith}
 use Rattle.std.specs.Prelude.{AllPairs, nat_lt}
-use Rattle.std.proofs.lemmas.Bool.{cases_eq, lt-ltb}
+use Rattle.std.proofs.lemmas.Bool.{lt-ltb}
 use Rattle.std.proofs.lemmas.List.{get_or_default}
 use Prim.Native.Nat.{min, max}
 use Rattle.xdg_base.specs.declared.ids.LabelId.{LabelId}
@@ -12,6 +12,7 @@ use Rattle.xdg_judge.specs.declared.links.Links.{Links}
 use Rattle.xdg_judge.specs.Links.{AreLinks}
 use Rattle.xdg_nodeset.specs.Tables.{In}
 use Rattle.xdg_facts.proofs.InOrder.{pairs_mapped}
+use Rattle.xdg_facts.proofs.Numbers.{all_next}
 use Rattle.xdg_facts.specs.Rises.{has}
 
 is_between : (u v w : ℕ) → IsBetween u v w → (nat_lt (min u v) w && nat_lt w (max u v)) ≡ true
@@ -33,20 +34,11 @@ pub record Passed (InItem : ℕ → Type 0) (bound next i : ℕ) : Type 0 where
 pub passed_here : (InItem : ℕ → Type 0) (bound next i : ℕ) → bound ≤ i → Passed InItem bound next i → Passed InItem bound (i + 1) (i + 1)
 passed_here InItem bound next i l p = record {
   low = omega (arith, l);
-  each = λ x m h. elim (cases_eq x i) [
-    | inl e ↦ (omega (arith, l, e), m)
-    | inr n ↦ ((p.each x (omega (arith, m, n)) h).0, m)
-  ];
+  each = all_next (λ x. InItem x → (bound ≤ x) × (x < i + 1)) i (λ x m h. ((p.each x m h).0, omega (arith, m))) (λ _. (l, omega arith));
 }
 
 pub passed_over : (InItem : ℕ → Type 0) (bound next i : ℕ) → (InItem i → ⊥) → Passed InItem bound next i → Passed InItem bound next (i + 1)
-passed_over InItem bound next i none p = record {
-  low = p.low;
-  each = λ x m h. elim (cases_eq x i) [
-    | inl e ↦ absurd (none (subst InItem e h))
-    | inr n ↦ p.each x (omega (arith, m, n)) h
-  ];
-}
+passed_over InItem bound next i none p = record { low = p.low; each = all_next (λ x. InItem x → (bound ≤ x) × (x < next)) i p.each (λ h. absurd (none h)) }
 
 pub passed_end : (InItem : ℕ → Type 0) (bound next i size n : ℕ) → Passed InItem bound next i → size ≤ i → size ≡ n → (bound ≤ next) × ((x : ℕ) → x < n → InItem x → (bound ≤ x) × (x < next))
 passed_end InItem bound next i size n p l e = (p.low, λ x m h. p.each x (omega (arith, m, l, e)) h)
@@ -65,17 +57,13 @@ settled_start InItem labels size = record { before = λ j d x l. absurd (omega (
 
 pub settled_more : (InItem : ℕ → ℕ → Type 0) (labels : List LabelId) (size i bound next : ℕ) (label : LabelId) → i < length labels → label ≡ get_or labels i label → Settled InItem labels size i bound → (bound ≤ next) × ((x : ℕ) → x < size → InItem label.0 x → (bound ≤ x) × (x < next)) → Settled InItem labels size (i + 1) next
 settled_more InItem labels size i bound next label l at s p = record {
-  before = λ j d x m n h. elim (cases_eq j i) [
-    | inl e ↦ (p.1 x n (here j d x e h)).1
-    | inr o ↦ (let b = s.before j d x (omega (arith, m, o)) n h in let q = p.0 in omega (arith, b, q))
-  ];
-  kept = λ j k d x y m n lx ly h g. elim (cases_eq k i) [
-    | inl e ↦ (let b = s.before j d x (omega (arith, m, e)) lx h in let q = (p.1 y ly (here k d y e g)).0 in omega (arith, b, q))
-    | inr o ↦ s.kept j k d x y m (omega (arith, n, o)) lx ly h g
-  ];
+  before = λ j d x m. all_next (λ j. (d : LabelId) (x : ℕ) → x < size → InItem (get_or labels j d).0 x → x < next) i (λ j m d x n h. let b = s.before j d x m n h in let q = p.0 in omega (arith, b, q))
+      (λ d x n h. (p.1 x n (here d x h)).1) j m d x;
+  kept = λ j k d x y m n. all_next (λ k. (j : ℕ) (d : LabelId) (x y : ℕ) → j < k → x < size → y < size → InItem (get_or labels j d).0 x → InItem (get_or labels k d).0 y → x < y) i (λ k n j d x y m. s.kept j k d x y m n)
+      (λ j d x y m lx ly h g. let b = s.before j d x m lx h in let q = (p.1 y ly (here d y g)).0 in omega (arith, b, q)) k n j d x y m;
 } where
-  here : (j : ℕ) (d : LabelId) (x : ℕ) → j ≡ i → InItem (get_or labels j d).0 x → InItem label.0 x
-  here j d x e h = subst (λ (z : LabelId). InItem z.0 x) (sym (at ∙ get_or_default labels i label d l)) (subst (λ z. InItem (get_or labels z d).0 x) e h)
+  here : (d : LabelId) (x : ℕ) → InItem (get_or labels i d).0 x → InItem label.0 x
+  here d x h = subst (λ (z : LabelId). InItem z.0 x) (sym (at ∙ get_or_default labels i label d l)) h
 
 pub settled_end : (InItem : ℕ → ℕ → Type 0) (labels : List LabelId) (size i bound x y : ℕ) → Settled InItem labels size i bound → length labels ≤ i → x < size → y < size → AllPairs (λ (e l : LabelId). InItem e.0 x → InItem l.0 y → x < y) labels
 settled_end InItem labels size i bound x y s l lx ly = λ j k d m p h g. s.kept j k d x y m (omega (arith, p, l)) lx ly h g

@@ -1,11 +1,10 @@
 -- Counting in a filtered list, and tables of counts.
-use Rattle.std.proofs.Common.{◌≡◌, ℕ, ◌+◌, ◌<◌, ◌≤◌, ◌↔◌, ◌&&◌, ◌||◌, ◌++◌, inl, inr, Bool, true, false, cond, not, take, get_or, replicate, List, [], ◌∷◌, length, sym, ◌∙◌, ap, refl, subst, zero, suc, arith, length-append}
+use Rattle.std.proofs.Common.{◌≡◌, ℕ, ◌+◌, ◌<◌, ◌≤◌, ◌↔◌, ◌&&◌, ◌||◌, ◌++◌, inl, inr, Bool, true, false, cond, not, take, get_or, replicate, List, [], ◌∷◌, length, sym, ◌∙◌, ap, ap₂, refl, zero, suc, arith}
 use Rattle.std.specs.Prelude.{IsTrue, filter, count_by, nat_le, slice_index, slice_index_or, slice_set, ◌==◌}
 use Rattle.std.specs.List.{list_any}
 use Rattle.std.proofs.lemmas.Bool.{cases_eq, eq-eqb, ne_eqb, leb-true, le-leb}
 use Rattle.std.proofs.lemmas.List.{take_all, get_or-set_same, get_or-set_other, length-take}
-use Rattle.std.proofs.lemmas.List.Sums.{length-filter, count_by-le-length}
-use Rattle.std.proofs.lemmas.List.Elements.{filter-append}
+use Rattle.std.proofs.lemmas.List.Sums.{length-filter, count_by-le-length, sum_by_push}
 use Rattle.xdg_problem.specs.declared.analysis.Edge.{Edge}
 use Rattle.xdg_problem.specs.Places.{numbers_from}
 use Rattle.xdg_problem.specs.Paths.{edges_on, roots}
@@ -15,45 +14,20 @@ use Rattle.xdg_judge.proofs.Gathering.{on_here, on_over}
 use Rattle.xdg_problem.proofs.Numbered.{numbers_more}
 use Rattle.xdg_facts.proofs.Numbers.{zeros}
 
-one_kept : {X : Type 0} (b : Bool) (x : X) → length (cond b (x ∷ []) []) ≡ cond b 1 0
-one_kept true x = refl
-one_kept false x = refl
-
--- one more element to count
-count_behind : {X : Type 0} (p : X → Bool) (xs : List X) (y : X) → count_by p (xs ++ y ∷ []) ≡ count_by p xs + cond (p y) 1 0
-count_behind p xs y =
-    sym (length-filter p (xs ++ y ∷ []))
-    ∙ (ap length (filter-append p xs (y ∷ []))
-    ∙ (length-append (filter p xs) (filter p (y ∷ []))
-    ∙ (ap (λ n. n + length (filter p (y ∷ []))) (length-filter p xs)
-    ∙ ap (λ n. count_by p xs + n) (one_kept (p y) y))))
-
--- a row and a table that count one more
-
-here_once : (b : ℕ) → ◌≡◌ {A = ℕ} (cond (b == b) 1 0) 1
-here_once b = ap (λ q. cond q 1 0) (eq-eqb b b refl)
-
-none_here : (b m : ℕ) → (b ≡ m → ⊥) → ◌≡◌ {A = ℕ} (cond (b == m) 1 0) 0
-none_here b m n = ap (λ q. cond q 1 0) (ne_eqb b m n)
+-- ---- a row and a table that count one more
 
 pub count_at : (row : List ℕ) (b j m : ℕ) → j ≡ b → j < length row → slice_index (slice_set row j (slice_index row j + 1)) m ≡ slice_index row m + cond (b == m) 1 0
 count_at row b j m e l = elim (cases_eq m j) [
-  | inl f ↦ subst (λ z. slice_index (slice_set row j (slice_index row j + 1)) z ≡ slice_index row z + cond (b == z) 1 0) (sym f) (subst (λ z. slice_index (slice_set row j (slice_index row j + 1)) j ≡ slice_index row j + cond (z == j) 1 0) e (
-      let same : slice_index (slice_set row j (slice_index row j + 1)) j ≡ slice_index row j + 1 = get_or-set_same row j (slice_index row j + 1) 0 l in
-      let once = here_once j in
-      omega (arith, same, once)))
+  | inl f ↦ ap (slice_index (slice_set row j (slice_index row j + 1))) f ∙ get_or-set_same row j (slice_index row j + 1) 0 l ∙ ap₂ (λ i t. slice_index row i + cond t 1 0) (sym f) (sym (eq-eqb b m (sym e ∙ sym f)))
   | inr g ↦ (
       let same : slice_index (slice_set row j (slice_index row j + 1)) m ≡ slice_index row m = get_or-set_other row j m (slice_index row j + 1) 0 g in
-      let none = none_here b m (λ q. g (sym q ∙ sym e)) in
+      let none : ◌≡◌ {A = ℕ} (cond (b == m) 1 0) 0 = ap (λ q. cond q 1 0) (ne_eqb b m (λ q. g (sym q ∙ sym e))) in
       omega (arith, same, none))
 ]
 
 pub count_row : (table : List (List ℕ)) (row : List ℕ) (a b i k m : ℕ) → i ≡ a → i < length table → ((n : ℕ) → slice_index row n ≡ slice_index (slice_index_or table i []) n + cond (b == n) 1 0) → counted (slice_set table i row) k m ≡ counted table k m + cond ((a == k) && (b == m)) 1 0
 count_row table row a b i k m e l h = elim (cases_eq k i) [
-  | inl f ↦ subst (λ z. counted (slice_set table i row) z m ≡ counted table z m + cond ((a == z) && (b == m)) 1 0) (sym f) (
-      let here : counted (slice_set table i row) i m ≡ slice_index row m = ap (λ z. slice_index z m) (get_or-set_same table i row [] l) in
-      let more = h m in
-      here ∙ (more ∙ ap (λ q. counted table i m + cond (q && (b == m)) 1 0) (sym (eq-eqb a i (sym e)))))
+  | inl f ↦ ap (λ z. counted (slice_set table i row) z m) f ∙ ap (λ z. slice_index z m) (get_or-set_same table i row [] l) ∙ h m ∙ ap₂ (λ z t. counted table z m + cond (t && (b == m)) 1 0) (sym f) (sym (eq-eqb a k (sym e ∙ sym f)))
   | inr g ↦ (
       let same : counted (slice_set table i row) k m ≡ counted table k m = ap (λ z. slice_index z m) (get_or-set_other table i k row [] g) in
       let none : ◌≡◌ {A = ℕ} (cond ((a == k) && (b == m)) 1 0) 0 = ap (λ q. cond (q && (b == m)) 1 0) (ne_eqb a k (λ q. g (sym q ∙ sym e))) in
@@ -88,7 +62,7 @@ tallied_here condition dim edges i old new e a b l at d ea eb step t = record {
       ∙ (ap (λ z. counted old k m + cond ((z == k) && (b == m)) 1 0) ea
       ∙ (ap (λ z. counted old k m + cond ((first_key condition e == k) && (z == m)) 1 0) eb
       ∙ (ap (λ n. n + cond ((first_key condition e == k) && (second_key condition e == m)) 1 0) (t.exact k m)
-      ∙ sym (ap (count_by (λ f. (first_key condition f == k) && (second_key condition f == m))) (on_here dim edges i e l at d) ∙ count_behind (λ (f : Edge). (first_key condition f == k) && (second_key condition f == m)) (edges_on dim (take i edges)) e))));
+      ∙ sym (ap (count_by (λ f. (first_key condition f == k) && (second_key condition f == m))) (on_here dim edges i e l at d) ∙ sum_by_push (λ (f : Edge). cond ((first_key condition f == k) && (second_key condition f == m)) 1 0) (edges_on dim (take i edges)) e))));
 }
 
 pub tallied_over : (condition : Condition) (dim : ℕ) (edges : List Edge) (i : ℕ) (table : List (List ℕ)) (e : Edge) → i < length edges → e ≡ get_or edges i e → (e.dim.0 ≡ dim → ⊥) → Tallied condition dim edges i table → Tallied condition dim edges (i + 1) table
@@ -120,24 +94,16 @@ pub roots_more : (n : ℕ) (edges : List Edge) → length (roots (n + 1) edges) 
 roots_more n edges =
     let test : ℕ → Bool = λ v. not (list_any (λ e. e.daughter.0 == v) edges) in
     let e : n + 1 ≡ suc n = omega arith in
+    let z : 0 + n ≡ n = omega arith in
     ap (λ (m : ℕ). length (filter test (numbers_from 0 m))) e
-    ∙ (ap (λ xs. length (filter test xs)) (numbers_more 0 n)
-    ∙ (ap length (filter-append test (numbers_from 0 n) ((0 + n) ∷ []))
-    ∙ (length-append (filter test (numbers_from 0 n)) (filter test ((0 + n) ∷ []))
-    ∙ (let z : 0 + n ≡ n = omega arith in ap (λ (m : ℕ). length (filter test (numbers_from 0 n)) + length (filter test (m ∷ []))) z
-    ∙ ap (λ (m : ℕ). length (filter test (numbers_from 0 n)) + m) (one_kept (test n) n)))))
+    ∙ ap (λ xs. length (filter test xs)) (numbers_more 0 n)
+    ∙ length-filter test (numbers_from 0 n ++ (0 + n) ∷ [])
+    ∙ sum_by_push (λ v. cond (test v) 1 0) (numbers_from 0 n) (0 + n)
+    ∙ ap₂ (λ c v. c + cond (test v) 1 0) (sym (length-filter test (numbers_from 0 n))) z
 
 -- the count after one node more
-pub roots_step : (n dim : ℕ) (edges : List Edge) → length (roots (n + 1) (filter (λ e. e.dim.0 == dim) edges)) ≡ length (roots n (filter (λ e. e.dim.0 == dim) edges)) + cond (not (list_any (λ e. (e.dim.0 == dim) && (e.daughter.0 == n)) edges)) 1 0
-roots_step n dim edges = roots_more n (filter (λ e. e.dim.0 == dim) edges)
-    ∙ ap (λ (b : Bool). length (roots n (filter (λ e. e.dim.0 == dim) edges)) + cond (not b) 1 0) (sym (any_on (λ e. e.dim.0 == dim) (λ e. e.daughter.0 == n) edges))
-
-pub root_more : (n dim count : ℕ) (edges : List Edge) (b : Bool) → b ≡ list_any (λ e. (e.dim.0 == dim) && (e.daughter.0 == n)) edges → b ≡ false → count ≡ length (roots n (filter (λ e. e.dim.0 == dim) edges)) → count + 1 ≡ length (roots (n + 1) (filter (λ e. e.dim.0 == dim) edges))
-root_more n dim count edges b same none e =
-    let h : length (roots (n + 1) (filter (λ e. e.dim.0 == dim) edges)) ≡ length (roots n (filter (λ e. e.dim.0 == dim) edges)) + 1 = subst (λ (x : Bool). length (roots (n + 1) (filter (λ e. e.dim.0 == dim) edges)) ≡ length (roots n (filter (λ e. e.dim.0 == dim) edges)) + cond (not x) 1 0) (sym same ∙ none) (roots_step n dim edges) in
-    omega (arith, h, e)
-
-pub root_same : (n dim count : ℕ) (edges : List Edge) (b : Bool) → b ≡ list_any (λ e. (e.dim.0 == dim) && (e.daughter.0 == n)) edges → b ≡ true → count ≡ length (roots n (filter (λ e. e.dim.0 == dim) edges)) → count ≡ length (roots (n + 1) (filter (λ e. e.dim.0 == dim) edges))
-root_same n dim count edges b same some e =
-    let h : length (roots (n + 1) (filter (λ e. e.dim.0 == dim) edges)) ≡ length (roots n (filter (λ e. e.dim.0 == dim) edges)) + 0 = subst (λ (x : Bool). length (roots (n + 1) (filter (λ e. e.dim.0 == dim) edges)) ≡ length (roots n (filter (λ e. e.dim.0 == dim) edges)) + cond (not x) 1 0) (sym same ∙ some) (roots_step n dim edges) in
-    omega (arith, h, e)
+pub root_next : (n dim count added : ℕ) (edges : List Edge) (b : Bool) → b ≡ list_any (λ e. (e.dim.0 == dim) && (e.daughter.0 == n)) edges → cond (not b) 1 0 ≡ added → count ≡ length (roots n (edges_on dim edges))
+    → count + added ≡ length (roots (n + 1) (edges_on dim edges))
+root_next n dim count added edges b same adds e =
+    let here : b ≡ list_any (λ f. f.daughter.0 == n) (edges_on dim edges) = same ∙ any_on (λ f. f.dim.0 == dim) (λ f. f.daughter.0 == n) edges in
+    ap₂ (λ c a. c + a) e (sym adds ∙ ap (λ x. cond (not x) 1 0) here) ∙ sym (roots_more n (edges_on dim edges))
