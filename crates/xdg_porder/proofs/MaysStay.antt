@@ -1,7 +1,6 @@
 -- A projectivity that was still is so where each edge that might be may be still.
 use Rattle.std.proofs.Common.{◌≡◌, ℕ, inl, inr, Bool, List, sym, ◌∙◌, subst}
 use Rattle.std.specs.Prelude.{All}
-use Rattle.std.proofs.lemmas.Bool.{cases_Bool, false≢true}
 use Rattle.xdg_problem.specs.declared.analysis.Edge.{Edge}
 use Rattle.xdg_problem.specs.declared.parts.Group.{Group}
 use Rattle.xdg_problem.specs.declared.parts.Parts.{Parts}
@@ -13,13 +12,14 @@ use Rattle.xdg_problem.specs.Problems.{IsProblem}
 use Rattle.xdg_problem.specs.Vectors.{shape}
 use Rattle.xdg_problem.proofs.DecidingPaths.{decided_above}
 use Rattle.xdg_problem.proofs.PlaceOrder.{is_place}
-use Rattle.xdg_rules.specs.Rules.{has, IsClosedFor, may_edges}
+use Rattle.xdg_rules.specs.Rules.{IsClosedFor, may_edges}
 use Rattle.xdg_rules.proofs.Among.{Among, above_among}
 use Rattle.xdg_rules.proofs.Shrinking.{may_exact}
 use Rattle.xdg_store.specs.Decisions.{IsDecision}
 use Rattle.xdg_store.specs.Naming.{Names}
 use Rattle.xdg_store.specs.declared.decision.Decision.{Decision}
 use Rattle.xdg_store.proofs.Kept.{on_edge}
+use Rattle.xdg_propcore.proofs.Losing.{kept_or_lost}
 use Rattle.xdg_porder.specs.Lasting.{MayOn}
 use Rattle.xdg_porder.proofs.Closing.{across_closed}
 use Rattle.xdg_porder.proofs.Crossing.{across_taken}
@@ -28,13 +28,10 @@ module _ (parts : Parts) (group : Group) (problem : IsProblem parts) (projective
     (now_is : IsBox (shape parts) now) (lies : LiesIn now old) (dim : ℕ) (dim_is : dim ≡ first_dim group) (removed : List Decision) (names : Names parts old now removed)
     (stay : All (MayOn parts now dim) removed) where
   still_may : (e : Edge) → IsPlace parts e → e.dim.0 ≡ dim → May parts old e → May parts now e
-  still_may e place on before = elim (cases_Bool (has now (edge_decision parts e) 0)) [
-    | inl there ↦ there
-    | inr out ↦
-        let (decision, c, number) = names.all (edge_decision parts e) 0 before (λ h. false≢true (sym out ∙ h)) in
-        let known = subst (IsDecision parts) c.2 (names.each c.0 decision c.1) in
-        elim (subst (MayOn parts now dim) (c.2 ∙ on_edge parts decision e problem place known number) (stay c.0 decision c.1)) [ inl other ↦ absurd (other on) | inr here ↦ here ]
-  ]
+  still_may e place on = kept_or_lost old now (edge_decision parts e) 0 (λ lost.
+      let (decision, c, number) = names.all (edge_decision parts e) 0 lost.0 lost.1 in
+      let known = subst (IsDecision parts) c.2 (names.each c.0 decision c.1) in
+      elim (subst (MayOn parts now dim) (c.2 ∙ on_edge parts decision e problem place known number) (stay c.0 decision c.1)) [ inl other ↦ other on | inr here ↦ lost.1 here ])
 
   may_now : Among (may_edges parts old (first_dim group)) (may_edges parts now (first_dim group))
   may_now e c =

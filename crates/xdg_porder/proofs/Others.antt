@@ -1,25 +1,24 @@
 -- Nodes of which nothing was lost: there order takes no more than before.
 use Rattle.std.proofs.Common.{◌≡◌, ℕ, ◌<◌, ◌+◌, ◌||◌, inl, inr, Bool, true, List, [], ◌∷◌, refl, sym, ◌∙◌, ap, subst, arith}
-use Rattle.std.proofs.lemmas.Bool.{cases_eq}
-use Rattle.std.proofs.lemmas.List.{length-map}
-use Rattle.xdg_base.specs.declared.ids.LabelId.{LabelId}
 use Rattle.xdg_problem.specs.declared.parts.Group.{Group}
 use Rattle.xdg_problem.specs.declared.parts.Parts.{Parts}
 use Rattle.xdg_problem.specs.declared.parts.Principle.TheVariants as principles
-use Rattle.xdg_problem.specs.Arguments.{attr_of, first_dim, order_of}
+use Rattle.xdg_problem.specs.Arguments.{attr_of, first_dim}
 use Rattle.xdg_problem.specs.Boxes.{Has, IsBox, LiesIn, edge_decision}
 use Rattle.xdg_problem.specs.Places.{nodes}
 use Rattle.xdg_problem.proofs.AttrPlaces.{attr_dim_within}
 use Rattle.xdg_problem.specs.Problems.{IsGroup, IsProblem}
 use Rattle.xdg_problem.specs.Vectors.{shape}
-use Rattle.xdg_rules.specs.Rules.{ComesBefore, IsClosedFor, attr_of_node}
+use Rattle.xdg_rules.specs.Rules.{IsClosedFor, attr_of_node}
 use Rattle.xdg_store.specs.States.{State}
 use Rattle.xdg_propcore.specs.Passes.{Progress, IsQuiet}
 use Rattle.xdg_propcore.specs.Sweeps.{Sweeps}
 use Rattle.xdg_propcore.specs.Touching.{HasTouched}
 use Rattle.xdg_propcore.specs.declared.touched.Touched.{Touched}
 use Rattle.xdg_porder.specs.Items.{AreMothersDone, AreOthersDone, IsAtNode, IsNodeDone, IsWrong, MayStand, MustStand, edge_to, label_at}
-use Rattle.xdg_porder.proofs.Pairing.{at_comes, edge_goes, own_goes}
+use Rattle.xdg_propcore.proofs.Passing.{goes_none}
+use Rattle.xdg_propcore.proofs.Turns.{below_next, quiet_later}
+use Rattle.xdg_porder.proofs.Pairing.{comes, edge_goes, own_goes}
 use Rattle.xdg_facts.proofs.Truths.{or_true}
 use Rattle.xdg_facts.specs.Rises.{has}
 use Rattle.xdg_propcore.proofs.Losing.{kept_or_lost}
@@ -42,10 +41,9 @@ module _ (parts : Parts) (group : Group) (box : List (List Bool)) (problem : IsP
 
   pub closed_node : IsNodeDone parts group u box
   closed_node i j less m =
-      let c = length-map group.order (λ (label : LabelId). label.0) in
-      let comes : ComesBefore (order_of group) (label_at group i) (label_at group j) = at_comes (order_of group) i j less (omega (arith, m, c)) in (
-        (λ v w may must o. none_wrong (label_at group j) (label_at group i) v w may must (inl (comes, o))),
-        (λ v w may must o. none_wrong (label_at group i) (label_at group j) v w may must (inr (comes, o))),
+      let first = comes group i j less m in (
+        (λ v w may must o. none_wrong (label_at group j) (label_at group i) v w may must (inl (first, o))),
+        (λ v w may must o. none_wrong (label_at group i) (label_at group j) v w may must (inr (first, o))),
       )
 
 -- ---- what is lost of a node
@@ -85,11 +83,8 @@ others_none set parts group box problem all u within free = absurd (free (all u 
 
 -- a node where nothing is left to take
 pub node_skipped : (set : List ℕ) (group : Group) (k : ℕ) (p : Progress) (old : State) (q : Progress) (mid : State) → k < nodes old.parts → (has set k ≡ true → ⊥) → (IsQuiet p → AreOthersDone set old.parts group old.now) → Sweeps group (AreMothersDone old.parts group k) p old q mid → Sweeps group (AreMothersDone old.parts group (k + 1)) p old q mid
-node_skipped set group k p old q mid within free others a = record {
-  goes = a.goes;
+node_skipped set group k p old q mid within free others a = below_next group (λ parts u. IsNodeDone parts group u) k p old q mid q mid a (record {
+  goes = goes_none group q mid;
   known = a.known;
-  done = λ quiet u l. elim (cases_eq u k) [
-    | inl same ↦ (let before = a.goes.quiet quiet in subst (λ n. IsNodeDone old.parts group n mid.now) (sym same) (subst (IsNodeDone old.parts group k) (sym before.1) (others before.0 k within free)))
-    | inr other ↦ a.done quiet u (omega (arith, l, other))
-  ];
-}
+  done = quiet_later group (λ parts. IsNodeDone parts group k) (AreMothersDone old.parts group k) p old q mid (λ quiet. others quiet k within free) a;
+})

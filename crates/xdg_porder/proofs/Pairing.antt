@@ -16,7 +16,7 @@ use Rattle.xdg_problem.specs.declared.analysis.Edge.{Edge}
 use Rattle.xdg_rules.specs.Rules.{ComesBefore, HeadOffends, Takes, TakesBy, attr_of_node, must_edges}
 use Rattle.xdg_rules.proofs.Shrinking.{must_exact}
 use Rattle.xdg_store.specs.States.{State, Known}
-use Rattle.xdg_porder.specs.Items.{AreWrong, IsAtNode, IsWrong, MayStand, MustStand, TakesItems, edge_to}
+use Rattle.xdg_porder.specs.Items.{AreWrong, IsAtNode, IsWrong, MayStand, MustStand, TakesItems, edge_to, label_at}
 use Rattle.xdg_facts.specs.Rises.{has}
 use Rattle.xdg_problem.specs.Principles.{IsOrderFor}
 
@@ -31,12 +31,15 @@ pairs_before R (label ∷ order) l m all comes = elim comes [
 ]
 
 -- the label at a place comes before those at later places
-pub at_comes : (order : List ℕ) (i j : ℕ) → i < j → j < length order → ComesBefore order (get_or order i 0) (get_or order j 0)
+at_comes : (order : List ℕ) (i j : ℕ) → i < j → j < length order → ComesBefore order (get_or order i 0) (get_or order j 0)
 at_comes [] i j l m = absurd (omega (arith, m))
 at_comes (label ∷ order) zero zero l m = absurd (omega (arith, l))
 at_comes (label ∷ order) zero (suc j) l m = inl (refl, (j, omega (arith, m), get_or_default order j (get_or order j 0) 0 (omega (arith, m))))
 at_comes (label ∷ order) (suc i) zero l m = absurd (omega (arith, l))
 at_comes (label ∷ order) (suc i) (suc j) l m = inr (at_comes order i j (omega (arith, l)) (omega (arith, m)))
+
+pub comes : (group : Group) (i j : ℕ) → i < j → j < length group.order → ComesBefore (order_of group) (label_at group i) (label_at group j)
+comes group i j less within = at_comes (order_of group) i j less (let c = length-map group.order (λ (label : LabelId). label.0) in omega (arith, within, c))
 
 order_is : (p : Principle) → p ≡ principles.Order → (labels : ℕ) (order : List LabelId) → IsOrderFor p labels order → AllPairs (λ a b. a ≢ b) order
 order_is p same labels order is = (let both : IsOrderFor principles.Order labels order = subst (λ q. IsOrderFor q labels order) same is in both.1)

@@ -2,15 +2,13 @@
 use Rattle.std.proofs.Common.{◌≡◌, ℕ, ◌<◌, ◌≤◌, ◌+◌, ◌-◌, ◌↔◌, ◌&&◌, ◌||◌, inl, inr, Bool, true, List, length, sym, ap, ◌∙◌, arith, subst}
 use Rattle.std.proofs.lemmas.Bool.{cases_lt}
 use Rattle.std.proofs.lemmas.List.{length-map}
-use Rattle.xdg_base.specs.declared.ids.LabelId.{LabelId}
 use Rattle.xdg_nodeset.proofs.TableSets.{both, either}
 use Rattle.xdg_problem.specs.declared.parts.Group.{Group}
 use Rattle.xdg_problem.specs.declared.parts.Parts.{Parts}
-use Rattle.xdg_problem.specs.Arguments.{order_of}
 use Rattle.xdg_problem.specs.Boxes.{Has, IsOnly, LiesIn, edge_decision}
 use Rattle.xdg_problem.specs.Places.{nodes}
 use Rattle.xdg_problem.specs.Vectors.{shape}
-use Rattle.xdg_rules.specs.Rules.{ComesBefore, attr_of_node}
+use Rattle.xdg_rules.specs.Rules.{attr_of_node}
 use Rattle.xdg_store.specs.States.{State, Known}
 use Rattle.xdg_propcore.specs.Passes.{Progress, IsQuiet}
 use Rattle.xdg_propcore.specs.Sweeps.{Sweeps}
@@ -20,14 +18,11 @@ use Rattle.xdg_porder.specs.Items.{AreWrong, IsAtNode, IsNodeDone, IsWrong, MayS
 use Rattle.xdg_porder.specs.Sides.{IsReached, IsSideDone, label_from}
 use Rattle.xdg_porder.specs.declared.sides.Side.{Side}
 use Rattle.xdg_porder.specs.declared.sides.Side.TheVariants as sides
-use Rattle.xdg_porder.proofs.Pairing.{at_comes, items_go}
+use Rattle.xdg_porder.proofs.Pairing.{comes, items_go}
 use Rattle.xdg_facts.specs.Rises.{has}
 use Rattle.xdg_problem.proofs.BoxPlaces.{has_decision}
 
--- ---- which labels come before which
-
-comes : (group : Group) (i j : ℕ) → i < j → j < length group.order → ComesBefore (order_of group) (label_at group i) (label_at group j)
-comes group i j less within = at_comes (order_of group) i j less (let c = length-map group.order (λ (label : LabelId). label.0) in omega (arith, within, c))
+-- ---- the wrong side of an item
 
 -- an item with a later label, from some side, that one with an earlier label reaches stands on the wrong side of it
 side_wrong : (group : Group) (side : Side) (i j v w : ℕ) → i < j → j < length group.order → IsReached side v w → IsWrong group (label_from group side j) (label_from group side i) v w

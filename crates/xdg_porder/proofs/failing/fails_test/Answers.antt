@@ -1,10 +1,10 @@
-use Rattle.std.proofs.Common.{ℕ, ◌↔◌, arith, refl, sym, ◌∙◌, subst}
+use Rattle.std.proofs.Common.{arith, refl, sym, ◌∙◌}
 use Rattle.std.proofs.lemmas.Bool.{false≢true}
 use Rattle.xdg_nodeset.proofs.TableSets.{no_in}
-use Rattle.xdg_nodeset.specs.Tables.{In}
-use Rattle.xdg_problem.specs.Paths.{Above}
-use Rattle.xdg_rules.specs.Rules.{IsDecided, attr_of_node, may_edges}
+use Rattle.xdg_problem.specs.Arguments.{first_dim}
+use Rattle.xdg_rules.specs.Rules.{IsDecided, attr_of_node}
 use Rattle.xdg_porder.specs.Yields.{IsBrokenAt}
+use Rattle.xdg_porder.proofs.Ending.{table_at}
 use Rattle.xdg_porder.proofs.Testing.{broken_fails, none_fails, failing_settled}
 use Rattle.xdg_porder.proofs.failing.fails_test.Goals as goal
 use Rattle.xdg_facts.proofs.Numbers.{all_next}
@@ -20,7 +20,7 @@ note_above-requires c = record { blank = no_in _ 128 c.empty-table.result refl c
 
 pub returns-then-fails_at : goal.returns-then-fails_at
 returns-then-fails_at c = (
-  λ t. broken_fails c.args.store.now.parts c.args.group.now c.args.store.now.now c.requires.at.0.known.is_box c.note_above.new.table (subst (λ d. (a b : ℕ) → In c.note_above.new.table a b ↔ Above (may_edges c.args.store.now.parts c.args.store.now.now d) a b) c.dim_of.ensures c.note_above.ensures.exact) c.requires.at.1 c.requires.yields c.loop-u.u (let l = c.loop-u-test.true in let e = c.node_count-u-end.ensures.size in omega (arith, l, e)) (c.are_settled.ensures.0 c.if-not-are_settled.false) (c.fails_at.ensures.0 c.if-fails_at.true),
+  λ t. broken_fails c.args.store.now.parts c.args.group.now c.args.store.now.now c.requires.at.0.known.is_box c.note_above.new.table (table_at c.args.store.now.parts c.args.store.now.now c.note_above.new.table c.dim_of.result.0 (first_dim c.args.group.now) c.dim_of.ensures c.note_above.ensures.exact) c.requires.at.1 c.requires.yields c.loop-u.u (let l = c.loop-u-test.true in let e = c.node_count-u-end.ensures.size in omega (arith, l, e)) (c.are_settled.ensures.0 c.if-not-are_settled.false) (c.fails_at.ensures.0 c.if-fails_at.true),
   λ failing. refl,
 )
 
@@ -30,5 +30,5 @@ loop-u-preserved c = all_next (λ u. IsDecided c.args.store.now.now (attr_of_nod
 pub returns : goal.returns
 returns c = (
   λ t. absurd (false≢true t),
-  λ failing. absurd (none_fails c.args.store.now.parts c.args.group.now c.args.store.now.now c.requires.at.0.known.is_box c.note_above.new.table (subst (λ d. (a b : ℕ) → In c.note_above.new.table a b ↔ Above (may_edges c.args.store.now.parts c.args.store.now.now d) a b) c.dim_of.ensures c.note_above.ensures.exact) c.requires.at.1 c.requires.yields (λ u within both. c.loop-u.invariant u (let n = c.loop-u-test.false in let e = c.node_count-u-end.ensures.size in omega (arith, n, e, within)) both) failing),
+  λ failing. absurd (none_fails c.args.store.now.parts c.args.group.now c.args.store.now.now c.requires.at.0.known.is_box c.note_above.new.table (table_at c.args.store.now.parts c.args.store.now.now c.note_above.new.table c.dim_of.result.0 (first_dim c.args.group.now) c.dim_of.ensures c.note_above.ensures.exact) c.requires.at.1 c.requires.yields (λ u within both. c.loop-u.invariant u (let n = c.loop-u-test.false in let e = c.node_count-u-end.ensures.size in omega (arith, n, e, within)) both) failing),
 )
