@@ -7,26 +7,25 @@ use Rattle.xdg_domain.specs.Shapes.{shape, shapes_of, constants_of}
 use Rattle.xdg_domain.specs.declared.types.Ty.{Ty}
 use Rattle.xdg_principles.specs.Wanted.{same_texts, same_domains}
 
-no_text : (a b : List (List ℕ)) → 0 < length a → length b ≡ 0 → same_texts a b ≡ false
-no_text [] b some none = absurd (omega (arith, some))
-no_text (x ∷ xs) [] some none = refl
-no_text (x ∷ xs) (y ∷ ys) some none = absurd (omega (arith, none))
-
 -- the second list has ended
+module _ {X Y : Type 0} (same : List X → List Y → Bool) (longer : (x : X) (xs : List X) → same (x ∷ xs) [] ≡ false) where
+  ended : (a : List X) (b : List Y) → 0 < length a → length b ≡ 0 → same a b ≡ false
+  ended [] b some none = absurd (omega (arith, some))
+  ended (x ∷ xs) [] some none = longer x xs
+  ended (x ∷ xs) (y ∷ ys) some none = absurd (omega (arith, none))
+
+  short : (a : List X) (b : List Y) (i : ℕ) → i < length a → length b ≡ 0 → same (drop i a) b ≡ false
+  short a b i within none = ended (drop i a) b (omega (arith, length-drop i a, within)) none
+
 pub texts_short : (a b : List (List ℕ)) (i : ℕ) → i < length a → length b ≡ 0 → same_texts (drop i a) b ≡ false
-texts_short a b i within none = no_text (drop i a) b (omega (arith, length-drop i a, within)) none
+texts_short = short same_texts (λ x xs. refl)
 
 -- the domains of these types
 abbrev pub domains : List Ty → List (List (List ℕ))
 domains types = constants_of (shapes_of (map shape types))
 
-no_domain : (a b : List Ty) → 0 < length a → length b ≡ 0 → same_domains (domains a) (domains b) ≡ false
-no_domain [] b some none = absurd (omega (arith, some))
-no_domain (x ∷ xs) [] some none = refl
-no_domain (x ∷ xs) (y ∷ ys) some none = absurd (omega (arith, none))
-
 pub domains_short : (a b : List Ty) (i : ℕ) → i < length a → length b ≡ 0 → same_domains (domains (drop i a)) (domains b) ≡ false
-domains_short a b i within none = no_domain (drop i a) b (omega (arith, length-drop i a, within)) none
+domains_short = short (λ a b. same_domains (domains a) (domains b)) (λ x xs. refl)
 
 not_none : (n : ℕ) → 0 < n → (n == 0) ≡ false
 not_none n some = grind (arith, nat_tests)

@@ -1,11 +1,11 @@
 -- Names by number.
-use Rattle.std.proofs.Common.{◌≡◌, ℕ, zero, suc, ◌+◌, ◌<◌, ◌≤◌, List, [], ◌∷◌, length, get_or, Option, None, Some, ap, sym, ◌∙◌, refl, subst, arith}
+use Rattle.std.proofs.Common.{◌≡◌, ℕ, ◌<◌, ◌≤◌, List, [], length, get_or, Option, None, Some, ap, sym, ◌∙◌, refl, subst, arith}
 use Rattle.std.specs.Prelude.{slice_get, option_map}
 use Rattle.std.proofs.lemmas.Option.{slice_get-map}
 use Rattle.xdg_names.specs.Texts.{place_of}
 use Rattle.xdg_types.specs.declared.table.DimType.{DimType}
 use Rattle.xdg_types.specs.Table.{KeepsDim, KeepDims, firsts}
-use Rattle.xdg_types.proofs.Kept.{keeps_at}
+use Rattle.xdg_types.proofs.Kept.{keeps_at, keeps_found}
 use Rattle.xdg_principles.specs.declared.lookup.Lookup.{Lookup}
 use Rattle.xdg_problem.specs.declared.forms.Sort.{Sort}
 use Rattle.xdg_problem.specs.declared.forms.Sort.TheVariants as s
@@ -22,26 +22,15 @@ differ_here s.Attribute dim keeps = keeps.attrs
 pub differ_at : (dims : List DimType) (sort : Sort) (k : ℕ) (dim : DimType) → KeepDims dims → k < length dims → dim ≡ get_or dims k dim → Differ (firsts (members_in sort (Some dim)))
 differ_at dims sort k dim keeps h e = differ_here sort dim (keeps_at dims k dim keeps h e)
 
--- ---- the place of a label
-
--- the place, counted from the label with that number
-abbrev pub shifted : ℕ → Option ℕ → Option ℕ
-shifted i None = None
-shifted i (Some n) = Some (i + n)
-
 -- ---- labels
 
-few_of : (dims : List DimType) (k : ℕ) → KeepDims dims → length (labels_in (slice_get dims k)) ≤ 32
-few_of [] k keeps = omega arith
-few_of (d ∷ ds) zero keeps = keeps.0.few_labels
-few_of (d ∷ ds) (suc k) keeps = few_of ds k keeps.1
-
-few_at : (dims : List DimType) (place : Option ℕ) → KeepDims dims → length (labels_in (at_place dims place)) ≤ 32
-few_at dims None keeps = omega arith
-few_at dims (Some k) keeps = few_of dims k keeps
+few_at : (dims : List DimType) (place : Option ℕ) (found : Option DimType) → at_place dims place ≡ found → KeepDims dims → length (labels_in found) ≤ 32
+few_at dims place None is keeps = omega arith
+few_at dims None (Some dim) is keeps = absurd cc
+few_at dims (Some k) (Some dim) is keeps = (keeps_found dims k dim is keeps).few_labels
 
 pub few_labels : (dims : List DimType) (lookup : Lookup) (place : Option ℕ) (labels : List (List ℕ)) → Knows dims lookup → labels ≡ labels_in (at_place dims place) → length labels ≤ 32
-few_labels dims lookup place labels h e = subst (λ (ls : List (List ℕ)). length ls ≤ 32) (sym e) (few_at dims place h.keeps)
+few_labels dims lookup place labels h e = subst (λ (ls : List (List ℕ)). length ls ≤ 32) (sym e) (few_at dims place (at_place dims place) refl h.keeps)
 
 -- ---- what is found
 

@@ -1,5 +1,5 @@
 -- A grammar with its table has one list of uses of principles.
-use Rattle.std.proofs.Common.{◌≡◌, ℕ, Bool, true, false, List, [], ◌∷◌, map, Option, None, Some, refl, sym, ap, ap₂, ◌∙◌}
+use Rattle.std.proofs.Common.{◌≡◌, ℕ, Bool, true, false, List, map, Option, None, Some, unwrap_or, refl, sym, ap, ◌∙◌}
 use Rattle.std.specs.Prelude.{bytes_eq, codes}
 use Rattle.xdg_ast.specs.declared.names.Name.{Name}
 use Rattle.xdg_names.specs.Texts.{place_of}
@@ -18,24 +18,23 @@ use Rattle.xdg_problem.specs.declared.forms.Wanted.{Wanted}
 use Rattle.xdg_problem.specs.declared.forms.Wanted.TheVariants as a
 use Rattle.xdg_problem.specs.declared.forms.Which.{Which}
 use Rattle.xdg_problem.specs.Forms.{dims_in, form_of, parameters}
-use Rattle.xdg_principles.specs.Settings.{Setting, Called, setting_of, dim_texts, dim_place, labels, term_in, constant_at, list_at, names_at}
+use Rattle.xdg_principles.specs.Settings.{Setting, setting_of, dim_texts, dim_place, labels, term_in, constant_at, list_at, names_at}
 use Rattle.xdg_principles.specs.Uses.{Use, principle_uses}
-use Rattle.xdg_principles.specs.Made.{IsMember, AreLabels, IsLabelList, IsTruth, IsArg, AreArgs, ArePlaces, IsUse, AreUses, ArePrincipleUses, or_zero, place_called, member_number, label_number, truth_of, arg, args, places, built_with, built}
+use Rattle.xdg_principles.proofs.Sides.{zip_once}
+use Rattle.xdg_principles.specs.Made.{IsMember, IsLabelList, IsTruth, IsArg, IsUse, AreUses, ArePrincipleUses, place_called, member_number, label_number, truth_of, arg, args, places, built_with, built}
+
+number : {place : Option ℕ} {n : ℕ} → place ≡ Some n → n ≡ unwrap_or place 0
+number is = sym (ap (λ o. unwrap_or o 0) is)
 
 -- ---- one argument
 
 one_member : (setting : Setting) (parameter : Parameter) (sort : Sort) (which : Which) (k : ℕ) → IsMember setting parameter sort which k → k ≡ member_number setting parameter sort which
-one_member setting parameter sort which k h = sym (ap (λ (o : Option Called). or_zero (place_called setting sort which o)) h.1.0 ∙ ap or_zero h.1.1)
-
-label_numbers : (known : List (List ℕ)) (names : List Name) (ns : List ℕ) → AreLabels known names ns → ns ≡ map (label_number known) names
-label_numbers known [] [] h = refl
-label_numbers known (name ∷ names) (n ∷ ns) h = ap₂ (λ z zs. z ∷ zs) (sym (ap or_zero h.0)) (label_numbers known names ns h.1)
-label_numbers known _ _ h = absurd h
+one_member setting parameter sort which k h = number (ap (place_called setting sort which) h.1.0 ∙ h.1.1)
 
 one_label_list : (known : List (List ℕ)) (o : Option Term) (ns : List ℕ) → IsLabelList known o ns → ns ≡ map (label_number known) (list_at o)
 one_label_list known None ns h = absurd h
 one_label_list known (Some term) ns h =
-    label_numbers known h.0 ns h.1.1 ∙ sym (ap (λ (o : Option (List Name)). map (label_number known) (names_at o)) h.1.0)
+    zip_once (λ (name : Name) n. place_of known name.text ≡ Some n) (label_number known) h.0 ns (λ name n is. number is) h.1.1 ∙ sym (ap (λ (o : Option (List Name)). map (label_number known) (names_at o)) h.1.0)
 
 truth_told : (b : Bool) → b ≡ bytes_eq (truth_text b) (codes "true")
 truth_told true = refl
@@ -52,32 +51,22 @@ one_arg setting parameter (a.Labels which) (g.Labels ns) h = ap g.Labels (one_la
 one_arg setting parameter a.Truth (g.Truth b) h = ap g.Truth (one_truth b (term_in setting parameter) h)
 one_arg setting parameter _ _ h = absurd h
 
-all_args : (setting : Setting) (parameters : List Parameter) (xs : List Arg) → AreArgs setting parameters xs → xs ≡ args setting parameters
-all_args setting [] [] h = refl
-all_args setting (p ∷ ps) (x ∷ xs) h = ap₂ (λ z zs. z ∷ zs) (one_arg setting p p.wanted x h.0) (all_args setting ps xs h.1)
-all_args setting _ _ h = absurd h
-
 -- ---- one use
-
-all_places : (setting : Setting) (ws : List Which) (ks : List ℕ) → ArePlaces setting ws ks → ks ≡ map (λ w. or_zero (dim_place setting w)) ws
-all_places setting [] [] h = refl
-all_places setting (w ∷ ws) (k ∷ ks) h = ap₂ (λ z zs. z ∷ zs) (sym (ap or_zero h.0)) (all_places setting ws ks h.1)
-all_places setting _ _ h = absurd h
 
 one_use : (dims : List DimType) (one : Use) (made : PrincipleUse) → IsUse dims one made → made ≡ built dims one
 one_use dims one made h =
     let p = made.principle in
     let here : Setting = setting_of dims one p in
-    let home : made.home ≡ or_zero (place_of (dim_texts dims) one.within.text) = sym (ap or_zero h.home) in
-    let given : made.dims ≡ places here = all_places here (dims_in (form_of p).dims) made.dims h.dimensions in
-    let filled : made.args ≡ args here (parameters (form_of p)) = all_args here (parameters (form_of p)) made.args h.arguments in
+    let home : made.home ≡ unwrap_or (place_of (dim_texts dims) one.within.text) 0 = number h.home in
+    let given : made.dims ≡ places here =
+    zip_once (λ which k. dim_place here which ≡ Some k) (λ which. unwrap_or (dim_place here which) 0) (dims_in (form_of p).dims) made.dims (λ which k is. number is) h.dimensions in
+    let filled : made.args ≡ args here (parameters (form_of p)) =
+    zip_once (λ (x : Parameter) made. IsArg here x x.wanted made) (λ x. arg here x x.wanted) (parameters (form_of p)) made.args (λ x. one_arg here x x.wanted) h.arguments in
     let same : made ≡ built_with dims one (Some p) = λ i. record { principle = p; home = home i; dims = given i; args = filled i; at = h.at i } in
     same ∙ sym (ap (built_with dims one) h.known)
 
 all_uses : (dims : List DimType) (uses : List Use) (made : List PrincipleUse) → AreUses dims uses made → made ≡ map (built dims) uses
-all_uses dims [] [] h = refl
-all_uses dims (one ∷ uses) (m ∷ made) h = ap₂ (λ z zs. z ∷ zs) (one_use dims one m h.0) (all_uses dims uses made h.1)
-all_uses dims _ _ h = absurd h
+all_uses dims uses made = zip_once (IsUse dims) (built dims) uses made (one_use dims)
 
 -- whatever the uses of principles are, they are these
 pub one_list : (statements : List Statement) (table : Table) (made others : List PrincipleUse) → ArePrincipleUses statements table made → ArePrincipleUses statements table others → made ≡ others

@@ -1,8 +1,7 @@
 -- Arguments have the wanted types where nothing is wrong with them.
-use Rattle.std.proofs.Common.{◌≡◌, inl, inr, ℕ, ◌<◌, Bool, true, false, List, [], length, Option, None, Some, refl, sym, ap, ◌∙◌, subst, arith}
+use Rattle.std.proofs.Common.{◌≡◌, inl, inr, ℕ, Bool, true, false, List, [], length, Option, None, Some, refl, sym, ap, ◌∙◌, subst}
 use Rattle.std.specs.Prelude.{slice_get, option_map, if◌then◌else◌}
 use Rattle.std.proofs.lemmas.Bool.{true≢false, cases_Bool}
-use Rattle.std.proofs.lemmas.List.{length-map}
 use Rattle.std.proofs.lemmas.Option.{slice_get-map}
 use Rattle.xdg_base.specs.Faults.{fault_at}
 use Rattle.xdg_ast.specs.declared.names.Name.{Name}
@@ -10,11 +9,10 @@ use Rattle.xdg_base.specs.declared.faults.Cause.TheVariants as causes
 use Rattle.xdg_base.specs.declared.faults.Fault.{Fault}
 use Rattle.xdg_domain.specs.Shapes.{Shape, domain, set, iset, valency, mapping, shape}
 use Rattle.xdg_domain.specs.declared.types.Ty.{Ty}
-use Rattle.xdg_names.proofs.Texts.{place_of-Some}
 use Rattle.xdg_terms.specs.Forms.{Term, constant_of}
 use Rattle.xdg_types.specs.Kinds.{is_small}
 use Rattle.xdg_types.specs.Table as types
-use Rattle.xdg_types.specs.Table.{Table, typed, firsts}
+use Rattle.xdg_types.specs.Table.{Table, typed}
 use Rattle.xdg_types.proofs.NamesAgain.{again_differ}
 use Rattle.xdg_principles.specs.declared.building.Arg.{Arg}
 use Rattle.xdg_principles.specs.declared.building.Arg.TheVariants as g
@@ -32,7 +30,7 @@ use Rattle.xdg_problem.specs.declared.forms.Wanted.{Wanted}
 use Rattle.xdg_problem.specs.declared.forms.Wanted.TheVariants as a
 use Rattle.xdg_problem.specs.declared.forms.Which.{Which}
 use Rattle.xdg_problem.specs.Forms.{preset_feature}
-use Rattle.xdg_principles.specs.Settings.{Setting, Called, dim, labels, labels_in, members, members_in, member_type, type_in, at_place, term_in, constant_at, constant_in, list_at, listed_in, names_at, called_in, called_or, called_at, called_by, if_small, type_called, fixed_by, fixed_in, shared}
+use Rattle.xdg_principles.specs.Settings.{Setting, Called, dim, labels, labels_in, members, members_in, member_type, term_in, constant_at, constant_in, list_at, listed_in, names_at, called_in, called_or, called_at, called_by, if_small, type_called, fixed_by, fixed_in, shared}
 use Rattle.xdg_principles.specs.Wanted.{IsSame, IsShared, IsElement, IsSetOf, IsMapTo, IsWanted, is_wanted}
 use Rattle.xdg_principles.specs.Arguments.{OneOffends}
 use Rattle.xdg_principles.specs.Made.{IsMember, IsLabelList, IsArg}
@@ -40,7 +38,7 @@ use Rattle.xdg_principles.specs.Typed.{labels_at, dim_at, IsElementOf, IsTypedAs
 use Rattle.xdg_principles.proofs.TypedPlaces.{label_places}
 use Rattle.xdg_principles.proofs.TypedRows.{HasWhich, FixesShared, IsSoundElement, IsSoundTyping, IsSoundWanted}
 use Rattle.xdg_principles.proofs.WantedLaw.{wanted_true, wanted_false}
-use Rattle.xdg_facts.proofs.Lists.{some_at}
+use Rattle.xdg_principles.proofs.MemberPlaces.{member_there}
 use Rattle.xdg_facts.proofs.Options.{none_some, some_same}
 use Rattle.xdg_facts.specs.Membership.{Differ}
 use Rattle.xdg_ast.specs.Texts.{texts}
@@ -120,20 +118,12 @@ module _ (setting : Setting) (parameter : Parameter) (right : (f : Fault) → On
           (inr (inr (inl (record { sort = sort; which = which; typing = typing; wanted = wanted; called = called; given = given; type = type; has = has; wrong = wanted_false setting typing (shape type) e; fault = refl })))))
     ]
 
-    -- the feature or the attribute at its place
-    there : (k : ℕ) (h : IsMember setting parameter sort which k) → (member : List ℕ × Ty) × ((slice_get (members setting sort which) k ≡ Some member) × (member_type setting sort which h.0.text ≡ Some member.1))
-    there k h =
-        let len : length (firsts (members setting sort which)) ≡ length (members setting sort which) = length-map (members setting sort which) (λ one. one.0) in
-        let within : k < length (members setting sort which) = omega (arith, len, (place_of-Some (firsts (members setting sort which)) h.0.text k h.1.1).0) in
-        let found = some_at (members setting sort which) k within in
-        (found.0, (found.1, ap (λ o. type_in (at_place (members setting sort which) o)) h.1.1 ∙ ap type_in found.1))
-
   -- the first argument fixes the shared type
   pub fixes : (sort : Sort) (which : Which) → parameter.wanted ≡ a.Member sort which (ty.One el.Shared) → parameter.preset ≡ p.Required → setting.form.first ≡ Some parameter → (x : Arg) → IsArg setting parameter parameter.wanted x
       → (fixed : Shape) × (shared setting ≡ Some fixed)
   fixes sort which wanted required first x arg =
       let h = (member_of setting parameter sort which (ty.One el.Shared) x (subst (λ v. IsArg setting parameter v x) wanted arg)) in
-      let m = there sort which (ty.One el.Shared) wanted h.0 h.1 in
+      let m = member_there setting sort which h.1.0.text h.0 h.1.1.1 in
       let c = constant_given setting.one.name.span.start parameter.preset required (term_in setting parameter) h.1.0 h.1.1.0 in
       let type = shape m.0.1 in
       let found : shared setting ≡ (if is_small type then Some type else None) =
@@ -167,7 +157,7 @@ module _ (setting : Setting) (parameter : Parameter) (right : (f : Fault) → On
     typed_member : (sort : Sort) (which : Which) (typing : Typing) → parameter.wanted ≡ a.Member sort which typing → HasWhich setting.form.dims which → IsSoundTyping setting.form typing → (k : ℕ)
         → IsMember setting parameter sort which k → IsTypedMember table u (shared_or (shared setting)) sort which typing k
     typed_member sort which typing wanted has sound k h =
-        let m = there sort which typing wanted k h in
+        let m = member_there setting sort which h.0.text k h.1.1 in
         record {
           name = m.0.0;
           type = shape m.0.1;

@@ -1,56 +1,37 @@
 -- Where nothing is wrong, the uses of principles are typed.
-use Rattle.std.proofs.Common.{◌≡◌, inl, inr, ℕ, List, [], ◌∷◌, ◌++◌, map, Option, Some, Result, Ok, Err, refl, sym, ap, subst}
+use Rattle.std.proofs.Common.{◌≡◌, inl, inr, ℕ, List, ◌++◌, map, Option, Some, Result, Ok, Err, refl, sym, ap, subst}
 use Rattle.std.specs.Prelude.{IfOk}
 use Rattle.xdg_ast.specs.declared.names.Name.{Name}
 use Rattle.xdg_base.specs.declared.faults.Fault.{Fault}
 use Rattle.xdg_domain.specs.Shapes.{Shape}
 use Rattle.xdg_names.specs.Texts.{place_of}
-use Rattle.xdg_types.specs.declared.table.DimType.{DimType}
 use Rattle.xdg_types.specs.Answers.{HasTable, None_of}
 use Rattle.xdg_types.specs.Parts.{Statement, used_names}
 use Rattle.xdg_types.specs.Table.{Table, IsTable}
 use Rattle.xdg_types.proofs.NamesKnown.{each_known}
-use Rattle.xdg_principles.specs.declared.building.Arg.{Arg}
 use Rattle.xdg_principles.specs.declared.building.PrincipleUse.{PrincipleUse}
 use Rattle.xdg_problem.specs.declared.forms.Parameter.{Parameter}
 use Rattle.xdg_problem.specs.declared.forms.Which.{Which}
 use Rattle.xdg_problem.specs.Forms.{dims_in, dim_key, form_of, parameters, told}
 use Rattle.xdg_problem.specs.declared.forms.Form.{Form}
 use Rattle.xdg_principles.specs.Uses.{Use, principle_uses, values, under}
-use Rattle.xdg_principles.specs.Settings.{Setting, setting_of, dim, dim_texts, at_place, shared}
+use Rattle.xdg_principles.specs.Settings.{Setting, setting_of, dim, dim_place, dim_texts, at_place, shared}
 use Rattle.xdg_principles.specs.Names.{PrincipleNameOffends}
 use Rattle.xdg_principles.specs.Arguments.{OneOffends, ArgumentOffends}
-use Rattle.xdg_principles.specs.Made.{IsArg, AreArgs, IsUse, AreUses, ArePrincipleUses, built}
-use Rattle.xdg_principles.specs.Typed.{number_of, dim_at, IsTypedArg, AreTypedArgs, IsTypedUse, AreTypedUses}
+use Rattle.xdg_principles.specs.Made.{IsArg, IsUse, ArePrincipleUses, built}
+use Rattle.xdg_principles.specs.Typed.{number_of, dim_at, IsTypedArg, IsTypedUse, AreTypedUses}
+use Rattle.xdg_facts.proofs.Lists.{zip_length}
 use Rattle.xdg_principles.proofs.Rows.{of_texts}
+use Rattle.xdg_principles.proofs.Sides.{zip_first, zip_second, zip_weaker}
 use Rattle.xdg_principles.proofs.Tables.{has_dims}
 use Rattle.xdg_principles.proofs.TypedArgs.{shared_or, small_shared, fixes, typed_arg}
-use Rattle.xdg_principles.proofs.TypedPlaces.{place_in, as_many, dim_of_place, name_of_dim, place_below, used_text, used_place}
+use Rattle.xdg_principles.proofs.TypedPlaces.{place_in, name_of_dim, place_below, used_text, used_place}
 use Rattle.xdg_principles.proofs.TypedRows.{HasWhich, which_at, FixesShared, fixing, sound_wanted}
 use Rattle.xdg_principles.proofs.UseLaw.{stands_here, value_under, are_uses}
 use Rattle.xdg_facts.specs.Membership.{In}
 use Rattle.xdg_ast.specs.Texts.{texts}
 
 -- ---- lists
-
-arg_of : (setting : Setting) (ps : List Parameter) (xs : List Arg) → AreArgs setting ps xs → (parameter : Parameter) → In ps parameter → (x : Arg) × IsArg setting parameter parameter.wanted x
-arg_of setting [] [] h parameter i = absurd i
-arg_of setting (q ∷ ps) (x ∷ xs) h parameter i = elim i [ inl e ↦ (x, subst (λ (r : Parameter). IsArg setting r r.wanted x) e h.0) | inr k ↦ arg_of setting ps xs h.1 parameter k ]
-arg_of setting _ _ h parameter i = absurd h
-
-typed_args : (setting : Setting) (table : Table) (u : PrincipleUse) (type : Shape) (ps : List Parameter) (xs : List Arg) → AreArgs setting ps xs
-    → ((parameter : Parameter) → In ps parameter → (x : Arg) → IsArg setting parameter parameter.wanted x → IsTypedArg table u type parameter.wanted x) → AreTypedArgs table u type ps xs
-typed_args setting table u type [] [] h each = tt
-typed_args setting table u type (q ∷ ps) (x ∷ xs) h each = (each q (inl refl) x h.0, typed_args setting table u type ps xs h.1 (λ r k. each r (inr k)))
-typed_args setting table u type _ _ h each = absurd h
-
-use_of : (dims : List DimType) (uses : List Use) (made : List PrincipleUse) → AreUses dims uses made → (u : PrincipleUse) → In made u → (one : Use) × (In uses one × IsUse dims one u)
-use_of dims [] [] h u i = absurd i
-use_of dims (one ∷ uses) (v ∷ made) h u i = elim i [
-  | inl e ↦ (one, (inl refl, subst (IsUse dims one) e h.0))
-  | inr k ↦ (let r = use_of dims uses made h.1 u k in (r.0, (inr r.1.0, r.1.1)))
-]
-use_of dims _ _ h u i = absurd h
 
 first_in : (first : Option Parameter) (more : List Parameter) (parameter : Parameter) → first ≡ Some parameter → In (told first ++ more) parameter
 first_in first more parameter is = subst (λ (o : Option Parameter). In (told o ++ more) parameter) (sym is) (inl refl)
@@ -76,14 +57,14 @@ module _ (statements : List Statement) (table : Table) (has : HasTable statement
     fixed h =
         let x = fixing form.first h in
         let i = first_in form.first (told form.second ++ told form.third) x.parameter x.stands in
-        let arg = arg_of here (parameters form) u.args is.arguments x.parameter i in
-        fixes here x.parameter (one_right x.parameter i) x.sort x.which x.wanted x.required x.stands arg.0 arg.1
+        let arg = zip_first (λ (y : Parameter) made. IsArg here y y.wanted made) (parameters form) u.args is.arguments x.parameter i in
+        fixes here x.parameter (one_right x.parameter i) x.sort x.which x.wanted x.required x.stands arg.0 arg.1.1
 
     -- a dimension of the use is one of the table, and the text names it
     named_dim : (k : ℕ) → In u.dims k → (name : Name) × (In (values one.dims) name × (place_of (dim_texts table.dims) name.text ≡ Some k))
     named_dim k i =
-        let which = dim_of_place here (dims_in form.dims) u.dims is.dimensions k i in
-        let name = name_of_dim table.dims (under one.dims (dim_key form.dims which.0)) k which.1 in
+        let which = zip_second (λ w n. dim_place here w ≡ Some n) (dims_in form.dims) u.dims is.dimensions k i in
+        let name = name_of_dim table.dims (under one.dims (dim_key form.dims which.0)) k which.1.1 in
         (name.0, (value_under one.dims (dim_key form.dims which.0) name.0 name.1.0, name.1.1))
 
     used_too : In table.used u.home → (k : ℕ) → In u.dims k → In table.used k
@@ -97,18 +78,18 @@ module _ (statements : List Statement) (table : Table) (has : HasTable statement
     typed_use = record {
       of_texts = of_texts one.name.text u.principle is.known;
       home = place_below table.dims one.within.text u.home is.home;
-      count = as_many here (dims_in form.dims) u.dims is.dimensions;
+      count = sym (zip_length (λ which k. dim_place here which ≡ Some k) (dims_in form.dims) u.dims is.dimensions);
       dims = λ k i. (let name = named_dim k i in place_below table.dims name.0.text k name.1.1);
       used = used_too;
       shared = shared_or (shared here);
       small = small_shared here;
-      args = typed_args here table u (shared_or (shared here)) (parameters form) u.args is.arguments
-          (λ parameter i x h. typed_arg here parameter (one_right parameter i) table u same_dim fixed parameter.wanted refl (sound_wanted u.principle parameter i) x h);
+      args = zip_weaker (λ (x : Parameter) made. IsArg here x x.wanted made) (λ (x : Parameter) made. IsTypedArg table u (shared_or (shared here)) x.wanted made) (parameters form) u.args
+          (λ parameter i x h. typed_arg here parameter (one_right parameter i) table u same_dim fixed parameter.wanted refl (sound_wanted u.principle parameter i) x h) is.arguments;
     }
 
   -- all uses are typed
   pub typed_uses : IsTable table → (made : List PrincipleUse) → ArePrincipleUses statements table made → AreTypedUses table made
-  typed_uses types made h u i = let r = use_of table.dims (principle_uses statements) made h u i in typed_use types r.0 r.1.0 u r.1.1
+  typed_uses types made h u i = let r = zip_second (IsUse table.dims) (principle_uses statements) made h u i in typed_use types r.0 r.1.0 u r.1.1
 
   -- ---- what is made
 

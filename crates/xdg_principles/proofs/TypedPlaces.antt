@@ -1,5 +1,5 @@
 -- Places of labels and of dimensions that are used.
-use Rattle.std.proofs.Common.{◌≡◌, inl, inr, ℕ, zero, suc, ◌<◌, List, [], ◌∷◌, length, get_or, Option, None, Some, refl, sym, ap, ◌∙◌, arith}
+use Rattle.std.proofs.Common.{◌≡◌, inl, inr, ℕ, zero, suc, ◌<◌, List, [], ◌∷◌, length, get_or, Option, None, Some, refl, sym, ap, ◌∙◌, subst, arith}
 use Rattle.std.specs.Prelude.{slice_get}
 use Rattle.std.proofs.lemmas.List.{length-map, get_or-map}
 use Rattle.std.proofs.lemmas.Option.{get_or_from_slice_get, slice_get_within}
@@ -9,10 +9,11 @@ use Rattle.xdg_names.proofs.Texts.{place_of-Some, place_of-at}
 use Rattle.xdg_types.specs.declared.table.DimType.{DimType}
 use Rattle.xdg_types.specs.Table as table
 use Rattle.xdg_types.specs.Table.{AreUsed}
-use Rattle.xdg_types.proofs.Elements.{all_differ}
+use Rattle.xdg_types.proofs.Elements.{all_differ, in_texts}
 use Rattle.xdg_problem.specs.declared.forms.Which.{Which}
 use Rattle.xdg_principles.specs.Settings.{Setting, dim_texts, dim_place, place_named}
 use Rattle.xdg_principles.specs.Made.{AreLabels, ArePlaces}
+use Rattle.xdg_principles.proofs.Sides.{zip_second}
 use Rattle.xdg_facts.proofs.Options.{none_some, some_same}
 use Rattle.xdg_facts.specs.Membership.{In, Differ}
 use Rattle.xdg_ast.specs.Texts.{texts}
@@ -20,12 +21,9 @@ use Rattle.xdg_ast.specs.Texts.{texts}
 -- ---- labels
 
 label_again : (known : List (List ℕ)) (names : List Name) (ns : List ℕ) (k : ℕ) (t : List ℕ) → AreLabels known names ns → In ns k → place_of known t ≡ Some k → In (texts names) t
-label_again known [] [] k t h i is = absurd i
-label_again known (name ∷ names) (n ∷ ns) k t h i is = elim i [
-  | inl q ↦ inl (sym (place_of-Some known name.text n h.0).1 ∙ ap (λ j. get_or known j []) q ∙ (place_of-Some known t k is).1)
-  | inr r ↦ inr (label_again known names ns k t h.1 r is)
-]
-label_again known _ _ k t h i is = absurd h
+label_again known names ns k t h i is =
+    let r = zip_second (λ (name : Name) n. place_of known name.text ≡ Some n) names ns h k i in
+    subst (In (texts names)) (sym (place_of-Some known r.0.text k r.1.1).1 ∙ (place_of-Some known t k is).1) (in_texts names r.0 r.1.0)
 
 -- the places of different labels are places, all different
 pub label_places : (known : List (List ℕ)) (names : List Name) (ns : List ℕ) → AreLabels known names ns → Differ (texts names) → table.ArePlaces (length known) ns
@@ -44,16 +42,6 @@ place_in setting [] ks h n which is = absurd (none_some which is)
 place_in setting (v ∷ ws) [] h n which is = absurd h
 place_in setting (v ∷ ws) (k ∷ ks) h zero which is = sym h.0 ∙ ap (dim_place setting) (some_same v which is)
 place_in setting (v ∷ ws) (k ∷ ks) h (suc n) which is = place_in setting ws ks h.1 n which is
-
-pub as_many : (setting : Setting) (ws : List Which) (ks : List ℕ) → ArePlaces setting ws ks → length ks ≡ length ws
-as_many setting [] [] h = refl
-as_many setting (v ∷ ws) (k ∷ ks) h = omega (arith, as_many setting ws ks h.1)
-as_many setting _ _ h = absurd h
-
-pub dim_of_place : (setting : Setting) (ws : List Which) (ks : List ℕ) → ArePlaces setting ws ks → (k : ℕ) → In ks k → (which : Which) × (dim_place setting which ≡ Some k)
-dim_of_place setting [] [] h k i = absurd i
-dim_of_place setting (v ∷ ws) (j ∷ ks) h k i = elim i [ inl q ↦ (v, h.0 ∙ ap Some q) | inr r ↦ dim_of_place setting ws ks h.1 k r ]
-dim_of_place setting _ _ h k i = absurd h
 
 pub name_of_dim : (dims : List DimType) (given : Option Name) (k : ℕ) → place_named dims given ≡ Some k → (name : Name) × ((given ≡ Some name) × (place_of (dim_texts dims) name.text ≡ Some k))
 name_of_dim dims None k h = absurd (none_some k h)

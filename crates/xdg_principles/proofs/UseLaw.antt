@@ -1,6 +1,6 @@
 -- What is built is what is meant, where nothing is wrong.
 use Rattle.xdg_facts.proofs.Options.{some_same, none_some}
-use Rattle.std.proofs.Common.{◌≡◌, inl, inr, ℕ, true, false, List, [], ◌∷◌, map, Option, None, Some, refl, sym, ap, ◌∙◌, subst}
+use Rattle.std.proofs.Common.{◌≡◌, inl, inr, ℕ, true, false, List, [], ◌∷◌, map, Option, None, Some, unwrap_or, refl, sym, ap, ◌∙◌, subst}
 use Rattle.std.specs.List.{flat_map}
 use Rattle.std.specs.Prelude.{if◌then◌else◌, bytes_eq, codes}
 use Rattle.std.proofs.lemmas.Bool.{true≢false, cases_Bool}
@@ -39,7 +39,8 @@ use Rattle.xdg_principles.specs.Uses.{Use, use_in, uses_in, principle_uses, valu
 use Rattle.xdg_principles.specs.Settings.{Setting, Called, setting_of, setting_if, setting, arguments_in, arguments, dim_texts, dim_place, place_named, labels, members}
 use Rattle.xdg_principles.specs.Settings.{term_in, constant_in, constant_at, list_of, list_at, listed_in, called_in, called_or, called_at, called_by, names_at}
 use Rattle.xdg_principles.specs.Arguments.{OneOffends, ArgumentOffends, has_form, truths}
-use Rattle.xdg_principles.specs.Made.{HasDims, IsMember, AreLabels, IsLabelList, IsTruth, IsArg, AreArgs, ArePlaces, IsUse, AreUses, ArePrincipleUses, or_zero, place_called, member_number, label_number, truth_of, arg, args, built_with, built}
+use Rattle.xdg_principles.specs.Made.{HasDims, IsMember, AreLabels, IsLabelList, IsTruth, IsArg, IsUse, ArePrincipleUses, place_called, member_number, label_number, truth_of, arg, args, built_with, built}
+use Rattle.xdg_principles.proofs.Sides.{zip_map}
 use Rattle.xdg_principles.proofs.Rows.{IsDefaulted, sound_parameter}
 use Rattle.xdg_facts.specs.Membership.{In}
 use Rattle.xdg_facts.proofs.In.{in_flat_map, flat_map_in, map_in}
@@ -49,10 +50,10 @@ use Rattle.xdg_terms.proofs.Right.{told}
 -- ---- lists
 
 abbrev IsThere : Option ℕ → Type 0
-IsThere o = o ≡ Some (or_zero o)
+IsThere o = o ≡ Some (unwrap_or o 0)
 
 place_there : (known : List (List ℕ)) (t : List ℕ) → In known t → IsThere (place_of known t)
-place_there known t h = let k = place_of-has_text known t (among_has known t h) in k.1 ∙ sym (ap (λ o. Some (or_zero o)) k.1)
+place_there known t h = let k = place_of-has_text known t (among_has known t h) in k.1 ∙ sym (ap (λ o. Some (unwrap_or o 0)) k.1)
 
 -- ---- pairs
 
@@ -102,8 +103,7 @@ truth_said t h = elim h [
 ]
 
 labels_are : (known : List (List ℕ)) (names : List Name) → ((n : Name) → In names n → In known n.text) → AreLabels known names (map (label_number known) names)
-labels_are known [] h = tt
-labels_are known (n ∷ names) h = (place_there known n.text (h n (inl refl)), labels_are known names (λ m k. h m (inr k)))
+labels_are known names h = zip_map (λ (name : Name) n. place_of known name.text ≡ Some n) (label_number known) names (λ n i. place_there known n.text (h n i))
 
 module _ (setting : Setting) (parameter : Parameter) (right : (f : Fault) → OneOffends (record { setting = setting; parameter = parameter }) f → ⊥) (sound : IsDefaulted parameter.wanted parameter.preset) (given : parameter.preset ≡ p.Required → term_in setting parameter ≡ None → ⊥) where
   formed : (term : Term) → term_in setting parameter ≡ Some term → has_form parameter.wanted term ≡ true
@@ -129,7 +129,7 @@ module _ (setting : Setting) (parameter : Parameter) (right : (f : Fault) → On
     is_member : IsMember setting parameter sort which (member_number setting parameter sort which)
     is_member =
         let k = called_by_term (term_in setting parameter) refl in
-        (k.0, (k.1, place_there (firsts (members setting sort which)) k.0.text (there k.0 k.1) ∙ sym (ap (λ (o : Option Called). Some (or_zero (place_called setting sort which o))) k.1)))
+        (k.0, (k.1, place_there (firsts (members setting sort which)) k.0.text (there k.0 k.1) ∙ sym (ap (λ (o : Option Called). Some (unwrap_or (place_called setting sort which o) 0)) k.1)))
 
   truth_is : parameter.wanted ≡ a.Truth → (o : Option Term) → term_in setting parameter ≡ o → IsTruth (truth_of (constant_at o)) o
   truth_is wanted None e = refl
@@ -161,14 +161,6 @@ module _ (setting : Setting) (parameter : Parameter) (right : (f : Fault) → On
   is_arg a.Truth e = truth_is e (term_in setting parameter) refl
 
 -- ---- one use
-
-args_are : (setting : Setting) (ps : List Parameter) → ((x : Parameter) → In ps x → IsArg setting x x.wanted (arg setting x x.wanted)) → AreArgs setting ps (args setting ps)
-args_are setting [] h = tt
-args_are setting (x ∷ ps) h = (h x (inl refl), args_are setting ps (λ y k. h y (inr k)))
-
-places_are : (setting : Setting) (ws : List Which) → ((w : Which) → In ws w → IsThere (dim_place setting w)) → ArePlaces setting ws (map (λ w. or_zero (dim_place setting w)) ws)
-places_are setting [] h = tt
-places_are setting (w ∷ ws) h = (h w (inl refl), places_are setting ws (λ v k. h v (inr k)))
 
 required_in : (ps : List Parameter) (x : Parameter) → In ps x → x.preset ≡ p.Required → In (flat_map required_key ps) (key_text x.key)
 required_in ps x h e = flat_map_in required_key ps x (key_text x.key) h (subst (λ (q : Preset). In (key_if_required (key_text x.key) q) (key_text x.key)) (sym e) (inl refl))
@@ -222,18 +214,14 @@ module _ (statements : List Statement) (table : Table) (has : HasDims statements
         known = known;
         at = refl;
         home = known_dim one.within (within_dim statements one stands);
-        dimensions = places_are here (dims_in form.dims) (λ w h. dim_there w h (under one.dims (dim_key form.dims w)) refl);
-        arguments = args_are here (parameters form) each_arg;
+        dimensions = zip_map (λ which k. dim_place here which ≡ Some k) (λ which. unwrap_or (dim_place here which) 0) (dims_in form.dims) (λ w h. dim_there w h (under one.dims (dim_key form.dims w)) refl);
+        arguments = zip_map (λ (x : Parameter) made. IsArg here x x.wanted made) (λ x. arg here x x.wanted) (parameters form) each_arg;
       }
 
     use_by : (o : Option Principle) → named one.name.text ≡ o → IsUse table.dims one (built_with table.dims one o)
     use_by None e = absurd (names_right (fault_at causes.UnknownPrinciple one.name.span.start) (inr (inr (inr (inl (record { one = one; stands = stands; missing = e; fault = refl }))))))
     use_by (Some principle) e = is_use principle e
 
-  all_uses : (uses : List Use) → ((one : Use) → In uses one → IsUse table.dims one (built table.dims one)) → AreUses table.dims uses (map (built table.dims) uses)
-  all_uses [] h = tt
-  all_uses (one ∷ uses) h = (h one (inl refl), all_uses uses (λ other k. h other (inr k)))
-
   -- what is built is what is meant
   pub are_uses : ArePrincipleUses statements table (map (built table.dims) (principle_uses statements))
-  are_uses = all_uses (principle_uses statements) (λ one stands. use_by one stands (named one.name.text) refl)
+  are_uses = zip_map (IsUse table.dims) (built table.dims) (principle_uses statements) (λ one stands. use_by one stands (named one.name.text) refl)

@@ -1,5 +1,6 @@
 -- The uses of principles with what they name, by number.
-use Rattle.std.specs.Prelude.{◌≡◌, ℕ, Bool, false, List, [], ◌∷◌, map, Option, None, Some, codes, bytes_eq}
+use Rattle.std.specs.Prelude.{◌≡◌, ℕ, Bool, false, List, [], map, Option, None, Some, unwrap_or, codes, bytes_eq}
+use Rattle.std.specs.List.{AllZip}
 use Rattle.xdg_ast.specs.declared.names.Name.{Name}
 use Rattle.xdg_names.specs.Texts.{place_of}
 use Rattle.xdg_terms.specs.Forms.{Term, constant_of}
@@ -44,9 +45,7 @@ IsMember setting parameter sort which k =
 
 -- the places of these constants among labels
 abbrev pub AreLabels : List (List ℕ) → List Name → List ℕ → Type 0
-AreLabels known [] [] = Unit {0}
-AreLabels known (name ∷ names) (n ∷ ns) = (place_of known name.text ≡ Some n) × AreLabels known names ns
-AreLabels known _ _ = ⊥
+AreLabels known names ns = AllZip (λ (name : Name) n. place_of known name.text ≡ Some n) names ns
 
 abbrev pub IsLabelList : List (List ℕ) → Option Term → List ℕ → Type 0
 IsLabelList known None ns = ⊥
@@ -65,17 +64,13 @@ IsArg setting parameter a.Truth (g.Truth b) = IsTruth b (term_in setting paramet
 IsArg setting parameter _ _ = ⊥
 
 abbrev pub AreArgs : Setting → List Parameter → List Arg → Type 0
-AreArgs setting [] [] = Unit {0}
-AreArgs setting (parameter ∷ parameters) (x ∷ xs) = IsArg setting parameter parameter.wanted x × AreArgs setting parameters xs
-AreArgs setting _ _ = ⊥
+AreArgs setting parameters xs = AllZip (λ (parameter : Parameter) x. IsArg setting parameter parameter.wanted x) parameters xs
 
 -- ---- uses
 
 -- the places of the dimensions that are given
 abbrev pub ArePlaces : Setting → List Which → List ℕ → Type 0
-ArePlaces setting [] [] = Unit {0}
-ArePlaces setting (which ∷ more) (k ∷ ks) = (dim_place setting which ≡ Some k) × ArePlaces setting more ks
-ArePlaces setting _ _ = ⊥
+ArePlaces setting all ks = AllZip (λ which k. dim_place setting which ≡ Some k) all ks
 
 -- The use is one of the principle that its name says, has the place of that name and stands in its home, and its dimensions and
 -- arguments, given or by default, stand in the order of the table of principles.
@@ -87,9 +82,7 @@ pub record IsUse (dims : List DimType) (one : Use) (made : PrincipleUse) : Type 
   pub arguments : AreArgs (setting_of dims one made.principle) (parameters (form_of made.principle)) made.args
 
 abbrev pub AreUses : List DimType → List Use → List PrincipleUse → Type 0
-AreUses dims [] [] = Unit {0}
-AreUses dims (one ∷ uses) (made ∷ more) = IsUse dims one made × AreUses dims uses more
-AreUses dims _ _ = ⊥
+AreUses dims uses made = AllZip (IsUse dims) uses made
 
 -- these are the uses of principles in all dimensions, used or not, in the order of the text
 abbrev pub ArePrincipleUses : List Statement → Table → List PrincipleUse → Type 0
@@ -104,19 +97,15 @@ pub record AreRightUses (statements : List Statement) (table : Table) (uses : Us
 
 -- ---- the same as a function, which gives 0 for what isn't there, and the principle graph
 
-abbrev pub or_zero : Option ℕ → ℕ
-or_zero None = 0
-or_zero (Some n) = n
-
 abbrev pub place_called : Setting → Sort → Which → Option Called → Option ℕ
 place_called setting sort which None = None
 place_called setting sort which (Some called) = member_place setting sort which called.text
 
 abbrev pub member_number : Setting → Parameter → Sort → Which → ℕ
-member_number setting parameter sort which = or_zero (place_called setting sort which (called_in setting parameter))
+member_number setting parameter sort which = unwrap_or (place_called setting sort which (called_in setting parameter)) 0
 
 abbrev pub label_number : List (List ℕ) → Name → ℕ
-label_number known name = or_zero (place_of known name.text)
+label_number known name = unwrap_or (place_of known name.text) 0
 
 abbrev pub truth_of : Option Name → Bool
 truth_of None = false
@@ -132,15 +121,15 @@ abbrev pub args : Setting → List Parameter → List Arg
 args setting parameters = map (λ parameter. arg setting parameter parameter.wanted) parameters
 
 abbrev pub places : Setting → List ℕ
-places setting = map (λ which. or_zero (dim_place setting which)) (dims_in setting.form.dims)
+places setting = map (λ which. unwrap_or (dim_place setting which) 0) (dims_in setting.form.dims)
 
 abbrev pub built_with : List DimType → Use → Option Principle → PrincipleUse
 built_with dims one None =
-    record { principle = principles.Graph; home = or_zero (place_of (dim_texts dims) one.within.text); dims = []; args = []; at = one.name.span.start }
+    record { principle = principles.Graph; home = unwrap_or (place_of (dim_texts dims) one.within.text) 0; dims = []; args = []; at = one.name.span.start }
 built_with dims one (Some principle) =
     record {
       principle = principle;
-      home = or_zero (place_of (dim_texts dims) one.within.text);
+      home = unwrap_or (place_of (dim_texts dims) one.within.text) 0;
       dims = places (setting_of dims one principle);
       args = args (setting_of dims one principle) (parameters (form_of principle));
       at = one.name.span.start;

@@ -1,5 +1,6 @@
 -- That a use of a principle, by number, names what is there and has the wanted types: said of a table of types alone, without the text.
-use Rattle.std.specs.Prelude.{◌≡◌, ℕ, ◌<◌, true, List, [], ◌∷◌, length, Option, Some, slice_get}
+use Rattle.std.specs.Prelude.{◌≡◌, ℕ, ◌<◌, true, List, length, Option, Some, slice_get}
+use Rattle.std.specs.List.{AllZip}
 use Rattle.xdg_domain.specs.Shapes.{Shape, domain, valency}
 use Rattle.xdg_types.specs.declared.table.DimType.{DimType}
 use Rattle.xdg_types.specs.Kinds.{is_small}
@@ -82,9 +83,7 @@ IsTypedArg table u shared _ _ = ⊥
 
 -- there is an argument for each of these parameters, in order, and each is of the wanted kind
 abbrev pub AreTypedArgs : Table → PrincipleUse → Shape → List Parameter → List Arg → Type 0
-AreTypedArgs table u shared [] [] = Unit {0}
-AreTypedArgs table u shared (parameter ∷ more) (x ∷ xs) = IsTypedArg table u shared parameter.wanted x × AreTypedArgs table u shared more xs
-AreTypedArgs table u shared _ _ = ⊥
+AreTypedArgs table u shared parameters xs = AllZip (λ (parameter : Parameter) x. IsTypedArg table u shared parameter.wanted x) parameters xs
 
 -- ---- uses
 

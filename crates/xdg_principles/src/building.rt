@@ -17,7 +17,7 @@ use std::alloc::Global;
 use xdg_ast::Name;
 use xdg_base::{List, OutOfMemory, Text};
 use xdg_problem::{Dims, Parameter, Principle, Sort, Wanted, Which, form_of};
-use xdg_types::{DimType, TypeTable};
+use xdg_types::{DimType, TypeTable, label_number};
 
 /// A use of a principle, with its dimensions and arguments by number, in the order of the table of principles.
 #[derive(Debug, Drop)]
@@ -103,7 +103,10 @@ fn build<'a>(
     requires { Knows dims.now lookup.now }
     ensures { IfOk result (λ made. made ≡ spec.built_with dims.now (seen one.now.written) one.now.principle) }
 {
-    let home = or_zero(lookup.dims.find(one.written.within.text.as_str()));
+    let home = lookup
+        .dims
+        .find(one.written.within.text.as_str())
+        .unwrap_or(0);
     let at = one.written.name.span.start;
     match &one.principle {
         None => Ok(PrincipleUse {
@@ -131,23 +134,14 @@ fn build<'a>(
     }
 }
 
-fn or_zero(place: Option<usize>) -> usize
-    ensures { result ≡ spec.or_zero place }
-{
-    match place {
-        None => 0,
-        Some(place) => place,
-    }
-}
-
 /// The places of the dimensions.
 fn places<'a>(alloc: Global, setting: &SettingRef<'a>) -> Result<List<usize>, OutOfMemory>
     requires { IsReady setting.now }
     ensures { IfOk result (λ made. made ≡ spec.places (as_setting setting.now)) }
 {
-    let first = or_zero(setting.place(Which::First));
-    let second = or_zero(setting.place(Which::Second));
-    let third = or_zero(setting.place(Which::Third));
+    let first = setting.place(Which::First).unwrap_or(0);
+    let second = setting.place(Which::Second).unwrap_or(0);
+    let third = setting.place(Which::Third).unwrap_or(0);
     match setting.form.dims {
         Dims::One => List::from_slice(alloc, &[first]),
         Dims::Two => List::from_slice(alloc, &[first, second]),
@@ -216,7 +210,7 @@ fn member<'a>(setting: &SettingRef<'a>, parameter: Parameter, sort: Sort, which:
 {
     match setting.called(parameter) {
         None => 0,
-        Some(called) => or_zero(setting.member_place(sort, which, called.text)),
+        Some(called) => setting.member_place(sort, which, called.text).unwrap_or(0),
     }
 }
 
@@ -230,19 +224,6 @@ fn label_numbers(alloc: Global, labels: &[Text], names: &[Name]) -> Result<List<
         made.push(label_number(labels, name))?;
     }
     Ok(made)
-}
-
-/// The number of a label: its place among the labels, from 0, or 0 where it is none of them. The time is linear in their number.
-pub fn label_number(labels: &[Text], name: &Name) -> u8
-    requires { length labels.now ≤ 32 }
-    ensures { result ≡ spec.label_number labels.now name.now }
-{
-    for (number, label) in labels.iter().enumerate() {
-        if label.as_str() == name.text.as_str() {
-            return number as u8;
-        }
-    }
-    0
 }
 
 /// The truth value that is given, or else `false`.

@@ -11,6 +11,6 @@ mod settings;
 mod using;
 
 pub use arguments::check_arguments;
-pub use building::{Arg, PrincipleUse, label_number, uses};
+pub use building::{Arg, PrincipleUse, uses};
 pub use names::check_names;
 pub use using::{Uses, principle_uses};
