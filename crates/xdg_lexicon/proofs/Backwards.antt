@@ -1,14 +1,10 @@
 -- Partial entries joined from their last records to their first.
-use Rattle.std.proofs.Common.{◌≡◌, ℕ, zero, suc, ◌<◌, ◌+◌, List, [], ◌∷◌, ◌++◌, length, get_or, reverse, refl, ap, sym, ◌∙◌, arith, subst}
+use Rattle.std.proofs.Common.{◌≡◌, ℕ, zero, suc, ◌<◌, ◌+◌, List, [], ◌∷◌, ◌++◌, length, reverse, ap, sym, ◌∙◌, arith, subst}
 use Rattle.std.proofs.Math.Seq.{get_or-append_seam}
 use Rattle.std.proofs.lemmas.List.{length-append, length-reverse, get_or_append_left, reverse-append}
-use Rattle.std.proofs.lemmas.Option.{slice_get_read, slice_get_within}
-use Rattle.std.specs.Prelude.{Option, None, MatchOption}
-use Rattle.xdg_domain.specs.Joined.{fields_in}
-use Rattle.xdg_domain.specs.Joins.{SaysBoth, JoinsField, OnSome, ClashesField}
-use Rattle.xdg_domain.specs.declared.types.Ty.{Ty}
+use Rattle.std.proofs.lemmas.Option.{slice_get_within}
 use Rattle.xdg_types.specs.declared.table.DimType.{DimType}
-use Rattle.xdg_lexicon.specs.Partial.{Record, Partial, said_of, IsRecord, IsPartial, PartialsJoin, PartialsClash}
+use Rattle.xdg_lexicon.specs.Partial.{Record, Partial, said_of, IsPartial, PartialsJoin}
 use Rattle.xdg_lexicon.proofs.Dims.{JoinsAt}
 
 -- Of two partial entries these records are left, and Q holds of those that are made of the ones behind them, the last first.
@@ -20,7 +16,7 @@ pub record BackSoFar (Q : ℕ → Record → Type 0) (bound : ℕ) (a b one othe
   pub each : (i : ℕ) → i < length made → Q (length one + i) (said_of (reverse made) i)
 
 -- the last of each is taken
-module _ (Q : ℕ → Record → Type 0) (bound : ℕ) (a b one other made rest others : Partial) (x y : Record) (s : BackSoFar Q bound a b one other made) (popped : one ≡ rest ++ x ∷ []) where
+module _ {Q : ℕ → Record → Type 0} {bound : ℕ} {a b one other made : Partial} (s : BackSoFar Q bound a b one other made) (rest : Partial) (x : Record) (popped : one ≡ rest ++ x ∷ []) where
   longer : length one ≡ length rest + 1
   longer = ap length popped ∙ length-append rest (x ∷ [])
 
@@ -30,15 +26,15 @@ module _ (Q : ℕ → Record → Type 0) (bound : ℕ) (a b one other made rest 
   pub back_mine : x ≡ said_of a (length rest)
   back_mine = sym (get_or-append_seam rest x [] []) ∙ (ap (λ l. said_of l (length rest)) (sym popped) ∙ s.mine (length rest) (let l = longer in omega (arith, l)))
 
-  module _ (taken : other ≡ others ++ y ∷ []) where
+  module _ (others : Partial) (y : Record) (taken : other ≡ others ++ y ∷ []) where
     as_long : length others ≡ length rest
     as_long = (let e : length other ≡ length others + 1 = ap length taken ∙ length-append others (y ∷ []) in let c = s.same in let l = longer in omega (arith, e, c, l))
 
     pub back_theirs : y ≡ said_of b (length rest)
     back_theirs = sym (get_or-append_seam others y [] []) ∙ (ap (λ l. said_of l (length others)) (sym taken) ∙ (ap (said_of other) as_long ∙ s.theirs (length rest) (let l = longer in omega (arith, l))))
 
-    pub back_further : (new : Partial) (m : Record) → new ≡ made ++ m ∷ [] → Q (length rest) m → BackSoFar Q bound a b rest others new
-    back_further new m now q = subst (BackSoFar Q bound a b rest others) (sym now) (record {
+    pub back_further : {new : Partial} {m : Record} → new ≡ made ++ m ∷ [] → Q (length rest) m → BackSoFar Q bound a b rest others new
+    back_further {m} now q = subst (BackSoFar Q bound a b rest others) (sym now) (record {
       same = as_long;
       count = (let e : length (made ++ m ∷ []) ≡ length made + 1 = length-append made (m ∷ []) in let c = s.count in let l = longer in omega (arith, e, c, l));
       mine = λ k h. sym (get_or_append_left rest (x ∷ []) [] k h) ∙ (ap (λ l. said_of l k) (sym popped) ∙ s.mine k (let l = longer in omega (arith, h, l)));
@@ -49,20 +45,6 @@ module _ (Q : ℕ → Record → Type 0) (bound : ℕ) (a b one other made rest 
         here : (i : ℕ) → i < length made + 1 → Q (length rest + i) (said_of (m ∷ reverse made) i)
         here zero h = (let e : length rest ≡ length rest + zero = omega arith in subst (λ n. Q n m) e q)
         here (suc i) h = (let l = longer in let e : length one + i ≡ length rest + suc i = omega (arith, l) in subst (λ n. Q n (said_of (reverse made) i)) e (s.each i (omega (arith, h))))
-
--- two records that clash are what two partial entries say of the dimension at their place
-pub clashed_back : (dims : List DimType) (a b : Partial) (k : ℕ) (d : DimType) (mine theirs : Record) (fs : List (List ℕ × Ty)) → k < length dims → d ≡ get_or dims k d → fs ≡ d.fields → mine ≡ said_of a k → theirs ≡ said_of b k
-    → (told : Option Record) → told ≡ None
-    → MatchOption told (OnSome (ClashesField (fields_in fs)) mine theirs) (λ n. SaysBoth (JoinsField (fields_in fs)) mine theirs n × IsRecord (fields_in fs) n) → PartialsClash dims a b
-clashed_back dims a b k d mine theirs fs within is types one other told none h =
-    let Clash = λ (l : List (List ℕ × Ty)) (x y : Record). OnSome (ClashesField (fields_in l)) x y in
-    let clash : Clash fs mine theirs = subst (λ t. MatchOption t (OnSome (ClashesField (fields_in fs)) mine theirs) (λ n. SaysBoth (JoinsField (fields_in fs)) mine theirs n × IsRecord (fields_in fs) n)) none h in
-    record {
-      at = k;
-      dim = d;
-      is = slice_get_read dims (length dims) k d refl within is;
-      clash = subst (λ l. Clash l (said_of a k) (said_of b k)) types (subst (λ x. Clash fs x (said_of b k)) one (subst (λ y. Clash fs mine y) other clash));
-    }
 
 -- nothing is left
 pub back_done : (dims : List DimType) (a b one other made rest whole : Partial) → one ≡ [] → rest ≡ [] → whole ≡ rest ++ reverse made → BackSoFar (JoinsAt dims a b) (length dims) a b one other made → PartialsJoin dims a b whole × IsPartial dims whole

@@ -1,22 +1,22 @@
 -- A body denotes at most as many partial entries as it has combinations, and the classes that an entry uses have places.
-use Rattle.std.proofs.Common.{◌≡◌, suc, ◌<◌, ◌≤◌, ◌+◌, ◌*◌, List, ◌++◌, length, get_or, ap, sym, ◌∙◌, arith, subst}
+use Rattle.std.proofs.Common.{◌≡◌, suc, ◌≤◌, ◌+◌, ◌*◌, List, ◌++◌, length, get_or, ap, sym, ◌∙◌, arith, subst}
 use Rattle.std.specs.Prelude.{Some}
 use Rattle.std.proofs.Math.Nat.{suc-mul}
 use Rattle.std.proofs.lemmas.Nat.{mul-le}
-use Rattle.std.proofs.lemmas.List.{length-append, length-map}
-use Rattle.xdg_names.proofs.Texts.{among_has, place_of-Some, place_of-has_text}
+use Rattle.std.proofs.lemmas.List.{length-append}
+use Rattle.xdg_names.specs.Texts.{place_of}
 use Rattle.xdg_terms.specs.Forms.{Bindings}
 use Rattle.xdg_types.specs.declared.table.DimType.{DimType}
 use Rattle.xdg_classes.specs.Bodies.{Expr, Body, Bodies, body, calls}
-use Rattle.xdg_check.specs.declared.checked.Class.{Class}
 use Rattle.xdg_check.specs.declared.checked.EntryDef.{EntryDef}
 use Rattle.xdg_classes.specs.Wants.{NamedBody}
 use Rattle.xdg_check.specs.Checked.{Parts, IsChecked, named_body, named_bodies}
 use Rattle.xdg_check.specs.Counts.{Counting, Agrees, combos, sum_of_combos, product_of_combos, class_texts}
 use Rattle.xdg_lexicon.specs.Denotes.{JoinsEach, no_other, clashes, joins, JoinsAll, no_first, first_then, Denotes, record_said, class_used, conjunction, disjunction, DenotesBoth, all_joined, join_first, DenotesEither, all_listed, list_first, IsRanked}
 use Rattle.xdg_lexicon.specs.Partial.{Partial}
+use Rattle.xdg_check.proofs.Naming.{placed}
 use Rattle.xdg_facts.specs.Membership.{In}
-use Rattle.xdg_facts.proofs.In.{in_map, map_in, in_index}
+use Rattle.xdg_facts.proofs.In.{in_map, in_index}
 
 -- ---- counts
 
@@ -71,9 +71,6 @@ module _ (checked : Parts) (names : Counting) (agrees : Agrees combos checked.cl
 pub entry_ranked : (checked : Parts) (e : EntryDef) (expr : Expr) → IsChecked checked → In checked.entries e → e.body ≡ expr → IsRanked checked (length checked.order) (body expr.kind)
 entry_ranked checked e expr keeps stands is call used =
     let bound = ((keeps.entries e stands).called call (subst (λ (x : Expr). In (calls (body x.kind)) call) (sym is) used)).bound in
-    let known = class_texts checked.classes in
-    let text = call.name.text in
-    let place = place_of-has_text known text (among_has known text (subst (In known) bound.name (map_in (λ (c : Class). c.name) checked.classes bound.class bound.stands))) in
-    let inside : place.0 < length checked.classes = (let l = (place_of-Some known text place.0 place.1).0 in let long : length known ≡ length checked.classes = length-map checked.classes (λ (c : Class). c.name) in omega (arith, l, long)) in
-    let found = in_index checked.order place.0 0 (keeps.ordered.placed place.0 inside) in
-    (found.0, (found.1.0, place.1 ∙ ap Some (sym {a = get_or checked.order found.0 0} found.1.1)))
+    let place = placed checked.classes keeps.names bound.class bound.stands in
+    let found = in_index checked.order place.0 0 (keeps.ordered.placed place.0 place.1.within) in
+    (found.0, (found.1.0, ap (place_of (class_texts checked.classes)) (sym bound.name) ∙ place.1.place ∙ ap Some (sym {a = get_or checked.order found.0 0} found.1.1)))

@@ -40,14 +40,11 @@ few_each table lexicon is place few d f other word =
     let same = words_once table is lexicon.dim lexicon.field d f place other in
     subst (λ e. count_of e f lexicon.entries word ≤ 1024) same.0 (subst (λ g. count_of lexicon.dim g lexicon.entries word ≤ 1024) same.1 (few word))
 
-abbrev fault : ℕ → ℕ → Fault
-fault at n = record { cause = causes.TooManyEntries; at = at; reached = n }
-
 pub crowded : (table : Table) (lexicon : Lexicon) (at reached : ℕ) (stop : Stop) → IsWordPlace table lexicon.dim lexicon.field → length lexicon.entries ≤ 65536 → IsFirstCrowded lexicon reached → reached < 2 ^ 64
     → stop ≡ stops.Fault (record { cause = causes.TooManyEntries; at = at; reached = reached }) → KeepsLimits table lexicon.entries at (Err stop)
 crowded table lexicon at reached stop place few first fits is =
     let small : reached ≤ 2 ^ 64 - 1 = omega (arith, fits) in
     let whole : capped reached ≡ reached = omega (arith, small) in
-    let same : fault at reached ≡ reaching causes.TooManyEntries at reached = ap (fault at) (sym whole) in
+    let same : record { cause = causes.TooManyEntries; at = at; reached = reached } ≡ reaching causes.TooManyEntries at reached = ap (λ n. record { cause = causes.TooManyEntries; at = at; reached = n }) (sym whole) in
     let here : IsCrowded table lexicon.entries reached = record { dim = lexicon.dim; field = lexicon.field; words = place; first = first.first; within = first.within; reached_is = first.reached_is; many = first.many; before = first.before } in
     subst (λ s. KeepsLimits table lexicon.entries at (Err s)) (sym is) (inr (few, (reached, (here, same))))

@@ -1,6 +1,6 @@
 -- What a body denotes, form by form.
-use Rattle.std.proofs.Common.{◌≡◌, ℕ, ◌<◌, ◌≤◌, ◌+◌, ◌-◌, List, [], ◌∷◌, ◌++◌, length, drop, get_or, ap, sym, ◌∙◌, arith, subst, append_assoc, Option}
-use Rattle.std.proofs.lemmas.List.{append-nil, drop_all, get_or_default}
+use Rattle.std.proofs.Common.{◌≡◌, ℕ, ◌<◌, ◌≤◌, ◌+◌, List, [], ◌∷◌, ◌++◌, length, drop, get_or, ap, sym, ◌∙◌, arith, subst, append_assoc, Option}
+use Rattle.std.proofs.lemmas.List.{append-nil, drop_all}
 use Rattle.xdg_ast.specs.declared.names.Name.{Name}
 use Rattle.xdg_ast.specs.declared.expressions.ExprKind.{ExprKind}
 use Rattle.xdg_ast.specs.declared.expressions.ExprKind.TheVariants as v
@@ -58,20 +58,15 @@ module _ (checked : Parts) (bs : Bindings) (items : List Expr) where
     ),
   )
 
-  pub both_further : (left : ℕ) (x : Expr) (ms made new : List Partial) → 0 < left → Denotes checked.types.dims (named_bodies checked.classes) bs (body (get_or items (left - 1) x).kind) ms → BothSoFar checked bs items left made → JoinsAll checked.types.dims ms made new → ArePartial checked.types.dims new
-      → BothSoFar checked bs items (left - 1) new
-  both_further left x ms made new some d so_far joins right =
-      let e = get_or items (left - 1) x in
-      let inside : left - 1 < length items = (let w = so_far.0 in omega (arith, some, w)) in
-      let is : e ≡ get_or items (left - 1) e = get_or_default items (left - 1) x e inside in
-      let next : (left - 1) + 1 ≡ left = omega (arith, some) in (
-        omega (arith, inside),
-        (
-          subst (λ l. DenotesBoth checked.types.dims (named_bodies checked.classes) bs (trees l) new) (sym (from_place items (left - 1) e inside is))
-              (den.join_first bs (body e.kind) (trees (drop ((left - 1) + 1) items)) ms made new d (subst (λ n. DenotesBoth checked.types.dims (named_bodies checked.classes) bs (trees (drop n items)) made) (sym next) so_far.1.0) joins),
-          right,
-        ),
-      )
+  pub both_further : (i : ℕ) (e : Expr) (ms made new : List Partial) → i < length items → e ≡ get_or items i e → Denotes checked.types.dims (named_bodies checked.classes) bs (body e.kind) ms → BothSoFar checked bs items (i + 1) made
+      → JoinsAll checked.types.dims ms made new → ArePartial checked.types.dims new → BothSoFar checked bs items i new
+  both_further i e ms made new within is d so_far joins right = (
+    omega (arith, within),
+    (
+      subst (λ l. DenotesBoth checked.types.dims (named_bodies checked.classes) bs (trees l) new) (sym (from_place items i e within is)) (den.join_first bs (body e.kind) (trees (drop (i + 1) items)) ms made new d so_far.1.0 joins),
+      right,
+    ),
+  )
 
   pub both_denotes : (left : ℕ) (made : List Partial) → left ≡ 0 → BothSoFar checked bs items left made → Denotes checked.types.dims (named_bodies checked.classes) bs (both (trees items)) made
   both_denotes left made none so_far =

@@ -1,8 +1,8 @@
 -- Partial entries made dimension after dimension.
-use Rattle.std.proofs.Common.{◌≡◌, ℕ, ◌<◌, ◌≤◌, ◌+◌, List, [], ◌∷◌, ◌++◌, length, get_or, ap, sym, ◌∙◌, arith, subst}
+use Rattle.std.proofs.Common.{◌≡◌, ℕ, ◌<◌, ◌≤◌, ◌+◌, List, [], ◌∷◌, ◌++◌, length, get_or, refl, ap, sym, ◌∙◌, arith, subst}
 use Rattle.std.proofs.lemmas.List.{length-append, length-map, get_or-map}
-use Rattle.std.specs.Prelude.{Option, Some, MatchOption}
-use Rattle.std.proofs.lemmas.Option.{get_or_from_slice_get, slice_get_within}
+use Rattle.std.specs.Prelude.{Option, None, Some, MatchOption}
+use Rattle.std.proofs.lemmas.Option.{get_or_from_slice_get, slice_get_read, slice_get_within}
 use Rattle.xdg_domain.specs.Joined.{fields_in}
 use Rattle.xdg_domain.specs.Joins.{SaysBoth, JoinsField, OnSome, ClashesField}
 use Rattle.xdg_domain.specs.Shapes.{AreTypes}
@@ -12,7 +12,7 @@ use Rattle.xdg_types.specs.declared.table.DimType.{DimType}
 use Rattle.xdg_packed.proofs.Firsts.{each_pushed}
 use Rattle.xdg_terms.specs.Forms.{Bindings}
 use Rattle.xdg_classes.specs.Bodies.{Pairs}
-use Rattle.xdg_lexicon.specs.Partial.{Record, Partial, features, IsDim, said_of, IsRecord, IsPartial, nothing, PartialsJoin, ReadsDim}
+use Rattle.xdg_lexicon.specs.Partial.{Record, Partial, features, IsDim, said_of, IsRecord, IsPartial, nothing, PartialsJoin, PartialsClash, ReadsDim}
 
 -- ---- lists made one by one
 
@@ -22,9 +22,6 @@ pub record SoFar (Q : ℕ → Record → Type 0) (bound : ℕ) (made : Partial) 
   pub each : (k : ℕ) → k < bound → Q k (said_of made k)
 
 module _ (Q : ℕ → Record → Type 0) where
-  pub begun : (made : Partial) → made ≡ [] → SoFar Q 0 made
-  begun made is = record { count = ap length is; each = λ k h. absurd (omega (arith, h)) }
-
   pub further : (bound : ℕ) (made new : Partial) (m : Record) → new ≡ made ++ m ∷ [] → SoFar Q bound made → Q bound m → SoFar Q (bound + 1) new
   further bound made new m is s q = subst (SoFar Q (bound + 1)) (sym is) (record {
     count = length-append made (m ∷ []) ∙ ap (λ n. n + 1) s.count;
@@ -58,14 +55,15 @@ JoinsAt dims a b k m = (dim : DimType) → IsDim dims k dim → SaysBoth (JoinsF
 pub within_partial : (dims : List DimType) (p : Partial) (k : ℕ) → k < length dims → IsPartial dims p → k < length p
 within_partial dims p k within right = (let long = right.count in omega (arith, within, long))
 
--- what two records say together is what is said of the dimension at their place
-pub joined_here : (dims : List DimType) (a b : Partial) (k : ℕ) (d : DimType) (mine theirs : Record) (fs : List (List ℕ × Ty)) → d ≡ get_or dims k d → fs ≡ d.fields → mine ≡ said_of a k → theirs ≡ said_of b k
-    → (told : Option Record) (m : Record) → told ≡ Some m
-    → MatchOption told (OnSome (ClashesField (fields_in fs)) mine theirs) (λ n. SaysBoth (JoinsField (fields_in fs)) mine theirs n × IsRecord (fields_in fs) n) → JoinsAt dims a b k m
-joined_here dims a b k d mine theirs fs is types one other told m some h dim at =
-    let Both = λ (l : List (List ℕ × Ty)) (x y : Record). SaysBoth (JoinsField (fields_in l)) x y m × IsRecord (fields_in l) m in
-    let both : Both fs mine theirs = subst (λ t. MatchOption t (OnSome (ClashesField (fields_in fs)) mine theirs) (λ n. SaysBoth (JoinsField (fields_in fs)) mine theirs n × IsRecord (fields_in fs) n)) some h in
-    subst (λ l. Both l (said_of a k) (said_of b k)) (types ∙ ap (λ (z : DimType). z.fields) (sym (one_dim dims k d dim is at))) (subst (λ x. Both fs x (said_of b k)) one (subst (λ y. Both fs mine y) other both))
+-- what two records say together, or that they clash, is told of the dimension at their place
+module _ (dims : List DimType) (a b : Partial) (k : ℕ) (d : DimType) (mine theirs : Record) (fs : List (List ℕ × Ty)) (is : d ≡ get_or dims k d) (types : fs ≡ d.fields) (one : mine ≡ said_of a k) (other : theirs ≡ said_of b k)
+    (told : Option Record) (h : MatchOption told (OnSome (ClashesField (fields_in fs)) mine theirs) (λ n. SaysBoth (JoinsField (fields_in fs)) mine theirs n × IsRecord (fields_in fs) n)) where
+  pub joined_here : (m : Record) → told ≡ Some m → JoinsAt dims a b k m
+  joined_here m some dim at =
+      subst (λ (z : DimType). SaysBoth (JoinsField (features z)) (said_of a k) (said_of b k) m × IsRecord (features z) m) (sym (one_dim dims k d dim is at)) (rw (some, types, one, other) at h)
+
+  pub clashed_here : k < length dims → told ≡ None → PartialsClash dims a b
+  clashed_here within none = record { at = k; dim = d; is = slice_get_read dims (length dims) k d refl within is; clash = rw (none, types, one, other) at h }
 
 -- ---- entries that are read
 

@@ -92,21 +92,16 @@ module _ (fs : All) (a b : Record) (k : ℕ) (f : List ℕ × Ty) (o p : Option 
   pub joined_told : (c : Option Value) → k < length fs → f ≡ get_or fs k f → o ≡ said_at a k → p ≡ said_at b k → told ≡ Some c
       → MatchOption told (OnBoth (Clashes (shape f.1)) o p) (λ (d : Option Value). Both (Joins (shape f.1)) o p d × IfSome d (IsValue (shape f.1))) → Joining fs a b k c
   joined_told c within is i j some h =
-      let both = subst (λ t. MatchOption t (OnBoth (Clashes (shape f.1)) o p) (λ (d : Option Value). Both (Joins (shape f.1)) o p d × IfSome d (IsValue (shape f.1)))) some h in (
-        subst (λ t. Both (JoinsField (fields_in fs) k) t (said_at b k) c) i (subst (λ t. Both (JoinsField (fields_in fs) k) o t c) j
-            (both_changes (Joins (shape f.1)) (JoinsField (fields_in fs) k) (λ x y z. joins_at fs k f x y z within is) o p c both.0)),
+      let both = rw some at h in (
+        rw (← i, ← j) (both_changes (Joins (shape f.1)) (JoinsField (fields_in fs) k) (λ x y z. joins_at fs k f x y z within is) o p c both.0),
         if_value fs k f c within is both.1,
       )
 
   pub clash_told : k < length fs → f ≡ get_or fs k f → o ≡ said_at a k → p ≡ said_at b k → told ≡ None
       → MatchOption told (OnBoth (Clashes (shape f.1)) o p) (λ (d : Option Value). Both (Joins (shape f.1)) o p d × IfSome d (IsValue (shape f.1))) → OnSome (ClashesField (fields_in fs)) a b
-  clash_told within is i j none h = (
-    k,
-    subst (λ t. OnBoth (ClashesField (fields_in fs) k) t (said_at b k)) i (subst (λ t. OnBoth (ClashesField (fields_in fs) k) o t) j (on_changes fs k f o p within is
-        (subst (λ t. MatchOption t (OnBoth (Clashes (shape f.1)) o p) (λ (d : Option Value). Both (Joins (shape f.1)) o p d × IfSome d (IsValue (shape f.1)))) none h))),
-  )
+  clash_told within is i j none h = (k, rw (← i, ← j) (on_changes fs k f o p within is (rw none at h)))
 
-pub joined_all : (fs : All) (a b : Record) (bound : ℕ) (made : Record) → IsRecord (fields_in fs) a → IsRecord (fields_in fs) b → length fs ≤ bound → IsMade (Joining fs a b) bound made
+pub joined_all : (fs : All) (a b : Record) (bound : ℕ) (made : Record) → IsRecord (fields_in fs) a → IsRecord (fields_in fs) b → length fs ≤ bound → IsMade (Joining fs a b) 0 bound made
     → SaysBoth (JoinsField (fields_in fs)) a b made × IsRecord (fields_in fs) made
 joined_all fs a b bound made ra rb order m =
     let each = all (Joining fs a b) bound made m (λ key over. (
@@ -124,7 +119,7 @@ pub read_one : (bs : Bindings) (fs : All) (pairs : Pairs) (k : ℕ) (f : List �
     → Said (Means bs (shape f.1)) o c × IfSome c (IsValue (shape f.1)) → Reading bs fs pairs k c
 read_one bs fs pairs k f o c within is i h = (means_at bs fs (written pairs) k f c within is (subst (λ t. Said (Means bs (shape f.1)) t c) i h.0), if_value fs k f c within is h.1)
 
-pub read_all : (bs : Bindings) (fs : All) (pairs : Pairs) (bound : ℕ) (made : Record) → length fs ≤ bound → IsMade (Reading bs fs pairs) bound made
+pub read_all : (bs : Bindings) (fs : All) (pairs : Pairs) (bound : ℕ) (made : Record) → length fs ≤ bound → IsMade (Reading bs fs pairs) 0 bound made
     → SaysFields bs (fields_in fs) pairs made × IsRecord (fields_in fs) made
 read_all bs fs pairs bound made order m =
     let each = all (Reading bs fs pairs) bound made m (λ key over. (means_none bs fs (written pairs) key (omega (arith, order, over)), tt)) in

@@ -1,29 +1,26 @@
 -- What a use of a class stands for, class after class.
 use Rattle.std.proofs.Common.{◌≡◌, ℕ, zero, suc, ◌<◌, ◌≤◌, ◌+◌, ◌-◌, List, length, refl, ap, sym, ◌∙◌, arith, inl, subst, slice_get, slice_index_or}
 use Rattle.std.specs.Prelude.{Some}
-use Rattle.std.proofs.lemmas.List.{length-map}
 use Rattle.xdg_ast.specs.declared.names.Name.{Name}
 use Rattle.xdg_names.specs.Texts.{place_of}
-use Rattle.xdg_names.proofs.Texts.{place_of-Some}
 use Rattle.xdg_terms.specs.Forms.{Bindings}
 use Rattle.xdg_classes.specs.Bodies.{Pairs, Body, calling, body}
 use Rattle.xdg_check.specs.declared.checked.Class.{Class}
 use Rattle.xdg_check.specs.Checked.{Parts, IsChecked, named_body, named_bodies}
 use Rattle.xdg_check.specs.Counts.{class_texts, kept_at, kept_by}
-use Rattle.xdg_packed.proofs.WordLists.{place_inside}
 use Rattle.xdg_lexicon.specs.Denotes as den
 use Rattle.xdg_lexicon.specs.Denotes.{closed_args, Denotes, IsRanked}
 use Rattle.xdg_lexicon.specs.Partial.{Partial}
 use Rattle.xdg_lexicon.specs.Right.{IsRightUnder}
 use Rattle.xdg_lexicon.specs.Weights.{weigh, sized}
 use Rattle.xdg_lexicon.proofs.Settled.{used_right}
-use Rattle.xdg_check.proofs.Naming.{name_at}
+use Rattle.xdg_check.proofs.Naming.{name_of_place, place_within as class_within}
 use Rattle.xdg_facts.proofs.In.{in_got, map_in}
 
 -- ---- classes by name
 
 pub place_within : (cs lent : List Class) (text : List ℕ) (k : ℕ) → lent ≡ cs → Some k ≡ place_of (class_texts cs) text → k < length lent
-place_within cs lent text k same found = place_inside (class_texts cs) text k (length lent) (sym found) (ap length same ∙ sym (length-map cs (λ (c : Class). c.name)))
+place_within cs lent text k same found = subst (λ l. k < length l) (sym same) (class_within cs text k (sym found))
 
 -- the name has this class
 abbrev pub IsClassOf : Parts → List ℕ → Class → Type 0
@@ -66,7 +63,7 @@ module _ (checked : Parts) (depth : ℕ) (name : Name) (args : Pairs) (r : IsRan
         (before.0, ((let l = rank.1.0 in let b = before.1.0 in omega (arith, l, b)), before.1.1))
 
     class_name : c.name ≡ name.text
-    class_name = sym (name_at checked.classes found.0 c found.1.1) ∙ (place_of-Some (class_texts checked.classes) text found.0 found.1.0).1 ∙ same
+    class_name = name_of_place checked.classes text found.0 c found.1.0 found.1.1 ∙ same
 
     light : 1 + weigh (sized checked (depth - 1)) (body c.body.kind) < weigh (sized checked depth) (calling name args)
     light =

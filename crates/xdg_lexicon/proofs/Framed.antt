@@ -1,11 +1,10 @@
 -- What is open while a body is denoted, step by step.
-use Rattle.std.proofs.Common.{◌≡◌, ℕ, zero, suc, ◌<◌, ◌≤◌, ◌+◌, ◌-◌, List, [], ◌∷◌, ◌++◌, length, get_or, reverse, refl, ap, sym, ◌∙◌, arith, subst}
-use Rattle.std.proofs.lemmas.Bool.{eqb-true, true≢false}
+use Rattle.std.proofs.Common.{◌≡◌, ℕ, ◌<◌, ◌≤◌, ◌+◌, List, [], ◌∷◌, ◌++◌, length, get_or, reverse, refl, ap, sym, ◌∙◌, arith, subst}
+use Rattle.std.proofs.lemmas.Bool.{eqb-true, eqb-false}
 use Rattle.std.proofs.lemmas.List.{reverse-append}
 use Rattle.xdg_ast.specs.declared.names.Name.{Name}
 use Rattle.xdg_ast.specs.declared.expressions.ExprKind.{ExprKind}
 use Rattle.xdg_ast.specs.declared.expressions.ExprKind.TheVariants as v
-use Rattle.xdg_types.specs.declared.table.DimType.{DimType}
 use Rattle.xdg_classes.specs.Bodies.{Pairs, Expr, Body, either, both, calling, given, body}
 use Rattle.xdg_classes.proofs.Bodied.{trees, body_or, body_and}
 use Rattle.xdg_check.specs.Checked.{Parts, named_bodies}
@@ -30,8 +29,7 @@ pub is_none : (n : ℕ) (test : Bool) → test ≡ (n == 0) → test ≡ true �
 is_none n test tells is = eqb-true n 0 (sym tells ∙ is)
 
 pub is_some : (n : ℕ) (test : Bool) → test ≡ (n == 0) → test ≡ false → 0 < n
-is_some zero test tells is = absurd (true≢false (sym tells ∙ is))
-is_some (suc n) test tells is = omega arith
+is_some n test tells is = (let other = eqb-false n 0 (sym tells ∙ is) in omega (arith, other))
 
 -- ---- the stack
 
@@ -47,7 +45,7 @@ module _ (checked : Parts) (scope : Scope) (items : List Expr) where
   pub part_stands : (i : ℕ) (e : Expr) → i < length items → e ≡ get_or items i e → Stands checked scope (either (trees items)) → Stands checked scope (body e.kind)
   part_stands i e within at h = record {
     within = h.within;
-    ranked = λ call used. h.ranked call (calls_at items i e call within at used);
+    ranked = λ call used. h.ranked call (calls_at items i e within at call used);
     right = part_right checked.types checked.classes scope.bindings items i e within at h.right;
   }
 
@@ -61,7 +59,7 @@ module _ (checked : Parts) (scope : Scope) (items : List Expr) where
 
 -- ---- going in
 
-module _ (checked : Parts) (whole : Body) (frames : List Frame) (scope : Scope) (kind : ExprKind) (es items : List Expr) (same : items ≡ es) (h : Enters checked whole frames scope (body kind)) where
+module _ {checked : Parts} {whole : Body} {frames : List Frame} {scope : Scope} (kind : ExprKind) {es items : List Expr} (same : items ≡ es) (h : Enters checked whole frames scope (body kind)) where
   pub or_parts : kind ≡ v.Or es → Stands checked scope (either (trees items)) × IsOpen checked whole frames scope (either (trees items))
   or_parts is =
       let tree = ap body is ∙ body_or es ∙ ap (λ l. either (trees l)) (sym same) in
@@ -114,8 +112,9 @@ use_entered checked whole frames scope inside kind name args lent b is same h st
 
 -- ---- going out of a disjunction
 
-module _ (checked : Parts) (whole : Body) (frames : List Frame) (scope : Scope) (items : List Expr) (place : ℕ) (listed made new : List Partial) (b : Body) (d : Denotes checked.types.dims (named_bodies checked.classes) scope.bindings b made)
-    (right : ArePartial checked.types.dims made) (l : IsListing checked scope items place listed b) (around : IsOpen checked whole frames scope (either (trees items))) (grown : new ≡ listed ++ made) where
+module _ {checked : Parts} (whole : Body) (frames : List Frame) {scope : Scope} {items : List Expr} {place : ℕ} {listed made new : List Partial}
+    {b : Body} (d : Denotes checked.types.dims (named_bodies checked.classes) scope.bindings b made) (right : ArePartial checked.types.dims made)
+    (l : IsListing checked scope items place listed b) (around : IsOpen checked whole frames scope (either (trees items))) (grown : new ≡ listed ++ made) where
   listed_more : EitherSoFar checked scope.bindings items (place + 1) new
   listed_more =
       let m = l.open_at in
@@ -140,21 +139,13 @@ module _ (checked : Parts) (whole : Body) (frames : List Frame) (scope : Scope) 
 
 -- ---- going out of a conjunction
 
--- joins by dimensions that were lent
-pub joins_told : (lent dims : List DimType) (made joined new : List Partial) → lent ≡ dims → JoinsAll lent made joined new → ArePartial lent new → JoinsAll dims made joined new × ArePartial dims new
-joins_told lent dims made joined new same joins right = (subst (λ ds. JoinsAll ds made joined new) same joins, subst (λ ds. ArePartial ds new) same right)
-
-module _ (checked : Parts) (whole : Body) (frames : List Frame) (scope : Scope) (items : List Expr) (place : ℕ) (joined made new : List Partial) (b : Body) (d : Denotes checked.types.dims (named_bodies checked.classes) scope.bindings b made)
+module _ {checked : Parts} (whole : Body) (frames : List Frame) {scope : Scope} {items : List Expr} {place : ℕ} {joined made new : List Partial}
+    {b : Body} (d : Denotes checked.types.dims (named_bodies checked.classes) scope.bindings b made)
     (l : IsJoining checked scope items place joined b) (around : IsOpen checked whole frames scope (both (trees items))) (joins : JoinsAll checked.types.dims made joined new) (right : ArePartial checked.types.dims new) where
   joined_more : BothSoFar checked scope.bindings items place new
   joined_more =
       let m = l.open_at in
-      let here : place ≡ (place + 1) - 1 = omega arith in
-      let e = get_or items place m.member in
-      let member : Denotes checked.types.dims (named_bodies checked.classes) scope.bindings (body (get_or items place m.member).kind) made =
-      subst (λ (x : Expr). Denotes checked.types.dims (named_bodies checked.classes) scope.bindings (body x.kind) made) m.stands (subst (λ part. Denotes checked.types.dims (named_bodies checked.classes) scope.bindings part made) m.is d) in
-      subst (λ n. BothSoFar checked scope.bindings items n new) (sym here)
-      (both_further checked scope.bindings items (place + 1) m.member made joined new (omega arith) (subst (λ n. Denotes checked.types.dims (named_bodies checked.classes) scope.bindings (body (get_or items n m.member).kind) made) here member) l.so_far joins right)
+      both_further checked scope.bindings items place m.member made joined new m.within m.stands (subst (λ part. Denotes checked.types.dims (named_bodies checked.classes) scope.bindings part made) m.is d) l.so_far joins right
 
   pub all_joined : place ≡ 0 → Leaves checked whole frames scope new
   all_joined past = record {
@@ -179,9 +170,10 @@ pub record Going (checked : Parts) (whole : Body) (most : ℕ) (walk : Walk) (b 
   pub same : body walk.whole.now ≡ whole
   pub lighter : heavy checked (open_in walk) walk.scope.depth + weigh (sized checked walk.scope.depth) b ≤ most
 
-pub further : (checked : Parts) (whole : Body) (most : ℕ) (old new : Walk) (f : Frame) (b part : Body) → Going checked whole most old b → open_in new ≡ f ∷ open_in old → body new.whole.now ≡ whole → Enters checked whole (f ∷ open_in old) new.scope part
+pub further : {checked : Parts} {whole : Body} {most : ℕ} {old : Walk} {b : Body} (new : Walk) (f : Frame) (part : Body) → Going checked whole most old b → open_in new ≡ f ∷ open_in old → body new.whole.now ≡ whole
+    → Enters checked whole (f ∷ open_in old) new.scope part
     → IsLighter (weigh (sized checked new.scope.depth) part) (weigh (sized checked old.scope.depth) b) (heavy checked (f ∷ open_in old) new.scope.depth) (heavy checked (open_in old) old.scope.depth) → Going checked whole most new part
-further checked whole most old new f b part g opened same enters light = record {
+further {checked} {whole} {most} {old} {b} new f part g opened same enters light = record {
   enters = subst (λ fs. Enters checked whole fs new.scope part) (sym opened) enters;
   same = same;
   lighter =

@@ -1,7 +1,7 @@
 -- Lists of joins, made one by one.
-use Rattle.std.proofs.Common.{◌≡◌, ℕ, ◌<◌, ◌+◌, List, [], ◌∷◌, ◌++◌, length, take, get_or, refl, ap, sym, ◌∙◌, arith, subst, append_assoc, length-append}
+use Rattle.std.proofs.Common.{◌≡◌, ℕ, ◌<◌, ◌+◌, List, [], ◌∷◌, ◌++◌, length, take, get_or, ap, sym, ◌∙◌, arith, subst, append_assoc, length-append}
 use Rattle.std.specs.Prelude.{Option, None, Some, MatchOption, option_to_list}
-use Rattle.std.proofs.lemmas.List.{append-nil, take_more}
+use Rattle.std.proofs.lemmas.List.{append-nil, nil_from_length, take_more}
 use Rattle.xdg_types.specs.declared.table.DimType.{DimType}
 use Rattle.xdg_types.proofs.Kept.{at_place}
 use Rattle.xdg_lexicon.specs.Denotes.{JoinsEach, no_other, clashes, joins, JoinsAll, no_first, first_then}
@@ -27,9 +27,6 @@ abbrev pub EachSoFar : List DimType → Partial → List Partial → List Partia
 EachSoFar dims m ns old i made = (js : List Partial) × ((made ≡ old ++ js) × (JoinsEach dims m (take i ns) js × ArePartial dims js))
 
 module _ (dims : List DimType) (m : Partial) (ns old : List Partial) (i : ℕ) (made : List Partial) where
-  pub each_begun : made ≡ old → EachSoFar dims m ns old 0 made
-  each_begun is = ([], (is ∙ sym (append-nil old), (no_other, tt)))
-
   pub each_further : (n : Partial) (ks new : List Partial) → i < length ns → n ≡ get_or ns i n → new ≡ made ++ ks → EachSoFar dims m ns old i made → JoinsEach dims m (n ∷ []) ks → ArePartial dims ks
       → EachSoFar dims m ns old (i + 1) new
   each_further n ks new within is pushed (js, (grown, (e, p))) h right =
@@ -48,9 +45,6 @@ all_more dims m _ ns js _ (no_first _) e = subst (JoinsAll dims (m ∷ []) ns) (
 all_more dims m _ _ js _ (first_then a rest ns ls ks d d2) e = subst (JoinsAll dims (a ∷ rest ++ m ∷ []) ns) (sym (append_assoc ls ks js)) (first_then a (rest ++ m ∷ []) ns ls (ks ++ js) d (all_more dims m rest ns js ks d2 e))
 
 module _ (dims : List DimType) (ms ns : List Partial) (i : ℕ) (made : List Partial) where
-  pub all_begun : made ≡ [] → JoinsAll dims (take 0 ms) ns made × ArePartial dims made
-  all_begun is = (subst (JoinsAll dims [] ns) (sym is) (no_first ns), subst (ArePartial dims) (sym is) tt)
-
   pub all_further : (m : Partial) (new : List Partial) → i < length ms → m ≡ get_or ms i m → JoinsAll dims (take i ms) ns made × ArePartial dims made → (js : List Partial) × ((new ≡ made ++ js) × (JoinsEach dims m ns js × ArePartial dims js))
       → JoinsAll dims (take (i + 1) ms) ns new × ArePartial dims new
   all_further m new within is h (js, (grown, (e, p))) =
@@ -59,26 +53,14 @@ module _ (dims : List DimType) (ms ns : List Partial) (i : ℕ) (made : List Par
         subst (ArePartial dims) (sym grown) (are_all dims made js h.1 p),
       )
 
--- ---- answers
-
-module _ (dims : List DimType) (m n x : Partial) (told : Option Partial) (same : x ≡ n) (h : MatchOption told (PartialsClash dims m x) (λ k. PartialsJoin dims m x k × IsPartial dims k)) where
-  pub told_clash : told ≡ None → PartialsClash dims m n
-  told_clash none = subst (PartialsClash dims m) same (subst (λ t. MatchOption t (PartialsClash dims m x) (λ k. PartialsJoin dims m x k × IsPartial dims k)) none h)
-
-  pub told_join : (k : Partial) → told ≡ Some k → PartialsJoin dims m n k × IsPartial dims k
-  told_join k some = subst (λ y. PartialsJoin dims m y k × IsPartial dims k) same (subst (λ t. MatchOption t (PartialsClash dims m x) (λ k. PartialsJoin dims m x k × IsPartial dims k)) some h)
-
 -- ---- one with one
-
-only_rest : (rest : List Partial) (p : Partial) → length (rest ++ p ∷ []) ≡ 1 → rest ≡ []
-only_rest [] p h = refl
-only_rest (q ∷ rest) p h = (let e : length (rest ++ p ∷ []) ≡ length rest + 1 = length-append rest (p ∷ []) in absurd (omega (arith, h, e)))
 
 -- the one partial entry is taken out of a list
 taken_out : (ps rest : List Partial) (o : Option Partial) (p : Partial) → ps ≡ rest ++ option_to_list o → o ≡ Some p → length ps ≡ 1 → (rest ≡ []) × (ps ≡ p ∷ [])
 taken_out ps rest o p popped is single =
     let e : ps ≡ rest ++ p ∷ [] = popped ∙ ap (λ t. rest ++ option_to_list t) is in
-    let none : rest ≡ [] = only_rest rest p (sym (ap length e) ∙ single) in
+    let long : length ps ≡ length rest + 1 = ap length e ∙ length-append rest (p ∷ []) in
+    let none : rest ≡ [] = nil_from_length rest (omega (arith, long, single)) in
     (none, e ∙ ap (λ l. l ++ p ∷ []) none)
 
 module _ (dims : List DimType) (first second rest others : List Partial) (o p : Option Partial) (one other : Partial) (popped : first ≡ rest ++ option_to_list o) (taken : second ≡ others ++ option_to_list p) (is : o ≡ Some one) (there : p ≡ Some other)
@@ -91,7 +73,7 @@ module _ (dims : List DimType) (first second rest others : List Partial) (o p : 
       (subst (JoinsAll dims (one ∷ []) (other ∷ [])) (append-nil new) (first_then one [] (other ∷ []) new [] each (no_first (other ∷ []))))))
 
   pub single_clash : told ≡ None → JoinsAll dims first second rest
-  single_clash none = lists [] (clashes other [] [] (told_clash dims one other other told refl h none) no_other) rest (sym (append-nil rest))
+  single_clash none = lists [] (clashes other [] [] (rw none at h) no_other) rest (sym (append-nil rest))
 
   pub single_join : (both : Partial) (made : List Partial) → told ≡ Some both → made ≡ rest ++ both ∷ [] → JoinsAll dims first second made
-  single_join both made some now = lists (both ∷ []) (joins other both [] [] (told_join dims one other other told refl h both some).0 no_other) made now
+  single_join both made some now = lists (both ∷ []) (joins other both [] [] (rw some at h).0 no_other) made now

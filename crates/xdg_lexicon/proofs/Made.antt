@@ -29,34 +29,34 @@ last [] at x below = at_head (at, x) [] at refl
 last (e ∷ s) at x below = after_head e (s ++ (at, x) ∷ []) at (λ i. omega (arith, i, below.0)) ∙ last s at x below.1
 
 module _ {V : Type 0} (P : ℕ → Option V → Type 0) where
-  pub start : IsMade P 0 []
-  start = record { rises = tt; below = tt; each = λ key h. absurd (omega (arith, h)) }
+  pub start : (bound : ℕ) → IsMade P bound bound []
+  start bound = record { rises = tt; below = tt; each = λ key from to. absurd (omega (arith, from, to)) }
 
-  more_with : (at : ℕ) (made : List (ℕ × V)) (said : Option V) → IsMade P at made → P at said → IsMade P (at + 1) (made ++ entry at said)
+  more_with : (at : ℕ) (made : List (ℕ × V)) (said : Option V) → IsMade P 0 at made → P at said → IsMade P 0 (at + 1) (made ++ entry at said)
   more_with at made None m p = record {
     rises = subst (KeysRise 0) (sym (append-nil made)) m.rises;
     below = subst (KeysBelow (at + 1)) (sym (append-nil made)) (below_skip made at m.below);
-    each = λ key h. subst (λ l. P key (said_at l key)) (sym (append-nil made)) (elim (cases_eq at key) [
+    each = λ key from h. subst (λ l. P key (said_at l key)) (sym (append-nil made)) (elim (cases_eq at key) [
       | inl i ↦ subst (λ k. P k (said_at made k)) i (subst (P at) (sym (beyond made at at m.below (omega arith))) p)
-      | inr other ↦ m.each key (omega (arith, h, other))
+      | inr other ↦ m.each key from (omega (arith, h, other))
     ]);
   }
   more_with at made (Some x) m p = record {
     rises = rises_more made at x m.rises m.below;
     below = below_more made at x m.below;
-    each = λ key h. elim (cases_eq at key) [
+    each = λ key from h. elim (cases_eq at key) [
       | inl i ↦ subst (λ k. P k (said_at (made ++ (at, x) ∷ []) k)) i (subst (P at) (sym (last made at x m.below)) p)
-      | inr other ↦ subst (P key) (sym (before made at x key other)) (m.each key (omega (arith, h, other)))
+      | inr other ↦ subst (P key) (sym (before made at x key other)) (m.each key from (omega (arith, h, other)))
     ];
   }
 
   -- one more key
-  pub more : (at key : ℕ) (made new : List (ℕ × V)) (said : Option V) → key ≡ at → new ≡ made ++ entry key said → IsMade P at made → P at said → IsMade P (at + 1) new
-  more at key made new said same is m p = subst (IsMade P (at + 1)) (sym (is ∙ ap (λ k. made ++ entry k said) same)) (more_with at made said m p)
+  pub more : (at key : ℕ) (made new : List (ℕ × V)) (said : Option V) → key ≡ at → new ≡ made ++ entry key said → IsMade P 0 at made → P at said → IsMade P 0 (at + 1) new
+  more at key made new said same is m p = subst (IsMade P 0 (at + 1)) (sym (is ∙ ap (λ k. made ++ entry k said) same)) (more_with at made said m p)
 
   -- what holds of each key, where it holds of nothing beyond the bound
-  pub all : (bound : ℕ) (made : List (ℕ × V)) → IsMade P bound made → ((key : ℕ) → bound ≤ key → P key None) → (key : ℕ) → P key (said_at made key)
+  pub all : (bound : ℕ) (made : List (ℕ × V)) → IsMade P 0 bound made → ((key : ℕ) → bound ≤ key → P key None) → (key : ℕ) → P key (said_at made key)
   all bound made m rest key = elim (cases_lt key bound) [
-    | inl less ↦ m.each key less
+    | inl less ↦ m.each key (omega arith) less
     | inr order ↦ subst (P key) (sym (beyond made bound key m.below order)) (rest key order)
   ]

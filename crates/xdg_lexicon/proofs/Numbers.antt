@@ -1,11 +1,10 @@
 -- The numbers of bodies are told by the classes.
 use Rattle.std.proofs.Common.{◌≡◌, ℕ, List, refl, sym, ◌∙◌, subst}
-use Rattle.xdg_classes.specs.Bodies.{Body}
+use Rattle.xdg_classes.specs.Bodies.{Body, Called, calls}
 use Rattle.xdg_classes.specs.Wants.{NamedBody}
 use Rattle.xdg_check.specs.declared.checked.Class.{Class}
 use Rattle.xdg_check.specs.Checked.{named_body, named_bodies}
-use Rattle.xdg_check.specs.Counts.{Counting, Agrees, AreCounted, uses, combos, capped}
-use Rattle.xdg_check.proofs.SameCounts.{same_uses, same_combos}
+use Rattle.xdg_check.specs.Counts.{Counting, Agrees, AreCounted, capped}
 use Rattle.xdg_lexicon.specs.Sources.{AreNumbers, HasNumber}
 use Rattle.xdg_facts.specs.Membership.{In}
 use Rattle.xdg_facts.proofs.In.{in_map, map_in}
@@ -31,9 +30,10 @@ module _ (count : Counting → Body → ℕ) (cs : List Class) (names : Counting
 
 -- ---- one number
 
-module _ (count : Counting → Body → ℕ) (same : (p q : Counting) (b : Body) → ((name : List ℕ) → p name ≡ q name) → count p b ≡ count q b) (kept : Class → ℕ) (cs : List Class) (counted : AreCounted count kept cs) where
+module _ (count : Counting → Body → ℕ) (same : (p q : Counting) (b : Body) → ((call : Called) → In (calls b) call → p call.name.text ≡ q call.name.text) → count p b ≡ count q b) (kept : Class → ℕ) (cs : List Class)
+    (counted : AreCounted count kept cs) where
   told : (b : Body) (n : ℕ) → HasNumber count (named_bodies cs) b n → n ≡ count counted.names b
-  told b n has = has.1.1 ∙ same has.0 counted.names b (counted.only has.0 (agrees_of count cs has.0 has.1.0))
+  told b n has = has.1.1 ∙ same has.0 counted.names b (λ call stands. counted.only has.0 (agrees_of count cs has.0 has.1.0) call.name.text)
 
   pub number_once : (b : Body) (n m : ℕ) → HasNumber count (named_bodies cs) b n → HasNumber count (named_bodies cs) b m → n ≡ m
   number_once b n m one other = told b n one ∙ sym (told b m other)
@@ -42,9 +42,3 @@ module _ (count : Counting → Body → ℕ) (same : (p q : Counting) (b : Body)
   pub number_told : {P : ℕ → Type 0} (b : Body) (here : ℕ) → ((names : Counting) → Agrees count cs names → here ≡ capped (count names b)) → ((n : ℕ) → here ≡ capped n → P n) → (n : ℕ) × (HasNumber count (named_bodies cs) b n × P n)
   number_told b here is tells =
       (count counted.names b, ((counted.names, (numbers_of count cs counted.names counted.agrees, refl)), tells (count counted.names b) (is counted.names counted.agrees)))
-
-pub alike_uses : (p q : Counting) (b : Body) → ((name : List ℕ) → p name ≡ q name) → uses p b ≡ uses q b
-alike_uses p q b alike = same_uses p q b (λ call stands. alike call.name.text)
-
-pub alike_combos : (p q : Counting) (b : Body) → ((name : List ℕ) → p name ≡ q name) → combos p b ≡ combos q b
-alike_combos p q b alike = same_combos p q b (λ call stands. alike call.name.text)

@@ -41,22 +41,25 @@ not_within cause at before n f (alone many is) within = omega (arith, many, with
 not_within cause at before n f (together few many is) within = omega (arith, many, within.1)
 
 module _ (source : Source) (definite : IsDefinite source) where
+  -- of two that are the first neither stands before the other
+  not_before : (all : List Entry) (r s : ℕ) (x : IsCrowded source.table all r) (y : IsCrowded source.table all s) → x.first < y.first → ⊥
+  not_before all r s x y less =
+      let place = definite.words_once x.dim x.field y.dim y.field x.words y.words in
+      let few : count_of x.dim x.field all (word_of x.dim x.field (get_or all x.first [])) ≤ 1024 =
+      rw (place.0, place.1) (y.before x.first less) in
+      omega (arith, few, x.many, x.reached_is)
+
   same_crowded : (all : List Entry) (r s : ℕ) → IsCrowded source.table all r → IsCrowded source.table all s → r ≡ s
   same_crowded all r s x y =
       let place = definite.words_once x.dim x.field y.dim y.field x.words y.words in
-      let cf : ℕ → ℕ = λ n. count_of x.dim x.field all (word_of x.dim x.field (get_or all n [])) in
-      let cg : ℕ → ℕ = λ n. count_of y.dim y.field all (word_of y.dim y.field (get_or all n [])) in
-      let same : (n : ℕ) → cf n ≡ cg n = λ n. ap₂ (λ d f. count_of d f all (word_of d f (get_or all n []))) place.0 place.1 in
       elim (cases_order x.first y.first) [
-        | inl is ↦ x.reached_is ∙ ap cf is ∙ same y.first ∙ sym y.reached_is
-        | inr more ↦ elim more [
-          | inl less ↦ (let few = y.before x.first less in let e = same x.first in let many = x.many in let is : r ≡ cf x.first = x.reached_is in absurd (over (cf x.first) (cg x.first) r few e many is))
-          | inr less ↦ (let few = x.before y.first less in let e = same y.first in let many = y.many in let is : s ≡ cg y.first = y.reached_is in absurd (over (cg y.first) (cf y.first) s few (sym e) many is))
-        ]
+        | inl is ↦
+            x.reached_is ∙ ap (λ n. count_of x.dim x.field all (word_of x.dim x.field (get_or all n []))) is
+            ∙ ap₂ (λ d f. count_of d f all (word_of d f (get_or all y.first []))) place.0 place.1
+            ∙ sym y.reached_is
+        | inr (inl less) ↦ absurd (not_before all r s x y less)
+        | inr (inr less) ↦ absurd (not_before all s r y x less)
       ]
-    where
-      over : (a b r : ℕ) → b ≤ 1024 → a ≡ b → 1024 < r → r ≡ a → ⊥
-      over a b r few e many is = omega (arith, few, e, many, is)
 
   -- ---- one `defentry`
 

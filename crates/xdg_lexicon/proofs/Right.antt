@@ -174,6 +174,3 @@ module _ (table : Table) (p : Partial) (dims : List DimType) (used : List ℕ) (
         ∙ ap (filled_fields 0 (fields_of (typed d.fields))) (sym said_here)
         ∙ ap (λ l. filled_fields 0 (fields_of (typed l)) said) (sym fs_is);
   }
-
-pub past : (used own : List ℕ) (i : ℕ) → used ≡ own → length used ≤ i → length own ≤ i
-past used own i same all = subst (λ l. length l ≤ i) same all

@@ -1,7 +1,7 @@
 -- Nothing is wrong where a body is denoted: in an entry, in each part of a body, and in the body of a class that is used.
-use Rattle.std.proofs.Common.{◌≡◌, inl, inr, ℕ, zero, suc, ◌<◌, List, [], ◌∷◌, length, map, get_or, refl, sym, ap, ◌∙◌, subst, arith}
-use Rattle.std.specs.Prelude.{Bool, true, false, bytes_eq, if◌then◌else◌, Option, Some}
-use Rattle.std.proofs.lemmas.Bool.{true≢false, false_from_ne_true}
+use Rattle.std.proofs.Common.{◌≡◌, inl, inr, ℕ, ◌<◌, List, [], ◌∷◌, length, map, get_or, refl, sym, ap, ◌∙◌, subst}
+use Rattle.std.specs.Prelude.{Bool, bytes_eq, if◌then◌else◌, Option, Some}
+use Rattle.std.proofs.lemmas.Bool.{false_from_ne_true}
 use Rattle.xdg_ast.specs.declared.names.Name.{Name}
 use Rattle.xdg_ast.specs.declared.names.Pair.{Pair}
 use Rattle.xdg_ast.specs.declared.expressions.ExprKind.{ExprKind}
@@ -19,23 +19,23 @@ use Rattle.xdg_terms.specs.Replaced.{IsOpenRight}
 use Rattle.xdg_terms.specs.Wanted.{params_in}
 use Rattle.xdg_terms.proofs.Binding.{bound_law}
 use Rattle.xdg_terms.proofs.ClosedLaw.{closed_law}
+use Rattle.xdg_terms.proofs.Read as read
 use Rattle.xdg_classes.specs.Bodies.{Pairs, Expr, Body, either, body, Said, Called, records, records_in, calls, calls_in}
-use Rattle.xdg_types.specs.Parts.{keys}
-use Rattle.xdg_classes.proofs.Bodied.{trees, body_dim}
+use Rattle.xdg_classes.proofs.Bodied.{trees, records_dim, records_all, calls_all}
 use Rattle.xdg_classes.specs.Wants.{Wants, at_feature, at_argument, feature_shape, feature_in, type_named}
 use Rattle.xdg_check.specs.declared.checked.Class.{Class}
 use Rattle.xdg_check.specs.declared.checked.EntryDef.{EntryDef}
-use Rattle.xdg_check.specs.Checked.{Parts, IsChecked, IsBound, IsScoped, named_body, named_bodies}
+use Rattle.xdg_check.specs.Checked.{Parts, IsChecked, IsBound, IsScoped, IsRightBody, named_body, named_bodies}
 use Rattle.xdg_check.proofs.Opened.{wants_stand}
 use Rattle.xdg_lexicon.specs.Denotes.{closed_args}
 use Rattle.xdg_lexicon.specs.Partial.{written}
 use Rattle.xdg_lexicon.specs.Right.{AreRight, IsRightUnder}
 use Rattle.xdg_types.proofs.Kept.{keeps_at}
 use Rattle.xdg_lexicon.proofs.Once.{one_named}
+use Rattle.xdg_facts.proofs.Lists.{fused}
 use Rattle.xdg_facts.proofs.Texts.{same_text, is_same}
 use Rattle.xdg_facts.specs.Membership.{In, Differ}
-use Rattle.xdg_facts.proofs.In.{in_left, in_right, in_index, in_map, map_in}
-use Rattle.xdg_ast.specs.Texts.{texts}
+use Rattle.xdg_facts.proofs.In.{flat_map_in, in_at, in_index, in_map, map_in}
 
 -- ---- features by name
 
@@ -64,110 +64,84 @@ feature_found table dim name key s keeps stands is has =
 
 -- ---- what a record says
 
--- the pair under a name
-abbrev PairFor : Pairs → List ℕ → Term → Type 0
-PairFor pairs name t = (pair : Pair Term) × (In pairs pair × ((pair.key.text ≡ name) × (pair.value ≡ t)))
-
-written_in : (pairs : Pairs) (name : List ℕ) (t : Term) → written_for (written pairs) name ≡ Some t → PairFor pairs name t
-written_in [] name t h = absurd (cc)
-written_in (p ∷ pairs) name t h = by (bytes_eq p.key.text name) refl h (written_in pairs name t)
-  where
-    by : (b : Bool) → bytes_eq p.key.text name ≡ b → (if b then Some p.value else written_for (written pairs) name) ≡ Some t → (written_for (written pairs) name ≡ Some t → PairFor pairs name t) → PairFor (p ∷ pairs) name t
-    by true e k later = (p, (inl refl, (same_text p.key.text name e, cc)))
-    by false e k later = (let r = later k in (r.0, (inr r.1.0, r.1.1)))
-
 pub record_right : (table : Table) (cs : List Class) (bs : Bindings) (kind : ExprKind) (name : Name) (pairs : Pairs) (dim : DimType) → IsTable table → IsRightUnder table cs bs (body kind) → kind ≡ v.Dim name pairs → In table.dims dim → dim.name ≡ name.text → AreRight bs dim.fields pairs
 record_right table cs bs kind name pairs dim keeps right is stands same f among = if_some (IsRight bs (shape f.1)) (written_for (written pairs) f.0) (λ t e.
-    let r = written_in pairs f.0 t e in
-    let there : In (records (body kind)) (record { dim = name; pairs = pairs }) = subst (λ b. In (records b) (record { dim = name; pairs = pairs })) (sym (ap body is ∙ body_dim name pairs)) (inl refl) in
-    let type : feature_shape table name.text r.0.key.text ≡ Some (shape f.1) =
-    ap (feature_shape table name.text) r.1.1.0 ∙ feature_found table dim name.text f.0 (shape f.1) keeps stands same (map_in (λ (x : List ℕ × Ty). (x.0, shape x.1)) dim.fields f among) in
-    subst (IsRight bs (shape f.1)) r.1.1.1 (right.said (record { dim = name; pairs = pairs }) there r.0 r.1.0 (shape f.1) type))
+    let r = read.written (written pairs) f.0 t e in
+    let p = in_map (λ (q : Pair Term). (q.key, q.value)) pairs r.pair r.among in
+    let there : In (records (body kind)) (record { dim = name; pairs = pairs }) = subst (λ l. In l (record { dim = name; pairs = pairs })) (sym (ap (λ k. records (body k)) is ∙ records_dim name pairs)) (inl refl) in
+    let type : feature_shape table name.text p.0.key.text ≡ Some (shape f.1) =
+    ap (feature_shape table name.text) (ap (λ (q : Name × Term). q.0.text) p.1.1 ∙ r.key) ∙ feature_found table dim name.text f.0 (shape f.1) keeps stands same (map_in (λ (x : List ℕ × Ty). (x.0, shape x.1)) dim.fields f among) in
+    subst (IsRight bs (shape f.1)) (ap (λ (q : Name × Term). q.1) p.1.1 ∙ r.value) (right.said (record { dim = name; pairs = pairs }) there p.0 p.1.0 (shape f.1) type))
 
 -- ---- parts of a body
 
-records_at : (es : List Expr) (i : ℕ) (e : Expr) (said : Said) → i < length es → e ≡ get_or es i e → In (records (body e.kind)) said → In (records_in (trees es)) said
-records_at [] i e said within is h = absurd (omega (arith, within))
-records_at (x ∷ es) zero e said within is h = in_left (records (body x.kind)) (records_in (trees es)) said (subst (λ (y : Expr). In (records (body y.kind)) said) is h)
-records_at (x ∷ es) (suc i) e said within is h = in_right (records (body x.kind)) (records_in (trees es)) said (records_at es i e said (omega (arith, within)) is h)
+-- what stands in a member stands in all of them
+module _ (es : List Expr) (i : ℕ) (e : Expr) (within : i < length es) (is : e ≡ get_or es i e) where
+  records_at : (said : Said) → In (records (body e.kind)) said → In (records_in (trees es)) said
+  records_at said h = subst (λ l. In l said) (sym (records_all es)) (flat_map_in (λ (x : Expr). records (body x.kind)) es e said (in_at es i e within is) h)
 
-pub calls_at : (es : List Expr) (i : ℕ) (e : Expr) (call : Called) → i < length es → e ≡ get_or es i e → In (calls (body e.kind)) call → In (calls_in (trees es)) call
-calls_at [] i e call within is h = absurd (omega (arith, within))
-calls_at (x ∷ es) zero e call within is h = in_left (calls (body x.kind)) (calls_in (trees es)) call (subst (λ (y : Expr). In (calls (body y.kind)) call) is h)
-calls_at (x ∷ es) (suc i) e call within is h = in_right (calls (body x.kind)) (calls_in (trees es)) call (calls_at es i e call (omega (arith, within)) is h)
+  pub calls_at : (call : Called) → In (calls (body e.kind)) call → In (calls_in (trees es)) call
+  calls_at call h = subst (λ l. In l call) (sym (calls_all es)) (flat_map_in (λ (x : Expr). calls (body x.kind)) es e call (in_at es i e within is) h)
 
 pub part_right : (table : Table) (cs : List Class) (bs : Bindings) (items : List Expr) (i : ℕ) (e : Expr) → i < length items → e ≡ get_or items i e → IsRightUnder table cs bs (either (trees items)) → IsRightUnder table cs bs (body e.kind)
 part_right table cs bs items i e within at right = record {
-  said = λ said h. right.said said (records_at items i e said within at h);
-  bound = λ call h. right.bound call (calls_at items i e call within at h);
-  given = λ call h. right.given call (calls_at items i e call within at h);
+  said = λ said h. right.said said (records_at items i e within at said h);
+  bound = λ call h. right.bound call (calls_at items i e within at call h);
+  given = λ call h. right.given call (calls_at items i e within at call h);
 }
 
--- ---- entries
+-- ---- a body with its parameters bound
+
+module _ (parts : Parts) (keeps : IsChecked parts) (params : List (List ℕ)) (bs : Bindings) (b : Body) (right : IsRightBody parts.types parts.classes params b) where
+  -- it is bound to what is right where this type is wanted
+  abbrev IsBoundRight : List ℕ → Shape → Type 0
+  IsBoundRight param u = (t : Term) × ((bound_to bs param ≡ Some t) × IsOpenRight [] u t)
+
+  scoped_in : (t : Term) → IsScoped params t → (s : Shape) (param : List ℕ) (u : Shape) → In (params_in params s t) (param, u) → In params param
+  scoped_in t scoped s param u w = (let st = wants_stand params s t (param, u) w in subst (In params) st.1.1 (scoped st.0 st.1.0))
+
+  right_under : ((said : Said) → In (records b) said → (pair : Pair Term) → In said.pairs pair → (s : Shape) → feature_shape parts.types said.dim.text pair.key.text ≡ Some s
+      → (param : List ℕ) (u : Shape) → In (params_in params s pair.value) (param, u) → In params param → IsBoundRight param u)
+      → ((call : Called) → In (calls b) call → (pair : Pair Term) → In call.args pair → (s : Shape) → Wants parts.types (named_bodies parts.classes) call.name.text pair.key.text s
+      → (param : List ℕ) (u : Shape) → In (params_in params s pair.value) (param, u) → In params param → IsBoundRight param u)
+      → IsRightUnder parts.types parts.classes bs b
+  right_under of_said of_call = record {
+    said = λ said h pair j s type.
+        let r = right.said said h in
+        let p = r.pairs pair j in
+        let found = feature_found parts.types r.dim said.dim.text pair.key.text p.type keeps.types r.defined r.name p.has in
+        let same : p.type ≡ s = (let o : Some p.type ≡ Some s = sym found ∙ type in cc) in
+        bound_law params bs s pair.value (subst (λ z. IsOpenRight params z pair.value) same p.right) (λ param u w. of_said said h pair j s type param u w (scoped_in pair.value p.scoped s param u w));
+    bound = λ call h. (right.called call h).bound;
+    given = λ call h pair j s wants.
+        let r = right.called call h in
+        closed_law params bs s pair.value (r.right pair j s wants) (λ param u w. of_call call h pair j s wants param u w (scoped_in pair.value (r.scoped pair j) s param u w));
+  }
 
 pub entry_right : (parts : Parts) (e : EntryDef) (expr : Expr) → IsChecked parts → In parts.entries e → e.body ≡ expr → IsRightUnder parts.types parts.classes [] (body expr.kind)
-entry_right parts e expr keeps stands is = subst (λ (x : Expr). IsRightUnder parts.types parts.classes [] (body x.kind)) is (record {
-  said = λ said h pair j s type.
-      let r = (keeps.entries e stands).said said h in
-      let p = r.pairs pair j in
-      let found = feature_found parts.types r.dim said.dim.text pair.key.text p.type keeps.types r.defined r.name p.has in
-      let same : p.type ≡ s = (let o : Some p.type ≡ Some s = sym found ∙ type in cc) in
-      bound_law [] [] s pair.value (subst (λ z. IsOpenRight [] z pair.value) same p.right) (λ param u w. absurd (none pair.value p.scoped s param u w));
-  bound = λ call h. ((keeps.entries e stands).called call h).bound;
-  given = λ call h pair j s wants.
-      let r = (keeps.entries e stands).called call h in
-      closed_law [] [] s pair.value (r.right pair j s wants) (λ param u w. absurd (none pair.value (r.scoped pair j) s param u w));
-})
-  where
-    none : (t : Term) → IsScoped [] t → (s : Shape) (param : List ℕ) (u : Shape) → In (params_in [] s t) (param, u) → ⊥
-    none t scoped s param u w = (let st = wants_stand [] s t (param, u) w in scoped st.0 st.1.0)
+entry_right parts e expr keeps stands is =
+    subst (λ (x : Expr). IsRightUnder parts.types parts.classes [] (body x.kind)) is
+    (right_under parts keeps [] [] (body e.body.kind) (keeps.entries e stands) (λ said h pair j s type param u w among. absurd among) (λ call h pair j s wants param u w among. absurd among))
 
 -- ---- the body of a class that is used
-
--- the argument with a key, which is what the key is bound to
-abbrev FirstFor : Bindings → Pairs → List ℕ → Type 0
-FirstFor bs args param = (pair : Pair Term) × (In args pair × ((pair.key.text ≡ param) × (bound_to (closed_args bs args) param ≡ Some (closed bs pair.value))))
-
-bound_first : (bs : Bindings) (args : Pairs) (param : List ℕ) → In (texts (keys args)) param → FirstFor bs args param
-bound_first bs [] param h = absurd h
-bound_first bs (p ∷ args) param h = by (bytes_eq p.key.text param) refl (bound_first bs args param)
-  where
-    rest : (bytes_eq p.key.text param ≡ false) → In (texts (keys args)) param
-    rest e = elim h [ inl is ↦ absurd (true≢false (sym (is_same p.key.text param is) ∙ e)) | inr k ↦ k ]
-
-    by : (b : Bool) → bytes_eq p.key.text param ≡ b → (In (texts (keys args)) param → FirstFor bs args param)
-        → (pair : Pair Term) × (In (p ∷ args) pair × ((pair.key.text ≡ param) × ((if b then Some (closed bs p.value) else bound_to (closed_args bs args) param) ≡ Some (closed bs pair.value))))
-    by true e later = (p, (inl refl, (same_text p.key.text param e, refl)))
-    by false e later = (let r = later (rest e) in (r.0, (inr r.1.0, r.1.1)))
 
 module _ (parts : Parts) (keeps : IsChecked parts) (bs : Bindings) (call : Called) (c : Class) (stands : In parts.classes c) (is : c.name ≡ call.name.text) (bound : IsBound parts.classes call)
     (given : (pair : Pair Term) → In call.args pair → (s : Shape) → Wants parts.types (named_bodies parts.classes) call.name.text pair.key.text s → IsOpenRight [] s (closed bs pair.value)) where
   wanted : (param : List ℕ) (u : Shape) → In c.params param → Wants parts.types (named_bodies parts.classes) c.name param u → (b : Term) × ((bound_to (closed_args bs call.args) param ≡ Some b) × IsOpenRight [] u b)
   wanted param u among wants =
       let same : bound.class ≡ c = one_named (λ (x : Class). x.name) parts.classes bound.class c keeps.names bound.stands stands (bound.name ∙ sym is) in
-      let f = bound_first bs call.args param (bound.given param (subst (λ (x : Class). In x.params param) (sym same) among)) in
-      let here : Wants parts.types (named_bodies parts.classes) call.name.text f.0.key.text u =
-      subst (λ t. Wants parts.types (named_bodies parts.classes) call.name.text t u) (sym f.1.1.0) (subst (λ t. Wants parts.types (named_bodies parts.classes) t param u) is wants) in
-      (closed bs f.0.value, (f.1.1.1, given f.0 f.1.0 u here))
-
-  scoped_in : (t : Term) → IsScoped c.params t → (s : Shape) (param : List ℕ) (u : Shape) → In (params_in c.params s t) (param, u) → In c.params param
-  scoped_in t scoped s param u w = (let st = wants_stand c.params s t (param, u) w in subst (In c.params) st.1.1 (scoped st.0 st.1.0))
+      let own = fused (λ (m : Name). m.text) (λ (x : Pair Term). x.key) call.args in
+      let p = in_map (λ (x : Pair Term). x.key.text) call.args param (subst (λ l. In l param) own (bound.given param (subst (λ (x : Class). In x.params param) (sym same) among))) in
+      let here : Wants parts.types (named_bodies parts.classes) call.name.text p.0.key.text u =
+      subst (λ t. Wants parts.types (named_bodies parts.classes) call.name.text t u) (sym p.1.1) (subst (λ t. Wants parts.types (named_bodies parts.classes) t param u) is wants) in
+      let found = named_found (λ (x : Pair Term). x.key.text) (λ x. closed bs x.value) param (λ args. bound_to (closed_args bs args) param) (λ _ _. refl) call.args p.0 (subst Differ own bound.once) p.1.0 p.1.1 in
+      (closed bs p.0.value, (found, given p.0 p.1.0 u here))
 
   class_right : IsRightUnder parts.types parts.classes (closed_args bs call.args) (body c.body.kind)
-  class_right = record {
-    said = λ said h pair j s type.
-        let r = (keeps.classes c stands).said said h in
-        let p = r.pairs pair j in
-        let found = feature_found parts.types r.dim said.dim.text pair.key.text p.type keeps.types r.defined r.name p.has in
-        let same : p.type ≡ s = (let o : Some p.type ≡ Some s = sym found ∙ type in cc) in
-        bound_law c.params (closed_args bs call.args) s pair.value (subst (λ z. IsOpenRight c.params z pair.value) same p.right)
-        (λ param u w. wanted param u (scoped_in pair.value p.scoped s param u w) (at_feature (named_body c) said pair s param u (map_in named_body parts.classes c stands) h j type w));
-    bound = λ other h. ((keeps.classes c stands).called other h).bound;
-    given = λ other h pair j s wants.
-        let r = (keeps.classes c stands).called other h in
-        closed_law c.params (closed_args bs call.args) s pair.value (r.right pair j s wants)
-        (λ param u w. wanted param u (scoped_in pair.value (r.scoped pair j) s param u w) (at_argument (named_body c) other pair s param u (map_in named_body parts.classes c stands) h j wants w));
-  }
+  class_right =
+      right_under parts keeps c.params (closed_args bs call.args) (body c.body.kind) (keeps.classes c stands)
+      (λ said h pair j s type param u w among. wanted param u among (at_feature (named_body c) said pair s param u (map_in named_body parts.classes c stands) h j type w))
+      (λ other h pair j s wants param u w among. wanted param u among (at_argument (named_body c) other pair s param u (map_in named_body parts.classes c stands) h j wants w))
 
 pub used_right : (parts : Parts) (bs : Bindings) (b : Body) (call : Called) (c : Class) → IsChecked parts → IsRightUnder parts.types parts.classes bs b → In (calls b) call → In parts.classes c → c.name ≡ call.name.text
     → IsRightUnder parts.types parts.classes (closed_args bs call.args) (body c.body.kind)

@@ -1,6 +1,6 @@
 -- The steps of expansion, put together.
 use Rattle.std.proofs.Common.{◌≡◌, ℕ, ◌+◌, ◌<◌, ◌≤◌, List, [], ◌∷◌, ◌++◌, length, get_or, drop, take, map, Result, Ok, Err, sym, ap, ◌∙◌, subst, inl, inr, arith}
-use Rattle.std.proofs.lemmas.List.{map-append, take_more, take_all, take-append-drop}
+use Rattle.std.proofs.lemmas.List.{map-append, take_all, take-append-drop}
 use Rattle.xdg_facts.proofs.Lists.{from_place}
 use Rattle.xdg_base.specs.Told.{Gives, answer_of}
 use Rattle.xdg_base.specs.declared.faults.Cause.{Cause}
@@ -8,19 +8,20 @@ use Rattle.xdg_base.specs.declared.faults.Cause.TheVariants as causes
 use Rattle.xdg_base.specs.declared.faults.Fault.{Fault}
 use Rattle.xdg_base.specs.declared.faults.Stop.{Stop}
 use Rattle.xdg_base.specs.declared.faults.Stop.TheVariants as stops
-use Rattle.xdg_types.specs.Table.{Table}
 use Rattle.xdg_packed.specs.Lexicon.{Entry}
 use Rattle.xdg_classes.specs.Bodies.{Body, body}
 use Rattle.xdg_check.specs.declared.checked.EntryDef.{EntryDef}
 use Rattle.xdg_check.specs.Checked.{Parts, IsChecked}
 use Rattle.xdg_check.specs.Counts.{Counting, Agrees, uses, combos, capped}
+use Rattle.xdg_check.proofs.SameCounts.{same_uses, same_combos}
 use Rattle.xdg_lexicon.specs.Partial.{Partial}
 use Rattle.xdg_lexicon.specs.Denotes.{Denotes}
 use Rattle.xdg_lexicon.specs.Sources.{Source, source_of, HasNumber}
 use Rattle.xdg_lexicon.specs.Lexicon.{Adds, SoFar, nothing_yet, IsWithinLimits, IsExpanded, Expands, ExpandsAll, no_more, one_more, AreFewEach, IsTooMany, many_uses, many_combos, unsaid, many_entries, many_of_word, Refuses}
 use Rattle.xdg_lexicon.specs.Steps.{one_of, AddsMembers, KeepsLimits, Once, AllOnce, CountsOne, AddsOne, ExpandsOne}
 use Rattle.xdg_packed.proofs.OfTable.{words_once}
-use Rattle.xdg_lexicon.proofs.Numbers.{number_once, number_told, alike_uses, alike_combos}
+use Rattle.xdg_packed.proofs.Unpacked.{map_next}
+use Rattle.xdg_lexicon.proofs.Numbers.{number_once, number_told}
 use Rattle.xdg_lexicon.specs.Answers.{IsAnswer, Tells}
 use Rattle.xdg_lexicon.proofs.Only.{IsDefinite, not_within, only_expanded, only_refused}
 
@@ -34,8 +35,8 @@ Sums cause at before here (Err stop) = (n : ℕ) → here ≡ capped n → (f : 
 module _ (parts : Parts) (is : IsChecked parts) where
   pub definite : IsDefinite (source_of parts)
   definite = record {
-    uses_once = number_once uses alike_uses (λ c. c.uses) parts.classes is.uses;
-    combos_once = number_once combos alike_combos (λ c. c.combos) parts.classes is.combos;
+    uses_once = number_once uses same_uses (λ c. c.uses) parts.classes is.uses;
+    combos_once = number_once combos same_combos (λ c. c.combos) parts.classes is.combos;
     words_once = words_once parts.types is.types;
   }
 
@@ -45,7 +46,7 @@ module _ (parts : Parts) (is : IsChecked parts) where
 
     module _ (here : ℕ) (uses_here : (names : Counting) → Agrees uses parts.classes names → here ≡ capped (uses names part)) where
       uses_told : {P : ℕ → Type 0} → ((n : ℕ) → here ≡ capped n → P n) → (n : ℕ) × (HasNumber uses (source_of parts).classes part n × P n)
-      uses_told tells = number_told uses alike_uses (λ c. c.uses) parts.classes is.uses part here uses_here tells
+      uses_told tells = number_told uses same_uses (λ c. c.uses) parts.classes is.uses part here uses_here tells
 
       pub uses_refused : (n : ℕ) (stop : Stop) → before.uses ≡ n → Sums causes.TooManyUses def.at n here (Err stop) → CountsOne (source_of parts) before (one_of def) (Err stop)
       uses_refused n stop same sums =
@@ -59,7 +60,7 @@ module _ (parts : Parts) (is : IsChecked parts) where
 
       module _ (there : ℕ) (combos_there : (names : Counting) → Agrees combos parts.classes names → there ≡ capped (combos names part)) where
         combos_told : {P : ℕ → Type 0} → ((n : ℕ) → there ≡ capped n → P n) → (n : ℕ) × (HasNumber combos (source_of parts).classes part n × P n)
-        combos_told tells = number_told combos alike_combos (λ c. c.combos) parts.classes is.combos part there combos_there tells
+        combos_told tells = number_told combos same_combos (λ c. c.combos) parts.classes is.combos part there combos_there tells
 
         pub combos_refused : (n m sum : ℕ) (stop : Stop) → before.uses ≡ n → before.combos ≡ m → Sums causes.TooManyUses def.at n here (Ok sum) → Sums causes.TooManyEntries def.at m there (Err stop) → CountsOne (source_of parts) before (one_of def) (Err stop)
         combos_refused n m sum stop same alike sums refused =
@@ -88,9 +89,6 @@ module _ (parts : Parts) (is : IsChecked parts) where
             )
 
 -- ---- the members of one `defentry`
-
-pub members_lent : (t table : Table) (l ms : List Partial) (at : ℕ) (old : List Entry) (answer : Result (List Entry) Stop) → t ≡ table → l ≡ ms → AddsMembers t l at old answer → AddsMembers table ms at old answer
-members_lent t table l ms at old answer types members told = subst (λ u. AddsMembers u ms at old answer) types (subst (λ m. AddsMembers t m at old answer) members told)
 
 module _ (source : Source) (before : SoFar) (one : ℕ × Body) (ms : List Partial) (denotes : Denotes source.table.dims source.classes [] one.1 ms) (only : (others : List Partial) → Denotes source.table.dims source.classes [] one.1 others → others ≡ ms) where
   once : Once source one.1
@@ -153,9 +151,6 @@ module _ (source : Source) where
   once_last [] one all last = (last, tt)
   once_last (first ∷ front) one all last = (all.0, once_last front one all.1 last)
 
-take_last : (defs : List EntryDef) (i : ℕ) (def : EntryDef) → i < length defs → def ≡ get_or defs i def → map one_of (take (i + 1) defs) ≡ map one_of (take i defs) ++ one_of def ∷ []
-take_last defs i def within is = ap (map one_of) (take_more defs i def within ∙ ap (λ e. take i defs ++ e ∷ []) (sym is)) ∙ map-append one_of (take i defs) (def ∷ [])
-
 split_at : (defs : List EntryDef) (i : ℕ) (def : EntryDef) → i < length defs → def ≡ get_or defs i def → map one_of defs ≡ map one_of (take i defs) ++ one_of def ∷ map one_of (drop (i + 1) defs)
 split_at defs i def within is =
     ap (map one_of) (sym (take-append-drop i defs) ∙ ap (λ l. take i defs ++ l) (from_place defs i def within is)) ∙ map-append one_of (take i defs) (def ∷ drop (i + 1) defs)
@@ -167,11 +162,11 @@ pub record ExpandedSoFar (parts : Parts) (defs : List EntryDef) (i : ℕ) (so : 
   pub few : length so.entries ≤ 65536
   pub few_each : AreFewEach parts.types so.entries
 
-module _ (parts : Parts) (defs : List EntryDef) (i : ℕ) (def : EntryDef) (within : i < length defs) (is : def ≡ get_or defs i def) (so : SoFar) (so_far : ExpandedSoFar parts defs i so) where
+module _ {parts : Parts} {defs : List EntryDef} {i : ℕ} {def : EntryDef} (within : i < length defs) (is : def ≡ get_or defs i def) {so : SoFar} (so_far : ExpandedSoFar parts defs i so) where
   pub expanded_more : (after : SoFar) → ExpandsOne (source_of parts) so (one_of def) (Ok after) → ExpandedSoFar parts defs (i + 1) after
   expanded_more after one = record {
-    all = subst (λ l. ExpandsAll (source_of parts) nothing_yet l after) (sym (take_last defs i def within is)) (expands_last (source_of parts) nothing_yet so after (map one_of (take i defs)) (one_of def) so_far.all one.0);
-    once = subst (AllOnce (source_of parts)) (sym (take_last defs i def within is)) (once_last (source_of parts) (map one_of (take i defs)) (one_of def) so_far.once one.1);
+    all = subst (λ l. ExpandsAll (source_of parts) nothing_yet l after) (sym (map_next one_of defs i def within is)) (expands_last (source_of parts) nothing_yet so after (map one_of (take i defs)) (one_of def) so_far.all one.0);
+    once = subst (AllOnce (source_of parts)) (sym (map_next one_of defs i def within is)) (once_last (source_of parts) (map one_of (take i defs)) (one_of def) so_far.once one.1);
     few = one.0.few;
     few_each = one.0.few_each;
   }
@@ -207,7 +202,7 @@ expanded_none parts defs entries none = subst (λ l. ExpandedSoFar parts defs 0 
   few_each = λ dim field place word. omega arith;
 })
 
-module _ (parts : Parts) (defs : List EntryDef) (i : ℕ) (so : SoFar) (same : parts.entries ≡ defs) (past : length defs ≤ i) (so_far : ExpandedSoFar parts defs i so) where
+module _ {parts : Parts} {defs : List EntryDef} {i : ℕ} {so : SoFar} (same : parts.entries ≡ defs) (past : length defs ≤ i) (so_far : ExpandedSoFar parts defs i so) where
   are_all : map one_of (take i defs) ≡ map one_of parts.entries
   are_all = ap (map one_of) (take_all i defs past ∙ sym same)
 

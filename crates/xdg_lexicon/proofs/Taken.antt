@@ -17,7 +17,7 @@ use Rattle.xdg_terms.proofs.SaidKeys.{rises_later}
 use Rattle.xdg_lexicon.specs.Made.{entry, IsMade, EndsAt}
 use Rattle.xdg_lexicon.specs.Partial.{Record, IsRecord}
 use Rattle.xdg_lexicon.proofs.Fields.{All, Joining, field_within, said_value, joined_told, clash_told, joined_all}
-use Rattle.xdg_lexicon.proofs.Made.{beyond, before, last}
+use Rattle.xdg_lexicon.proofs.Made.{beyond, before, last, start}
 
 -- ---- the last key of a list
 
@@ -71,17 +71,9 @@ module _ {V : Type 0} (s rest : List (ℕ × V)) (key : ℕ) (e : ℕ × V) (is 
 
 -- ---- records made from the last key to the first
 
--- Of each key from the first on and below the bound the list says what P asks for, and of no other.
-pub record IsBackMade {V : Type 0} (P : ℕ → Option V → Type 0) (first bound : ℕ) (made : List (ℕ × V)) : Type 0 where
-  pub rises : KeysRise first made
-  pub below : KeysBelow bound made
-  pub each : (key : ℕ) → first ≤ key → key < bound → P key (said_at made key)
-
+-- one more key before the others
 module _ {V : Type 0} (P : ℕ → Option V → Type 0) (bound : ℕ) where
-  pub back_none : IsBackMade P bound bound []
-  back_none = record { rises = tt; below = tt; each = λ key from to. absurd (omega (arith, from, to)) }
-
-  pub back_one : (at : ℕ) (made : List (ℕ × V)) (said : Option V) → at < bound → IsBackMade P (at + 1) bound made → P at said → IsBackMade P at bound (entry at said ++ made)
+  back_one : (at : ℕ) (made : List (ℕ × V)) (said : Option V) → at < bound → IsMade P (at + 1) bound made → P at said → IsMade P at bound (entry at said ++ made)
   back_one at made None within m p = record {
     rises = rises_later at (at + 1) made (omega arith) m.rises;
     below = m.below;
@@ -98,9 +90,6 @@ module _ {V : Type 0} (P : ℕ → Option V → Type 0) (bound : ℕ) where
       | inr other ↦ subst (P key) (sym (after_head (at, x) made key other)) (m.each key (omega (arith, from, other)) to)
     ];
   }
-
-  pub back_whole : (made : List (ℕ × V)) → IsBackMade P 0 bound made → IsMade P bound made
-  back_whole made m = record { rises = m.rises; below = m.below; each = λ key to. m.each key (omega arith) to }
 
 turned_entry : {V : Type 0} (key : ℕ) (said : Option V) (made : List (ℕ × V)) → reverse (made ++ entry key said) ≡ entry key said ++ reverse made
 turned_entry key None made = reverse-append made []
@@ -129,17 +118,17 @@ pub record TakenSoFar (fs : All) (a b : Record) (left : ℕ) (one other made : R
   pub within : left ≤ length fs
   pub mine : IsFront a left one
   pub theirs : IsFront b left other
-  pub joined : IsBackMade (Joining fs a b) left (length fs) (reverse made)
+  pub joined : IsMade (Joining fs a b) left (length fs) (reverse made)
 
 pub taken_begun : (fs : All) (a b : Record) (left : ℕ) (made : Record) → left ≡ length fs → made ≡ [] → IsRecord (fields_in fs) a → IsRecord (fields_in fs) b → TakenSoFar fs a b left a b made
 taken_begun fs a b left made whole none ra rb = subst (λ n. TakenSoFar fs a b n a b made) (sym whole) (subst (TakenSoFar fs a b (length fs) a b) (sym none) (record {
   within = omega arith;
   mine = front_whole fs a ra;
   theirs = front_whole fs b rb;
-  joined = back_none (Joining fs a b) (length fs);
+  joined = start (Joining fs a b) (length fs);
 }))
 
-module _ (fs : All) (a b : Record) (left key : ℕ) (one other made : Record) (next : key + 1 ≡ left) (s : TakenSoFar fs a b left one other made) (o p : Option Value) (here : o ≡ said_at one key) (there : p ≡ said_at other key) where
+module _ {fs : All} {a b : Record} {left : ℕ} (key : ℕ) {one other made : Record} (next : key + 1 ≡ left) (s : TakenSoFar fs a b left one other made) {o p : Option Value} (here : o ≡ said_at one key) (there : p ≡ said_at other key) where
   pub taken_within : key < length fs
   taken_within = (let w = s.within in omega (arith, w, next))
 
@@ -149,7 +138,7 @@ module _ (fs : All) (a b : Record) (left key : ℕ) (one other made : Record) (n
   pub taken_theirs : p ≡ said_at b key
   taken_theirs = there ∙ s.theirs.says key (omega (arith, next))
 
-  module _ (f : List ℕ × Ty) (is : f ≡ get_or fs key f) where
+  module _ {f : List ℕ × Ty} (is : f ≡ get_or fs key f) where
     pub mine_value : IsRecord (fields_in fs) a → IfSome o (IsValue (shape f.1))
     mine_value ra = subst (λ z. IfSome z (IsValue (shape f.1))) (sym taken_mine) (said_value fs a key f taken_within is ra)
 
@@ -160,18 +149,19 @@ module _ (fs : All) (a b : Record) (left key : ℕ) (one other made : Record) (n
       pub taken_clash : told ≡ None → OnSome (ClashesField (fields_in fs)) a b
       taken_clash none = clash_told fs a b key f o p told taken_within is taken_mine taken_theirs none h
 
-      pub taken_further : (both : Option Value) (mine theirs new : Record) → told ≡ Some both → new ≡ made ++ entry key both
+      pub taken_further : {both : Option Value} {mine theirs new : Record} → told ≡ Some both → new ≡ made ++ entry key both
           → ((k : ℕ) → k < key → said_at mine k ≡ said_at one k) → KeysRise 0 mine → KeysBelow key mine → ((k : ℕ) → k < key → said_at theirs k ≡ said_at other k) → KeysRise 0 theirs → KeysBelow key theirs
           → TakenSoFar fs a b key mine theirs new
-      taken_further both mine theirs new some now front rises below others rising under = record {
+      taken_further {both} {mine} {theirs} some now front rises below others rising under = record {
         within = (let w = taken_within in omega (arith, w));
         mine = front_less a one mine left key next s.mine front rises below;
         theirs = front_less b other theirs left key next s.theirs others rising under;
-        joined = subst (IsBackMade (Joining fs a b) key (length fs)) (sym (ap reverse now ∙ turned_entry key both made))
-            (back_one (Joining fs a b) (length fs) key (reverse made) both taken_within (subst (λ n. IsBackMade (Joining fs a b) n (length fs) (reverse made)) (sym next) s.joined) (joined_told fs a b key f o p told both taken_within is taken_mine taken_theirs some h));
+        joined = subst (IsMade (Joining fs a b) key (length fs)) (sym (ap reverse now ∙ turned_entry key both made))
+            (back_one (Joining fs a b) (length fs) key (reverse made) both taken_within (rw next s.joined)
+            (joined_told fs a b key f o p told both taken_within is taken_mine taken_theirs some h));
       }
 
 pub taken_done : (fs : All) (a b : Record) (left : ℕ) (one other made none whole : Record) → left ≡ 0 → none ≡ [] → whole ≡ none ++ reverse made → IsRecord (fields_in fs) a → IsRecord (fields_in fs) b → TakenSoFar fs a b left one other made
     → SaysBoth (JoinsField (fields_in fs)) a b whole × IsRecord (fields_in fs) whole
-taken_done fs a b left one other made none whole start empty is ra rb s = subst (λ m. SaysBoth (JoinsField (fields_in fs)) a b m × IsRecord (fields_in fs) m) (sym (is ∙ ap (λ l. l ++ reverse made) empty))
-    (joined_all fs a b (length fs) (reverse made) ra rb (omega arith) (back_whole (Joining fs a b) (length fs) (reverse made) (subst (λ n. IsBackMade (Joining fs a b) n (length fs) (reverse made)) start s.joined)))
+taken_done fs a b left one other made none whole none_left empty is ra rb s = subst (λ m. SaysBoth (JoinsField (fields_in fs)) a b m × IsRecord (fields_in fs) m) (sym (is ∙ ap (λ l. l ++ reverse made) empty))
+    (joined_all fs a b (length fs) (reverse made) ra rb (omega arith) (subst (λ n. IsMade (Joining fs a b) n (length fs) (reverse made)) none_left s.joined))

@@ -56,19 +56,6 @@ use_lighter names kind name args lent part before is same less =
     let tree : 1 + part < weigh names (body kind) = of_use (λ b. 1 + part < weigh names b) kind name args lent is same less in
     (omega (arith, tree), omega (arith, tree))
 
--- ---- what is left of a disjunction and of a conjunction, and its next member
-
-pub listing_goes : (names : Counting) (items : List Expr) (place before : ℕ) (e : Expr) → place + 1 < length items → e ≡ get_or items (place + 1) e
-    → 1 + weigh_in names (trees (drop ((place + 1) + 1) items)) + before + weigh names (body e.kind) ≡ 1 + weigh_in names (trees (drop (place + 1) items)) + before
-listing_goes names items place before e within at = (let parts = from_first names items (place + 1) e within at in omega (arith, parts))
-
-pub joining_goes : (names : Counting) (items : List Expr) (next place before : ℕ) (e : Expr) → next + 1 ≡ place → place < length items → e ≡ get_or items next e
-    → 1 + weigh_in names (trees (take next items)) + before + weigh names (body e.kind) ≡ 1 + weigh_in names (trees (take place items)) + before
-joining_goes names items next place before e is within at =
-    let parts = to_last names items next e (omega (arith, is, within)) at in
-    let same : weigh_in names (trees (take (next + 1) items)) ≡ weigh_in names (trees (take place items)) = ap (λ n. weigh_in names (trees (take n items))) is in
-    omega (arith, parts, same)
-
 -- ---- what is open
 
 open_weighs : (checked : Parts) (frames : List Frame) (depth : ℕ) → 0 < length frames → 0 < heavy checked frames depth

@@ -1,4 +1,4 @@
-use Rattle.std.proofs.Common.{◌≤◌, length, Ok, refl, sym, subst, arith}
+use Rattle.std.proofs.Common.{Ok, refl, sym, subst, arith}
 use Rattle.xdg_packed.specs.Entries.{IsRightLexicon}
 use Rattle.xdg_packed.specs.Lexicon.{Lexicon}
 use Rattle.xdg_base.specs.Told.{Gives}
@@ -31,32 +31,25 @@ expand_one-requires-clause-entry c =
 pub returns-in_err-expanding-clause-tells : goal.returns-in_err-expanding-clause-tells
 returns-in_err-expanding-clause-tells c =
     exit_gives (λ r. Tells (source_of c.args.checked.now) (entries_of r)) c.from_residual.result _ c.from_residual.ensures.1
-    (refused_tells c.args.checked.now c.entries-entries.result.now c.loop-def.def-index c.def-item.result c.loop-def-test.true c.def-item.is (so_far c.loop-def.expanding) c.loop-def.invariant.1 c.in_err-expanding.field-0.0
-    (sym c.entries-entries.ensures.same) c.in_err-expanding.ensures.expands)
+    (refused_tells c.loop-def-test.true c.def-item.is c.loop-def.invariant.1 c.in_err-expanding.field-0.0 (sym c.entries-entries.ensures.same) c.in_err-expanding.ensures.expands)
 
 pub returns-in_err-expanding-clause-only : goal.returns-in_err-expanding-clause-only
 returns-in_err-expanding-clause-only c answer told =
     exit_gives (λ r. Gives answer (entries_of r)) c.from_residual.result _ c.from_residual.ensures.1
-    (refused_only c.args.checked.now c.entries-entries.result.now c.loop-def.def-index c.def-item.result c.loop-def-test.true c.def-item.is (so_far c.loop-def.expanding) c.loop-def.invariant.1 c.word_place-dim.ensures.keeps c.in_err-expanding.field-0.0
-    (sym c.entries-entries.ensures.same) c.in_err-expanding.ensures.expands answer told)
+    (refused_only c.loop-def-test.true c.def-item.is c.loop-def.invariant.1 c.word_place-dim.ensures.keeps c.in_err-expanding.field-0.0 (sym c.entries-entries.ensures.same) c.in_err-expanding.ensures.expands answer told)
 
 pub loop-def-preserved : goal.loop-def-preserved
-loop-def-preserved c = (
-  c.in_ok-expanding.ensures.right,
-  expanded_more c.args.checked.now c.entries-entries.result.now c.loop-def.def-index c.def-item.result c.loop-def-test.true c.def-item.is (so_far c.loop-def.expanding) c.loop-def.invariant.1 (so_far c.in_ok-expanding.expanding) c.in_ok-expanding.ensures.expands,
-)
+loop-def-preserved c = (c.in_ok-expanding.ensures.right, expanded_more c.loop-def-test.true c.def-item.is c.loop-def.invariant.1 (so_far c.in_ok-expanding.expanding) c.in_ok-expanding.ensures.expands)
 
 pub returns-clause-tells : goal.returns-clause-tells
 returns-clause-tells c =
-    let past : length c.entries-entries.result.now ≤ c.loop-def.def-index = omega (arith, c.loop-def-test.false) in
     subst (λ (l : Lexicon). IsLexicon (source_of c.args.checked.now) l.entries) (sym c.finish.ensures)
-    (so_far c.loop-def.expanding, (all_expanded c.args.checked.now c.entries-entries.result.now c.loop-def.def-index (so_far c.loop-def.expanding) (sym c.entries-entries.ensures.same) past c.loop-def.invariant.1, refl))
+    (so_far c.loop-def.expanding, (all_expanded (sym c.entries-entries.ensures.same) (omega (arith, c.loop-def-test.false)) c.loop-def.invariant.1, refl))
 
 pub returns-clause-only : goal.returns-clause-only
 returns-clause-only c answer told =
-    let past : length c.entries-entries.result.now ≤ c.loop-def.def-index = omega (arith, c.loop-def-test.false) in
     subst (λ (l : Lexicon). Gives answer (Ok l.entries)) (sym c.finish.ensures)
-    (expanded_only c.args.checked.now c.entries-entries.result.now c.loop-def.def-index (so_far c.loop-def.expanding) (sym c.entries-entries.ensures.same) past c.loop-def.invariant.1 c.word_place-dim.ensures.keeps answer told)
+    (expanded_only (sym c.entries-entries.ensures.same) (omega (arith, c.loop-def-test.false)) c.loop-def.invariant.1 c.word_place-dim.ensures.keeps answer told)
 
 pub returns-clause-right : goal.returns-clause-right
 returns-clause-right c =

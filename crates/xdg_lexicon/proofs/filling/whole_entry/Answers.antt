@@ -1,6 +1,6 @@
-use Rattle.std.proofs.Common.{get_or, sym, ap, ◌∙◌, arith}
+use Rattle.std.proofs.Common.{get_or, length, sym, ap, ◌∙◌, arith}
 use Rattle.xdg_types.specs.declared.table.DimType.{DimType}
-use Rattle.xdg_lexicon.proofs.Right.{Here, here, past, records_further, records_lacking, records_done, whole_right}
+use Rattle.xdg_lexicon.proofs.Right.{Here, here, records_further, records_lacking, records_done, whole_right}
 use Rattle.xdg_lexicon.proofs.filling.whole_entry.Goals.{After-as_slice}
 use Rattle.xdg_lexicon.proofs.filling.whole_entry.Goals as goal
 
@@ -32,9 +32,9 @@ loop-place-preserved c =
 
 pub returns-clause-whole : goal.returns-clause-whole
 returns-clause-whole c =
-    records_done c.args.types.now c.args.partial.now c.loop-place.place-index c.loop-place.entry (past c.used-place-items.result.now c.args.types.now.used c.loop-place.place-index c.used-place-items.ensures.same (omega (arith, c.loop-place-test.false))) c.loop-place.invariant
+    records_done c.args.types.now c.args.partial.now c.loop-place.place-index c.loop-place.entry (omega (arith, c.loop-place-test.false, ap length c.used-place-items.ensures.same)) c.loop-place.invariant
 
 pub returns-clause-right : goal.returns-clause-right
 returns-clause-right c =
     whole_right c.args.types.now c.args.partial.now c.loop-place.entry c.dims-dims.ensures.keeps c.requires
-    (sym (records_done c.args.types.now c.args.partial.now c.loop-place.place-index c.loop-place.entry (past c.used-place-items.result.now c.args.types.now.used c.loop-place.place-index c.used-place-items.ensures.same (omega (arith, c.loop-place-test.false))) c.loop-place.invariant))
+    (sym (records_done c.args.types.now c.args.partial.now c.loop-place.place-index c.loop-place.entry (omega (arith, c.loop-place-test.false, ap length c.used-place-items.ensures.same)) c.loop-place.invariant))

@@ -21,7 +21,7 @@ join_said-requires-clause-other c =
     subst (λ o. IfSome o (IsValue (shape f.1))) (sym (c.said-in-loop-place.ensures ∙ ap (said_at c.args.other.now) same)) (said_value c.args.fields.now c.args.other.now c.loop-place.place f c.loop-place-test.true c.index-fields-place.is c.requires.other)
 
 pub loop-place-init : goal.loop-place-init
-loop-place-init c = subst (IsMade (Joining c.args.fields.now c.args.one.now c.args.other.now) 0) (sym c.new-made.ensures) (start (Joining c.args.fields.now c.args.one.now c.args.other.now))
+loop-place-init c = subst (IsMade (Joining c.args.fields.now c.args.one.now c.args.other.now) 0 0) (sym c.new-made.ensures) (start (Joining c.args.fields.now c.args.one.now c.args.other.now) 0)
 
 pub returns-in-None : goal.returns-in-None
 returns-in-None c =

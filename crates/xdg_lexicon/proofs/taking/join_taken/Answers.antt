@@ -14,43 +14,27 @@ here c =
 
 pub join_values-requires-clause-one : goal.join_values-requires-clause-one
 join_values-requires-clause-one c =
-    let fs = c.args.fields.now in
-    let l = c.loop-left in
-    let field = c.index-fields-place.result in
-    let key = c.in-Ok.key in
     let at = here (goal.at.join_values-requires-clause-one c).After-index-fields-place in
-    mine_value fs c.args.one c.args.other l.left key l.one l.other l.made at.1.0 l.invariant c.take_last-mine.result c.take_last-theirs.result c.take_last-mine.ensures.here c.take_last-theirs.ensures.here field at.1.1 c.requires.one
+    mine_value _ at.1.0 c.loop-left.invariant c.take_last-mine.ensures.here c.take_last-theirs.ensures.here at.1.1 c.requires.one
 
 pub join_values-requires-clause-other : goal.join_values-requires-clause-other
 join_values-requires-clause-other c =
-    let fs = c.args.fields.now in
-    let l = c.loop-left in
-    let field = c.index-fields-place.result in
-    let key = c.in-Ok.key in
     let at = here (goal.at.join_values-requires-clause-other c).After-index-fields-place in
-    theirs_value fs c.args.one c.args.other l.left key l.one l.other l.made at.1.0 l.invariant c.take_last-mine.result c.take_last-theirs.result c.take_last-mine.ensures.here c.take_last-theirs.ensures.here field at.1.1 c.requires.other
+    theirs_value _ at.1.0 c.loop-left.invariant c.take_last-mine.ensures.here c.take_last-theirs.ensures.here at.1.1 c.requires.other
 
 pub returns-in-None : goal.returns-in-None
 returns-in-None c =
-    let fs = c.args.fields.now in
-    let l = c.loop-left in
-    let field = c.index-fields-place.result in
-    let key = c.in-Ok.key in
     let at = here (goal.at.returns-in-None c).After-index-fields-place in
-    taken_clash fs c.args.one c.args.other l.left key l.one l.other l.made at.1.0 l.invariant c.take_last-mine.result c.take_last-theirs.result c.take_last-mine.ensures.here c.take_last-theirs.ensures.here field at.1.1 c.in_ok-join_values.field-0 c.in_ok-join_values.ensures.joins c.in-None.is
+    taken_clash _ at.1.0 c.loop-left.invariant c.take_last-mine.ensures.here c.take_last-theirs.ensures.here at.1.1 c.in_ok-join_values.field-0 c.in_ok-join_values.ensures.joins c.in-None.is
 
 pub loop-left-preserved : goal.loop-left-preserved
 loop-left-preserved c =
-    let fs = c.args.fields.now in
-    let l = c.loop-left in
-    let field = c.index-fields-place.result in
-    let key = c.in-Ok.key in
     let at = here (goal.at.loop-left-preserved c).After-index-fields-place in
     let mine = c.take_last-mine in
     let theirs = c.take_last-theirs in
-    subst (λ n. TakenSoFar fs c.args.one c.args.other n mine.new.said theirs.new.said c.add.new.made) at.0
-    (taken_further fs c.args.one c.args.other l.left key l.one l.other l.made at.1.0 l.invariant c.take_last-mine.result c.take_last-theirs.result c.take_last-mine.ensures.here c.take_last-theirs.ensures.here field at.1.1 c.in_ok-join_values.field-0 c.in_ok-join_values.ensures.joins
-    c.in-Some.both mine.new.said theirs.new.said c.add.new.made c.in-Some.is c.in_ok-add-in-Some.ensures mine.ensures.front mine.ensures.rises mine.ensures.below theirs.ensures.front theirs.ensures.rises theirs.ensures.below)
+    subst (λ n. TakenSoFar c.args.fields.now c.args.one c.args.other n mine.new.said theirs.new.said c.add.new.made) at.0
+    (taken_further _ at.1.0 c.loop-left.invariant mine.ensures.here theirs.ensures.here at.1.1 c.in_ok-join_values.field-0 c.in_ok-join_values.ensures.joins c.in-Some.is c.in_ok-add-in-Some.ensures
+    mine.ensures.front mine.ensures.rises mine.ensures.below theirs.ensures.front theirs.ensures.rises theirs.ensures.below)
 
 pub returns : goal.returns
 returns c =

@@ -24,8 +24,7 @@ dims_are c = c.dims-dims.ensures.same ∙ ap (λ ty. ty.dims) c.types.ensures.sa
 
 pub returns-then-is_empty-clause-leaves : goal.returns-then-is_empty-clause-leaves
 returns-then-is_empty-clause-leaves c =
-    nothing_listed c.args.checked.now (body c.args.self.now.whole.now) (open_in c.down.self) c.down.self.scope c.down.kind.now c.in-Or.members c.as_slice-members.result.now c.as_slice-members.ensures c.down.invariant.enters c.new.result.items c.in-Or.is
-    (is_none _ c.is_empty.result c.is_empty.ensures c.if-is_empty.true) c.new.ensures.items
+    nothing_listed _ c.as_slice-members.ensures c.down.invariant.enters c.new.result.items c.in-Or.is (is_none _ c.is_empty.result c.is_empty.ensures c.if-is_empty.true) c.new.ensures.items
 
 pub bounds-members-0 : goal.bounds-members-0
 bounds-members-0 c = is_some _ c.is_empty.result c.is_empty.ensures c.if-is_empty.false
@@ -40,31 +39,27 @@ down-smaller-in-Or c =
 
 pub down-preserved-in-Or : goal.down-preserved-in-Or
 down-preserved-in-Or c =
-    let checked = c.args.checked.now in
-    let whole = body c.args.self.now.whole.now in
     let walk = c.down.self in
     let items = c.as_slice-members.result.now in
     let same = c.as_slice-members.ensures in
-    let enters = c.down.invariant.enters in
     let some = is_some _ c.is_empty.result c.is_empty.ensures c.if-is_empty.false in
     let e : Expr = get_or items 0 c.index-members-0.result in
     let at : e ≡ get_or items 0 e = get_or_default items 0 c.index-members-0.result e some in
-    let parts = or_parts checked whole (open_in walk) walk.scope c.down.kind.now c.in-Or.members items same enters c.in-Or.is in
-    further checked whole _ walk _ (frame.Listing c.as_slice-members.result 0 c.new-none.result) (body c.down.kind.now) (body e.kind) c.down.invariant (pushed c.add.new.frames.items walk.frames.items _ c.in_ok-add-in-Or.ensures) c.down.invariant.same
+    let parts = or_parts c.down.kind.now same c.down.invariant.enters c.in-Or.is in
+    further _ (frame.Listing c.as_slice-members.result 0 c.new-none.result) (body e.kind) c.down.invariant (pushed c.add.new.frames.items walk.frames.items _ c.in_ok-add-in-Or.ensures) c.down.invariant.same
     (record {
-      stands = part_stands checked walk.scope items 0 e some at parts.0;
-      around = (first_listed checked whole (open_in walk) walk.scope c.down.kind.now c.in-Or.members items same enters e c.new-none.result.items c.in-Or.is some at c.new-none.ensures.items, parts.1);
+      stands = part_stands c.args.checked.now walk.scope items 0 e some at parts.0;
+      around = (first_listed c.down.kind.now same c.down.invariant.enters e c.new-none.result.items c.in-Or.is some at c.new-none.ensures.items, parts.1);
     })
-    (or_lighter (sized checked walk.scope.depth) c.down.kind.now c.in-Or.members items e same (heavy checked (open_in walk) walk.scope.depth) c.in-Or.is some at)
+    (or_lighter (sized c.args.checked.now walk.scope.depth) c.down.kind.now c.in-Or.members items e same (heavy c.args.checked.now (open_in walk) walk.scope.depth) c.in-Or.is some at)
 
 -- ---- conjunctions
 
 pub returns-then-is_empty-2-clause-leaves : goal.returns-then-is_empty-2-clause-leaves
 returns-then-is_empty-2-clause-leaves c =
     let dims = dims_are (goal.at.returns-then-is_empty-2-clause-leaves c).After-dims-dims in
-    nothing_joined c.args.checked.now (body c.args.self.now.whole.now) (open_in c.down.self) c.down.self.scope c.down.kind.now c.in-And.members c.as_slice-members-in-And.result.now c.as_slice-members-in-And.ensures c.down.invariant.enters c.in_ok-say_nothing-in-And.field-0
-    c.in_ok-nothing-in-And.nothing.items c.in-And.is (is_none _ c.is_empty-in-And.result c.is_empty-in-And.ensures c.if-is_empty-2.true) (c.in_ok-say_nothing-in-And.ensures.same ∙ ap nothing dims)
-    (subst (λ ds. IsPartial ds c.in_ok-say_nothing-in-And.field-0) dims c.in_ok-say_nothing-in-And.ensures.partial) c.in_ok-nothing-in-And.ensures
+    nothing_joined _ c.as_slice-members-in-And.ensures c.down.invariant.enters c.in_ok-say_nothing-in-And.field-0 c.in_ok-nothing-in-And.nothing.items c.in-And.is
+    (is_none _ c.is_empty-in-And.result c.is_empty-in-And.ensures c.if-is_empty-2.true) (c.in_ok-say_nothing-in-And.ensures.same ∙ ap nothing dims) (rw dims at c.in_ok-say_nothing-in-And.ensures.partial) c.in_ok-nothing-in-And.ensures
 
 -- it has members
 some : (c : Else-is_empty-2) → 0 < length c.as_slice-members-in-And.result.now
@@ -91,28 +86,25 @@ down-smaller-in-And c =
 pub down-preserved-in-And : goal.down-preserved-in-And
 down-preserved-in-And c =
     let dims = dims_are (goal.at.down-preserved-in-And c).After-dims-dims in
-    let checked = c.args.checked.now in
-    let whole = body c.args.self.now.whole.now in
     let walk = c.down.self in
     let items = c.as_slice-members-in-And.result.now in
     let same = c.as_slice-members-in-And.ensures in
-    let enters = c.down.invariant.enters in
     let last = length items - 1 in
     let long : last + 1 ≡ length items = omega (arith, some (goal.at.down-preserved-in-And c).Else-is_empty-2) in
     let inside : last < length items = omega (arith, long) in
     let e : Expr = get_or items last c.index-members-last.result in
     let at : e ≡ get_or items last e = get_or_default items last c.index-members-last.result e inside in
-    let parts = and_parts checked whole (open_in walk) walk.scope c.down.kind.now c.in-And.members items same enters c.in-And.is in
-    further checked whole _ walk _ (frame.Joining c.as_slice-members-in-And.result last c.in_ok-nothing-in-And.nothing) (body c.down.kind.now) (body e.kind) c.down.invariant (pushed c.add-in-And.new.frames.items walk.frames.items _ c.in_ok-add-in-And.ensures) c.down.invariant.same
+    let parts = and_parts c.down.kind.now same c.down.invariant.enters c.in-And.is in
+    further _ (frame.Joining c.as_slice-members-in-And.result last c.in_ok-nothing-in-And.nothing) (body e.kind) c.down.invariant (pushed c.add-in-And.new.frames.items walk.frames.items _ c.in_ok-add-in-And.ensures) c.down.invariant.same
     (record {
-      stands = part_stands checked walk.scope items last e inside at parts.0;
+      stands = part_stands c.args.checked.now walk.scope items last e inside at parts.0;
       around = (
-        last_joined checked whole (open_in walk) walk.scope c.down.kind.now c.in-And.members items same enters e last c.in_ok-say_nothing-in-And.field-0 c.in_ok-nothing-in-And.nothing.items c.in-And.is long at (c.in_ok-say_nothing-in-And.ensures.same ∙ ap nothing dims)
-            (subst (λ ds. IsPartial ds c.in_ok-say_nothing-in-And.field-0) dims c.in_ok-say_nothing-in-And.ensures.partial) c.in_ok-nothing-in-And.ensures,
+        last_joined c.down.kind.now same c.down.invariant.enters e last c.in_ok-say_nothing-in-And.field-0 c.in_ok-nothing-in-And.nothing.items c.in-And.is long at (c.in_ok-say_nothing-in-And.ensures.same ∙ ap nothing dims)
+            (rw dims at c.in_ok-say_nothing-in-And.ensures.partial) c.in_ok-nothing-in-And.ensures,
         parts.1,
       );
     })
-    (and_lighter (sized checked walk.scope.depth) c.down.kind.now c.in-And.members items e same (heavy checked (open_in walk) walk.scope.depth) last c.in-And.is long at)
+    (and_lighter (sized c.args.checked.now walk.scope.depth) c.down.kind.now c.in-And.members items e same (heavy c.args.checked.now (open_in walk) walk.scope.depth) last c.in-And.is long at)
 
 -- ---- records
 
@@ -162,6 +154,6 @@ down-preserved c =
     pushed c.add-in-Use.new.frames.items walk.frames.items (frame.Using c.replace-outside.result) c.in_ok-add-in-Use.ensures ∙ ap (λ (s : Scope). frame.Using s ∷ open_in walk) c.replace-outside.ensures.value in
     let enters = use_entered checked whole (open_in walk) walk.scope used.scope c.down.kind.now c.in-Use.name c.in-Use.args c.args_of-args.result.now part c.in-Use.is c.args_of-args.ensures c.down.invariant.enters c.in_ok-used-in-Use.ensures.stands c.in_ok-used-in-Use.ensures.means in
     let light = use_lighter (sized checked walk.scope.depth) c.down.kind.now c.in-Use.name c.in-Use.args c.args_of-args.result.now (weigh (sized checked used.scope.depth) part) (heavy checked (open_in walk) walk.scope.depth) c.in-Use.is c.args_of-args.ensures c.in_ok-used-in-Use.ensures.lighter in
-    further checked whole _ walk (record { whole = walk.whole; scope = c.replace-outside.new.dest; frames = c.add-in-Use.new.frames }) (frame.Using walk.scope) (body c.down.kind.now) part c.down.invariant opened c.down.invariant.same
+    further (record { whole = walk.whole; scope = c.replace-outside.new.dest; frames = c.add-in-Use.new.frames }) (frame.Using walk.scope) part c.down.invariant opened c.down.invariant.same
     (subst (λ (s : Scope). Enters checked whole (frame.Using walk.scope ∷ open_in walk) s part) (sym c.replace-outside.ensures.after) enters)
     (subst (λ (s : Scope). IsLighter (weigh (sized checked s.depth) part) (weigh (sized checked walk.scope.depth) (body c.down.kind.now)) (1 + heavy checked (open_in walk) walk.scope.depth) (heavy checked (open_in walk) walk.scope.depth)) (sym c.replace-outside.ensures.after) light)

@@ -5,8 +5,8 @@ use Rattle.xdg_lexicon.specs.declared.frames.Frame.TheVariants as frame
 use Rattle.xdg_lexicon.specs.Frames.{open_in, IsOpen}
 use Rattle.xdg_lexicon.specs.Partial.{ArePartial}
 use Rattle.xdg_lexicon.specs.Weights.{heavy, sized}
-use Rattle.xdg_lexicon.proofs.Framed.{pushed, joins_told, all_joined, next_joined}
-use Rattle.xdg_lexicon.proofs.Weighed.{joining_goes}
+use Rattle.xdg_lexicon.proofs.Framed.{pushed, all_joined, next_joined}
+use Rattle.xdg_lexicon.proofs.Weighed.{to_last}
 use Rattle.xdg_lexicon.proofs.frames.Walk.join.Goals.{After-dims-dims}
 use Rattle.xdg_lexicon.proofs.frames.Walk.join.Goals as goal
 use Rattle.xdg_facts.proofs.Options.{if_ok}
@@ -24,9 +24,8 @@ join_all-requires-clause-second c = subst (λ ds. ArePartial ds c.args.joined.it
 pub returns-then-place-eq0-clause-leaves : goal.returns-then-place-eq0-clause-leaves
 returns-then-place-eq0-clause-leaves c =
     let l = c.requires.leaves in
-    let told = joins_told _ c.args.checked.now.types.dims c.args.made.items c.args.joined.items c.in_ok-both.both.items (dims_are (goal.at.returns-then-place-eq0-clause-leaves c).After-dims-dims) c.in_ok-both.ensures.joins c.in_ok-both.ensures.partial in
-    all_joined c.args.checked.now (body c.args.self.now.whole.now) (open_in c.args.self.now) c.args.self.now.scope c.args.members.now c.args.place c.args.joined.items c.args.made.items c.in_ok-both.both.items l.part l.denotes l.around.0 l.around.1 told.0 told.1
-    (let past = c.if-place-eq0.true in omega (arith, past))
+    let dims = dims_are (goal.at.returns-then-place-eq0-clause-leaves c).After-dims-dims in
+    all_joined _ _ l.denotes l.around.0 l.around.1 (rw dims at c.in_ok-both.ensures.joins) (rw dims at c.in_ok-both.ensures.partial) (let past = c.if-place-eq0.true in omega (arith, past))
 
 pub enter-requires : goal.enter-requires
 enter-requires c =
@@ -40,8 +39,8 @@ enter-requires c =
     let inside : next < length items = (let within = l.around.0.open_at.within in omega (arith, within)) in
     let e : Expr = get_or items next c.index-members-next.result in
     let at : e ≡ get_or items next e = get_or_default items next c.index-members-next.result e inside in
-    let told = joins_told _ checked.types.dims c.args.made.items c.args.joined.items c.in_ok-both.both.items (dims_are (goal.at.enter-requires c).After-dims-dims) c.in_ok-both.ensures.joins c.in_ok-both.ensures.partial in
-    let further = next_joined checked whole (open_in walk) walk.scope items c.args.place c.args.joined.items c.args.made.items c.in_ok-both.both.items l.part l.denotes l.around.0 l.around.1 told.0 told.1 e next before at in
+    let dims = dims_are (goal.at.enter-requires c).After-dims-dims in
+    let further = next_joined whole (open_in walk) l.denotes l.around.0 l.around.1 (rw dims at c.in_ok-both.ensures.joins) (rw dims at c.in_ok-both.ensures.partial) e next before at in
     record {
       enters = record {
         stands = further.0;
@@ -59,6 +58,6 @@ returns-clause-less c =
     let within = c.requires.leaves.around.0.open_at.within in
     let e : Expr = get_or items next c.index-members-next.result in
     let at : e ≡ get_or items next e = get_or_default items next c.index-members-next.result e (omega (arith, within)) in
-    let goes = joining_goes (sized checked walk.scope.depth) items next c.args.place (heavy checked (open_in walk) walk.scope.depth) e before within at in
+    let goes = rw before at (to_last (sized checked walk.scope.depth) items next e (omega (arith, within)) at) in
     let opened = ap (λ fs. heavy checked fs walk.scope.depth) (pushed c.add.new.frames.items walk.frames.items (frame.Joining c.args.members next c.in_ok-both.both) c.in_ok-add.ensures) in
     if_ok _ _ c.enter.result (λ made less. omega (arith, less, goes, opened)) c.enter.ensures.less

@@ -5,7 +5,7 @@ use Rattle.xdg_lexicon.specs.declared.frames.Frame.TheVariants as frame
 use Rattle.xdg_lexicon.specs.Frames.{open_in, IsOpen}
 use Rattle.xdg_lexicon.specs.Weights.{heavy, sized}
 use Rattle.xdg_lexicon.proofs.Framed.{pushed, all_listed, next_listed}
-use Rattle.xdg_lexicon.proofs.Weighed.{listing_goes}
+use Rattle.xdg_lexicon.proofs.Weighed.{from_first}
 use Rattle.xdg_lexicon.proofs.frames.Walk.list.Goals as goal
 use Rattle.xdg_facts.proofs.Options.{if_ok}
 
@@ -18,8 +18,7 @@ overflow_add-next c =
 pub returns-then-next-members-clause-leaves : goal.returns-then-next-members-clause-leaves
 returns-then-next-members-clause-leaves c =
     let l = c.requires.leaves in
-    all_listed c.args.checked.now (body c.args.self.now.whole.now) (open_in c.args.self.now) c.args.self.now.scope c.args.members.now c.args.place c.args.listed.items c.args.made.items c.append.new.self.items l.part l.denotes l.partial l.around.0 l.around.1
-    c.in_ok-append.ensures.items (let past = c.if-next-members.true in omega (arith, past))
+    all_listed _ _ l.denotes l.partial l.around.0 l.around.1 c.in_ok-append.ensures.items (let past = c.if-next-members.true in omega (arith, past))
 
 pub bounds-members-next : goal.bounds-members-next
 bounds-members-next c =
@@ -38,7 +37,7 @@ enter-requires c =
     let inside : next < length items = (let within = l.around.0.open_at.within in let past = c.if-next-members.false in omega (arith, within, past)) in
     let e : Expr = get_or items next c.index-members-next.result in
     let at : e ≡ get_or items next e = get_or_default items next c.index-members-next.result e inside in
-    let further = next_listed checked whole (open_in walk) walk.scope items c.args.place c.args.listed.items c.args.made.items c.append.new.self.items l.part l.denotes l.partial l.around.0 l.around.1 c.in_ok-append.ensures.items e inside at in
+    let further = next_listed whole (open_in walk) l.denotes l.partial l.around.0 l.around.1 c.in_ok-append.ensures.items e inside at in
     record {
       enters = record {
         stands = further.0;
@@ -55,6 +54,6 @@ returns-clause-less c =
     let inside : next < length items = (let within = c.requires.leaves.around.0.open_at.within in let past = c.if-next-members.false in omega (arith, within, past)) in
     let e : Expr = get_or items next c.index-members-next.result in
     let at : e ≡ get_or items next e = get_or_default items next c.index-members-next.result e inside in
-    let goes = listing_goes (sized checked walk.scope.depth) items c.args.place (heavy checked (open_in walk) walk.scope.depth) e inside at in
+    let goes = from_first (sized checked walk.scope.depth) items next e inside at in
     let opened = ap (λ fs. heavy checked fs walk.scope.depth) (pushed c.add.new.frames.items walk.frames.items (frame.Listing c.args.members next c.append.new.self) c.in_ok-add.ensures) in
     if_ok _ _ c.enter.result (λ made less. omega (arith, less, goes, opened)) c.enter.ensures.less
