@@ -8,9 +8,9 @@ use Rattle.xdg_ast.specs.declared.grammar.DimPartKind.{DimPartKind}
 use Rattle.xdg_ast.specs.declared.grammar.DimPartKind.TheVariants as d
 use Rattle.xdg_ast.specs.Grammar.{Params, Term, TypeTerm, DimPart, inside, under, keyed_name, keyed_names, principle_dims, principle_args, principle, type_term, part_kind, part, parts}
 use Rattle.xdg_ast.specs.Words.{Word, mark}
-use Rattle.xdg_ast.specs.Trees.{pair_words, terms_words, in_braces as between_braces}
+use Rattle.xdg_ast.specs.Trees.{pair_words, in_braces as between_braces}
 use Rattle.xdg_ast.specs.Canon.{principle_words, part_words}
-use Rattle.xdg_ast.specs.Same.{bare_part, bare_name, bare_pair, bare_terms, bare_type, bare_dim_part}
+use Rattle.xdg_ast.specs.Same.{bare_part, bare_type, bare_dim_part}
 use Rattle.xdg_print.proofs.AgainNames.{Keeps, name_words, name_keeps, many_keeps, keyed_keeps}
 use Rattle.xdg_print.proofs.AgainKept.{behind_keeps, either_keeps, made_keeps, pair_keeps, optional_keeps, with_words, at_place_keeps}
 use Rattle.xdg_print.proofs.AgainLevels.{Said, said_words, bare_said, Levels, Below, Depth, braces_keep}
@@ -22,22 +22,11 @@ use Rattle.xdg_print.proofs.AgainTypes.{one_words, type_keeps, two_keep, more_ke
 abbrev pairs_of_names : List (Pair Name) → List Word
 pairs_of_names pairs = flat_map (pair_words name_words) pairs
 
-keyed_names_keep : Keeps keyed_names keyed_names (map (bare_pair bare_name)) pairs_of_names
-unfolding keyed_names keyed_name
-keyed_names_keep = many_keeps (keyed_keeps name_keeps)
-
 module _ {params : Params} {m n : ℕ} (depth : Depth params m n) where
-  principle_dims_keep : Keeps (principle_dims (under params m)) (principle_dims (under params n)) (map (bare_pair bare_name)) (λ pairs. mark k.Dims ∷ between_braces (pairs_of_names pairs))
-  unfolding principle_dims inside
-  principle_dims_keep = behind_keeps k.Dims (refl, refl) refl (braces_keep (λ j. j.dims) depth (λ _ _ _ _. keyed_names_keep))
-
-  principle_args_keep : Keeps (principle_args (under params m)) (principle_args (under params n)) bare_terms (λ args. mark k.Args ∷ terms_words params args)
-  unfolding principle_args
-  principle_args_keep = behind_keeps k.Args (refl, refl) refl (braced_terms_keep depth)
-
   principle_keeps : Keeps (principle (under params m)) (principle (under params n)) bare_said (said_words params)
-  unfolding principle
-  principle_keeps = pair_keeps principle_dims_keep (optional_keeps principle_args_keep)
+  unfolding principle principle_dims principle_args keyed_names keyed_name inside
+  principle_keeps = pair_keeps (behind_keeps k.Dims (refl, refl) refl (braces_keep (λ j. j.dims) depth (λ _ _ _ _. many_keeps (keyed_keeps name_keeps))))
+      (optional_keeps (behind_keeps k.Args (refl, refl) refl (braced_terms_keep depth)))
 
 -- ---- all levels
 

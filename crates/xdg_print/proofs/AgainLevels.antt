@@ -113,16 +113,12 @@ pub record Depth (params : Params) (m n : ℕ) : Type 0 where
 
 -- ---- brackets
 
-nested_at : {A : Type 0} (op cl : Kinds) (body : Inside → Language A) (params : Params) (m n : ℕ) → m ≤ n → Below params m → {K : A → Type 0}
-    → ((m' n' : ℕ) → n ≡ suc n' → m' ≤ n' → Levels params m' → Gives (body (inside params (under params m'))) K) → Gives (nested op cl (under params m) body) K
-unfolding under
-nested_at op cl body params zero n le below pick = record { by = λ ts x h s. absurd h }
-nested_at op cl body params (suc m) zero le below pick = absurd (omega arith)
-nested_at op cl body params (suc m) (suc n) le below pick = room_gives op cl (inside params (under params m)) body _ (pick m n refl (omega arith) below)
-
 pub nested_gives : {A : Type 0} (op cl : Kinds) (body : Inside → Language A) {params : Params} {m n : ℕ} → Depth params m n → {K : A → Type 0}
     → ((m' n' : ℕ) → n ≡ suc n' → m' ≤ n' → Levels params m' → Gives (body (inside params (under params m'))) K) → Gives (nested op cl (under params m) body) K
-nested_gives op cl body {params} {m} {n} d pick = nested_at op cl body params m n d.le d.below pick
+unfolding under
+nested_gives op cl body {params} {m = zero} d pick = record { by = λ ts x h s. absurd h }
+nested_gives op cl body {params} {m = suc m} {n = zero} d pick = absurd (omega (arith, d.le))
+nested_gives op cl body {params} {m = suc m} {n = suc n} d pick = room_gives op cl (inside params (under params m)) body _ (pick m n refl (omega (arith, d.le)) d.below)
 
 pub nested_written : {A : Type 0} (op cl : Kind) (body : Inside → Language A) (params : Params) (n n' : ℕ) {ws : List Word} {P : A → Type 0} → n ≡ suc n'
     → IsSpellable (mark op) → is op op ≡ true → IsSpellable (mark cl) → is cl cl ≡ true → Written (body (inside params (under params n'))) ws P → Written (nested (is op) (is cl) (under params n) body) (mark op ∷ (ws ++ mark cl ∷ [])) P

@@ -1,5 +1,6 @@
 -- Kinds, constants and numbers are read again, and lists and pairs of what is.
 use Rattle.std.proofs.Common.{◌≡◌, ◌≤◌, ℕ, Bool, true, false, if◌then◌else◌, List, [], ◌∷◌, map, flat_map, refl, sym, ap, ap₂, ◌∙◌}
+use Rattle.std.specs.List.{AllZip}
 use Rattle.std.proofs.lemmas.List.Concat.{flat_map_single}
 use Rattle.std.proofs.lemmas.List.Folds.{flat_map-map}
 use Rattle.xdg_ast.specs.declared.token.Kind.{Kind}
@@ -15,7 +16,7 @@ use Rattle.xdg_base.specs.Spelling.{is_name}
 use Rattle.xdg_ast.specs.Words.{Word, word_of, number as number_word, constant, IsShortText, IsSpellable}
 use Rattle.xdg_ast.specs.Trees.{name_word, names_words, nums_words, pair_words}
 use Rattle.xdg_ast.specs.Same.{bare_name, bare_names, bare_num, bare_pair}
-use Rattle.xdg_print.proofs.AgainWritten.{Written, weaker, at_words, token_written, made_written, both_written, behind_written, InTurn, many_written, Gives, stronger, token_gives, made_gives, both_gives, behind_gives, many_gives}
+use Rattle.xdg_print.proofs.AgainWritten.{Written, weaker, at_words, token_written, made_written, both_written, behind_written, many_written, Gives, stronger, token_gives, made_gives, both_gives, behind_gives, many_gives}
 use Rattle.xdg_facts.proofs.Truths.{choose}
 
 -- ---- two values that differ at most in places
@@ -24,19 +25,14 @@ pub record Like {A B W : Type 0} (b : A → B) (w : A → W) (y x : A) : Type 0 
   pub bare : b y ≡ b x
   pub words : w y ≡ w x
 
-likes_by : {A B : Type 0} (R : A → A → Type 0) (f : A → B) → ((y x : A) → R y x → f y ≡ f x) → (ys xs : List A) → InTurn R ys xs → map f ys ≡ map f xs
-likes_by R f same [] [] h = refl
-likes_by R f same (y ∷ ys) (x ∷ xs) h = ap₂ (λ z zs. z ∷ zs) (same y x h.0) (likes_by R f same ys xs h.1)
-likes_by R f same _ _ h = absurd h
+-- lists whose elements do so in turn
+pub likes : {A B W : Type 0} (b : A → B) (w : A → W) (ys xs : List A) → AllZip (Like b w) ys xs → Like (map b) (map w) ys xs
+likes b w [] [] h = record { bare = refl; words = refl }
+likes b w (y ∷ ys) (x ∷ xs) h = let rest = likes b w ys xs h.1 in record { bare = ap₂ (λ z zs. z ∷ zs) h.0.bare rest.bare; words = ap₂ (λ z zs. z ∷ zs) h.0.words rest.words }
+likes b w _ _ h = absurd h
 
-pub likes_bare : {A B W : Type 0} (b : A → B) (w : A → W) (ys xs : List A) → InTurn (Like b w) ys xs → map b ys ≡ map b xs
-likes_bare b w ys xs = likes_by (Like b w) b (λ y x h. h.bare) ys xs
-
-pub likes_map : {A B W : Type 0} (b : A → B) (w : A → W) (ys xs : List A) → InTurn (Like b w) ys xs → map w ys ≡ map w xs
-likes_map b w ys xs = likes_by (Like b w) w (λ y x h. h.words) ys xs
-
-likes_words : {A B : Type 0} (b : A → B) (w : A → List Word) (ys xs : List A) → InTurn (Like b w) ys xs → flat_map w ys ≡ flat_map w xs
-likes_words b w ys xs h = sym (flat_map-map (λ ws. ws) w ys) ∙ ap (flat_map (λ ws. ws)) (likes_map b w ys xs h) ∙ flat_map-map (λ ws. ws) w xs
+likes_words : {A B : Type 0} (b : A → B) (w : A → List Word) (ys xs : List A) → AllZip (Like b w) ys xs → flat_map w ys ≡ flat_map w xs
+likes_words b w ys xs h = sym (flat_map-map (λ ws. ws) w ys) ∙ ap (flat_map (λ ws. ws)) (likes b w ys xs h).words ∙ flat_map-map (λ ws. ws) w xs
 
 -- the words of a value are read as one that differs at most in places
 abbrev pub Kept : {A B : Type 0} → Language A → (A → B) → (A → List Word) → A → Type 0
@@ -51,7 +47,7 @@ keeps_as e a = record { all = stronger a.all (λ x h. weaker (at_words (e x) h) 
 
 pub many_keeps : {A B : Type 0} {l m : Language A} {b : A → B} {w : A → List Word} → Keeps l m b w → Keeps (many l) (many m) (map b) (flat_map w)
 many_keeps {A} {B} {l} {m} {b} {w} a = record {
-  all = stronger (many_gives a.all) (λ xs e. weaker (many_written m (Like b w) w xs e) (λ ys i. record { bare = likes_bare b w ys xs i; words = likes_words b w ys xs i }));
+  all = stronger (many_gives a.all) (λ xs e. weaker (many_written m (Like b w) w xs e) (λ ys i. record { bare = (likes b w ys xs i).bare; words = likes_words b w ys xs i }));
 }
 
 -- ---- constants
@@ -66,22 +62,22 @@ constant_says text u h =
     let e : is_constant u.kind ≡ true = ap (λ (v : Word). is_constant v.kind) h ∙ constant_kind (is_name text) in
     (e, sym (choose (is_constant u.kind) (content_of u.kind u.text) [] e) ∙ ap (λ (v : Word). v.content) h)
 
-short_at : (kind : Kind) (text : List ℕ) → is_constant kind ≡ true
-    → IsSpellable (record { kind = kind; content = if is_constant kind then content_of kind text else []; value = if is k.Number kind then value_of text else 0 }) → IsShortText (content_of kind text)
-short_at k.Name text h s = s.1
-short_at k.Quoted text h s = s.0
-short_at _ text h s = absurd (cc)
+-- what a token of some kind says, where its word can be spelled
+spelled_at : (kind : Kind) (text : List ℕ) → IsSpellable (record { kind = kind; content = if is_constant kind then content_of kind text else []; value = if is k.Number kind then value_of text else 0 })
+    → (is_constant kind ≡ true → IsShortText (content_of kind text)) × (is k.Name kind ≡ true → is_name (content_of kind text) ≡ true) × (is k.Number kind ≡ true → value_of text ≤ 4294967295)
+spelled_at k.Name text s = (λ _. s.1, λ _. s.0, λ h. absurd (cc))
+spelled_at k.Quoted text s = (λ _. s.0, λ h. absurd (cc), λ h. absurd (cc))
+spelled_at k.Number text s = (λ h. absurd (cc), λ h. absurd (cc), λ _. s.1)
+spelled_at _ text s = (λ h. absurd (cc), λ h. absurd (cc), λ h. absurd (cc))
 
 pub short_text : (t : Lexeme) → is_constant t.kind ≡ true → IsSpellable (word_of t) → IsShortText (content_of t.kind t.text)
-short_text t h s = short_at t.kind t.text h s
-
-name_at : (kind : Kind) (text : List ℕ) → is k.Name kind ≡ true
-    → IsSpellable (record { kind = kind; content = if is_constant kind then content_of kind text else []; value = if is k.Number kind then value_of text else 0 }) → is_name (content_of kind text) ≡ true
-name_at k.Name text h s = s.0
-name_at _ text h s = absurd (cc)
+short_text t h s = (spelled_at t.kind t.text s).0 h
 
 pub name_text : (t : Lexeme) → is k.Name t.kind ≡ true → IsSpellable (word_of t) → is_name (content_of t.kind t.text) ≡ true
-name_text t h s = name_at t.kind t.text h s
+name_text t h s = (spelled_at t.kind t.text s).1 h
+
+pub small_value : (t : Lexeme) → is k.Number t.kind ≡ true → IsSpellable (word_of t) → value_of t.text ≤ 4294967295
+small_value t h s = (spelled_at t.kind t.text s).2 h
 
 constant_at : (text : List ℕ) (v : Bool) → is_name text ≡ v → IsShortText text → IsSpellable (record { kind = if v then k.Name else k.Quoted; content = text; value = 0 })
 constant_at text true h s = (h, s, refl)
@@ -112,14 +108,6 @@ unfolding names
 names_keeps = keeps_as (flat_map_single name_word) (many_keeps name_keeps)
 
 -- ---- numbers
-
-number_at : (kind : Kind) (text : List ℕ) → is k.Number kind ≡ true
-    → IsSpellable (record { kind = kind; content = if is_constant kind then content_of kind text else []; value = if is k.Number kind then value_of text else 0 }) → value_of text ≤ 4294967295
-number_at k.Number text h s = s.1
-number_at _ text h s = absurd (cc)
-
-pub small_value : (t : Lexeme) → is k.Number t.kind ≡ true → IsSpellable (word_of t) → value_of t.text ≤ 4294967295
-small_value t h s = number_at t.kind t.text h s
 
 -- a token that says a number has that value
 pub number_says : (n : ℕ) (u : Lexeme) → word_of u ≡ number_word n → value_of u.text ≡ n

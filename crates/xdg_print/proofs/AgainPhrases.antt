@@ -1,5 +1,6 @@
 -- Conjunctions and disjunctions are read again, with the brackets that they need.
 use Rattle.std.proofs.Common.{◌≡◌, List, [], ◌∷◌, ◌++◌, map, flat_map, refl, sym, ap, ◌∙◌, subst}
+use Rattle.std.specs.List.{AllByRecursion, AllZip}
 use Rattle.std.proofs.lemmas.List.{append-nil}
 use Rattle.xdg_base.specs.declared.places.Span.{Span}
 use Rattle.xdg_ast.specs.declared.token.Kind.{Kind}
@@ -10,9 +11,10 @@ use Rattle.xdg_ast.specs.Language.{Language, is, token, many, spanned, made, beh
 use Rattle.xdg_ast.specs.Grammar.{at_span}
 use Rattle.xdg_ast.specs.Words.{Word, mark}
 use Rattle.xdg_ast.specs.Trees.{in_parentheses, Form, single, conjunction, disjunction, Phrase, in_conjunction, in_disjunction, each_behind, separated, conjoined, disjoined, plainly}
-use Rattle.xdg_print.proofs.AgainWritten.{Written, weaker, stronger, at_words, both_written, behind_written, spanned_written, made_written, written_in, Each, InTurn, many_written, no_tokens, Gives, both_gives, behind_gives, many_gives, spanned_gives, made_gives}
+use Rattle.xdg_print.proofs.AgainWritten.{Written, weaker, stronger, at_words, both_written, behind_written, spanned_written, made_written, written_in, many_written, no_tokens, Gives, both_gives, behind_gives, many_gives, spanned_gives, made_gives}
+use Rattle.xdg_facts.proofs.Each.{each_weaker}
 use Rattle.xdg_facts.proofs.Lists.{fused}
-use Rattle.xdg_print.proofs.AgainNames.{Like, Kept, Keeps, likes_bare, likes_map}
+use Rattle.xdg_print.proofs.AgainNames.{Like, Kept, Keeps, likes}
 
 -- how members are joined: by one way alone a member stays as it is, and more are a phrase of theirs
 pub record Joins {A B : Type 0} (bare : A → B) (phrase : A → Phrase) (join : Span → List A → A) (glue : List Phrase → Phrase) : Type 0 where
@@ -65,15 +67,11 @@ flat_behind : {A : Type 0} (sign : Kind) (f : A → List Word) (xs : List A) →
 flat_behind sign f [] = refl
 flat_behind sign f (x ∷ xs) = ap (λ ws. mark sign ∷ (f x ++ ws)) (flat_behind sign f xs)
 
-each_so : {A : Type 0} (G H : A → Type 0) → ((x : A) → G x → H x) → (xs : List A) → Each G xs → Each H xs
-each_so G H so [] e = tt
-each_so G H so (x ∷ xs) e = (so x e.0, each_so G H so xs e.1)
-
 -- members with a sign between two of them
 chain_written : {A : Type 0} {l m : Language A} (sign : Kind) (f : A → List Word) (R : A → A → Type 0) → ((ws : List Word) (P : A → Type 0) → Written l ws P → Written m (mark sign ∷ ws) P)
-    → (x : A) (xs : List A) → Each (λ y. Written l (f y) (λ z. R z y)) (x ∷ xs) → Written (chain l m) (separated sign (map f (x ∷ xs))) (λ ys. InTurn R ys (x ∷ xs))
+    → (x : A) (xs : List A) → AllByRecursion (λ y. Written l (f y) (λ z. R z y)) (x ∷ xs) → Written (chain l m) (separated sign (map f (x ∷ xs))) (λ ys. AllZip R ys (x ∷ xs))
 chain_written {A} {l} {m} sign f R next x xs e = at_words (ap (λ ws. f x ++ ws) (flat_behind sign f xs))
-    (both_written e.0 (many_written m R (λ y. mark sign ∷ f y) xs (each_so (λ y. Written l (f y) (λ z. R z y)) _ (λ y. next (f y) (λ z. R z y)) xs e.1)) (λ y ys h i. (h, i)))
+    (both_written e.0 (many_written m R (λ y. mark sign ∷ f y) xs (each_weaker (λ y. Written l (f y) (λ z. R z y)) _ xs (λ y. next (f y) (λ z. R z y)) e.1)) (λ y ys h i. (h, i)))
 
 -- a chain of one member
 one_written : {A : Type 0} {l : Language A} (m : Language A) (f : Span → List A → A) → ((s : Span) (x : A) → f s (x ∷ []) ≡ x) → {ws : List Word} {P : A → Type 0} → Written l ws P → Written (spanned f (chain l m)) ws P
@@ -126,17 +124,16 @@ module _ {A B : Type 0} (j : Joining A B) (p np : Language A) (next : (ws : List
   one_conj x a = record { bare_words = a.bare_words; as_member = one_conj_at (j.phrase x).form (j.phrase x).words (λ y. Alike j y x) a.bare_words a.as_member }
 
   -- what is alike in turn makes what is alike
-  joined : (join : Span → List A → A) (glue : List Phrase → Phrase) → Joins j.bare j.phrase join glue → (s s' : Span) (x y : A) (xs zs : List A) → InTurn (Alike j) zs (x ∷ (y ∷ xs)) → Alike j (join s' zs) (join s (x ∷ (y ∷ xs)))
-  joined join glue way s s' x y xs (x' ∷ (y' ∷ xs')) h = record {
-    bare = way.bare_is s s' x y x' y' xs xs' (likes_bare j.bare j.phrase (x' ∷ (y' ∷ xs')) (x ∷ (y ∷ xs)) h);
-    words = way.phrase_is s' x' y' xs' ∙ (ap glue (likes_map j.bare j.phrase (x' ∷ (y' ∷ xs')) (x ∷ (y ∷ xs)) h) ∙ sym (way.phrase_is s x y xs));
-  }
+  joined : (join : Span → List A → A) (glue : List Phrase → Phrase) → Joins j.bare j.phrase join glue → (s s' : Span) (x y : A) (xs zs : List A) → AllZip (Alike j) zs (x ∷ (y ∷ xs)) → Alike j (join s' zs) (join s (x ∷ (y ∷ xs)))
+  joined join glue way s s' x y xs (x' ∷ (y' ∷ xs')) h =
+      let same = likes j.bare j.phrase (x' ∷ (y' ∷ xs')) (x ∷ (y ∷ xs)) h in
+      record { bare = way.bare_is s s' x y x' y' xs xs' same.bare; words = way.phrase_is s' x' y' xs' ∙ (ap glue same.words ∙ sym (way.phrase_is s x y xs)) }
   joined join glue way s s' x y xs [] h = absurd h
   joined join glue way s s' x y xs (x' ∷ []) h = absurd h.1
 
   several : {l m : Language A} (sign : Kind) (bracketed : Phrase → List Word) (join : Span → List A → A) (glue : List Phrase → Phrase) → Joins j.bare j.phrase join glue
       → ((ps : List Phrase) → separated sign (map bracketed ps) ≡ (glue ps).words)
-      → ((ws : List Word) (P : A → Type 0) → Written l ws P → Written m (mark sign ∷ ws) P) → (s : Span) (x y : A) (xs : List A) → Each (λ x. Written l (bracketed (j.phrase x)) (λ y. Alike j y x)) (x ∷ (y ∷ xs))
+      → ((ws : List Word) (P : A → Type 0) → Written l ws P → Written m (mark sign ∷ ws) P) → (s : Span) (x y : A) (xs : List A) → AllByRecursion (λ x. Written l (bracketed (j.phrase x)) (λ y. Alike j y x)) (x ∷ (y ∷ xs))
       → Written (spanned join (chain l m)) (glue (map j.phrase (x ∷ (y ∷ xs)))).words (λ z. Alike j z (join s (x ∷ (y ∷ xs))))
   several sign bracketed join glue way glued behind s x y xs e =
       spanned_written (at_words (ap (separated sign) (sym (fused bracketed j.phrase (x ∷ (y ∷ xs)))) ∙ glued (map j.phrase (x ∷ (y ∷ xs)))) (chain_written sign (λ x. bracketed (j.phrase x)) (Alike j) behind x (y ∷ xs) e))
@@ -144,14 +141,14 @@ module _ {A B : Type 0} (j : Joining A B) (p np : Language A) (next : (ws : List
 
   abbrev Several : (A → Type 0) → List A → Type 0
   Several G [] = ⊥
-  Several G (x ∷ xs) = Each G (x ∷ xs)
+  Several G (x ∷ xs) = AllByRecursion G (x ∷ xs)
 
   all_good : (s : Span) (xs : List A) → Several (GoodPrim j p np) xs → GoodConj j p np (j.all s xs)
   all_good s [] e = absurd e
   all_good s (x ∷ []) e = subst (GoodConj j p np) (sym (j.by_all.one s x)) (one_conj x e.0)
   all_good s (x ∷ (y ∷ xs)) e =
       let all = j.all s (x ∷ (y ∷ xs)) in
-      let written = several k.Ampersand in_conjunction j.all conjoined j.by_all (λ _. refl) next s x y xs (each_so (GoodPrim j p np) (λ x. Written p (in_conjunction (j.phrase x)) (λ y. Alike j y x)) (λ _ g. g.as_member) (x ∷ (y ∷ xs)) e) in
+      let written = several k.Ampersand in_conjunction j.all conjoined j.by_all (λ _. refl) next s x y xs (each_weaker (GoodPrim j p np) (λ x. Written p (in_conjunction (j.phrase x)) (λ y. Alike j y x)) (x ∷ (y ∷ xs)) (λ _ g. g.as_member) e) in
       let both = subst (λ (q : Phrase). natural p (conj_of j p np) (disj_of j p np) q.form q.words (λ z. Alike j z all) × Written (conj_of j p np) (in_disjunction q) (λ z. Alike j z all)) (sym (j.by_all.phrase_is s x y xs)) (written, written) in
       record { bare_words = both.0; as_member = both.1 }
 
@@ -161,7 +158,7 @@ module _ {A B : Type 0} (j : Joining A B) (p np : Language A) (next : (ws : List
   any_good s (x ∷ (y ∷ xs)) e =
       subst (λ (q : Phrase). natural p (conj_of j p np) (disj_of j p np) q.form q.words (λ z. Alike j z (j.any s (x ∷ (y ∷ xs))))) (sym (j.by_any.phrase_is s x y xs))
       (several k.Bar in_disjunction j.any disjoined j.by_any (λ _. refl) (λ ws P a. behind_written k.Bar (refl, refl) refl a) s x y xs
-      (each_so (GoodConj j p np) (λ x. Written (conj_of j p np) (in_disjunction (j.phrase x)) (λ y. Alike j y x)) (λ _ g. g.as_member) (x ∷ (y ∷ xs)) e))
+      (each_weaker (GoodConj j p np) (λ x. Written (conj_of j p np) (in_disjunction (j.phrase x)) (λ y. Alike j y x)) (x ∷ (y ∷ xs)) (λ _ g. g.as_member) e))
 
   -- what the rules read, where a member was read
   conj_gives : (q nq : Language A) → Gives q (GoodPrim j p np) → Gives nq (GoodPrim j p np) → Gives (conj_of j q nq) (GoodConj j p np)

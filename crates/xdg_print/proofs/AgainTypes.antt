@@ -67,10 +67,6 @@ module _ {params : Params} {m n : ℕ} (depth : Depth params m n) where
   unfolding more_types
   more_keep = both_keeps (λ z zs. z ∷ zs) type_keeps (many_keeps type_keeps) (λ _ _. refl) (λ _ _. refl)
 
-  keyed_types_keep : Keeps (keyed_types (under params m)) (keyed_types (under params n)) bare_pairs pairs_of_types
-  unfolding keyed_types keyed_type
-  keyed_types_keep = many_keeps (keyed_keeps type_keeps)
-
   -- ---- between braces
 
   abbrev GoodTypes : (Name → TypeKind) → Type 0
@@ -81,8 +77,8 @@ module _ {params : Params} {m n : ℕ} (depth : Depth params m n) where
 
   -- what follows the first constant is read again
   record_tail : Gives (both {C = Name → TypeKind} (λ value others. record_of (value, others)) (behind (token (is k.Colon)) (type_term (under params m))) (keyed_types (under params m))) GoodTypes
-  unfolding braced_tail
-  record_tail = both_gives (behind_keeps k.Colon (refl, refl) refl type_keeps).all keyed_types_keep.all (λ x xs g h. record {
+  unfolding braced_tail keyed_types keyed_type
+  record_tail = both_gives (behind_keeps k.Colon (refl, refl) refl type_keeps).all (many_keeps (keyed_keeps type_keeps)).all (λ x xs g h. record {
     tail = (mark k.Colon ∷ one_words x) ++ pairs_of_types xs;
     words_are = λ a. type_words-Rec (record { key = a; value = x } ∷ xs);
     read_again = written_in (both_written g h (λ z zs i j a c s. named_like {b' = λ said. (bare_part bare_type said.0, bare_pairs said.1)} {w' = λ said. (mark k.Colon ∷ one_words said.0) ++ pairs_of_types said.1}

@@ -1,5 +1,5 @@
 -- Statements are read again, and whole grammars are.
-use Rattle.std.proofs.Common.{◌≡◌, ℕ, true, if◌then◌else◌, List, [], ◌∷◌, ◌++◌, map, flat_map, Option, Some, None, refl, sym, ap, ◌∙◌, subst, arith}
+use Rattle.std.proofs.Common.{◌≡◌, ℕ, true, if◌then◌else◌, List, [], ◌∷◌, ◌++◌, map, flat_map, Option, Some, None, refl, sym, ap, ap₂, ◌∙◌, subst, arith}
 use Rattle.std.proofs.lemmas.List.{append-nil}
 use Rattle.std.proofs.lemmas.List.Folds.{flat_map-map}
 use Rattle.std.proofs.lemmas.Grind.{flat_map-append}
@@ -25,7 +25,7 @@ use Rattle.xdg_print.proofs.AgainKept.{option_words, behind_keeps, either_keeps,
 use Rattle.xdg_print.proofs.AgainLevels.{braces_keep}
 use Rattle.xdg_print.proofs.AgainElems.{term_keeps}
 use Rattle.xdg_print.proofs.AgainExprs.{expr_keeps}
-use Rattle.xdg_print.proofs.AgainDims.{depth_of, PartSaid, part_said, parts_words, parts_keep}
+use Rattle.xdg_print.proofs.AgainDims.{depth_of, PartSaid, part_said, parts_keep}
 use Rattle.xdg_facts.proofs.Lists.{fused}
 
 -- ---- parameters of classes
@@ -47,10 +47,9 @@ presets_are (Some term) = refl
 
 -- the parameters have the same names
 same_params : (ps qs : List ClassParam) → map bare_class_param ps ≡ map bare_class_param qs → params_of ps ≡ params_of qs
-same_params ps qs h = sym (names_of ps) ∙ (ap (map (λ (p : ClassParam). p.name.text)) h ∙ names_of qs) where
-  names_of : (ps : List ClassParam) → map (λ (p : ClassParam). p.name.text) (map bare_class_param ps) ≡ params_of ps
-  names_of [] = refl
-  names_of (p ∷ ps) = ap (λ names. p.name.text ∷ names) (names_of ps)
+same_params ps qs h =
+    let names_of : (rs : List ClassParam) → map (λ (p : ClassParam). p.name.text) (map bare_class_param rs) ≡ params_of rs = fused (λ (p : ClassParam). p.name.text) bare_class_param in
+    sym (names_of ps) ∙ (ap (map (λ (p : ClassParam). p.name.text)) h ∙ names_of qs)
 
 module _ (n : ℕ) where
   preset_keeps : Keeps (preset n) (preset n) (bare_option (bare_part bare_term)) (option_words (λ term. mark k.Colon ∷ term_words [] term.kind))
@@ -112,10 +111,9 @@ stated_dim dim = (s.DefDim dim.0 (map (λ (p : PartSaid). record { kind = p.0; s
 dim_is : (dim : Dim) → stated (s.DefDim dim.0 dim.1) ≡ stated_dim (bare_dim dim)
 unfolding bare_statement statement_lines
 dim_is dim =
-    let a = fused (λ (p : PartSaid). record { kind = p.0; span = nowhere }) (λ (part : DimPart). part_said part.kind) dim.1 in
-    let b = fused (λ (p : PartSaid). indented p.1) (λ (part : DimPart). part_said part.kind) dim.1 in
-    ap (λ parts. (s.DefDim (bare_name dim.0) parts, line (mark k.DefDim ∷ name_word dim.0 ∷ mark k.LeftBrace ∷ []) ∷ (map (λ (part : DimPart). indented (part_words part.kind)) dim.1 ++ line (mark k.RightBrace ∷ []) ∷ []))) (sym a)
-    ∙ ap (λ lines. (s.DefDim (bare_name dim.0) (map (λ (p : PartSaid). record { kind = p.0; span = nowhere }) (map (λ (part : DimPart). part_said part.kind) dim.1)), line (mark k.DefDim ∷ name_word dim.0 ∷ mark k.LeftBrace ∷ []) ∷ (lines ++ line (mark k.RightBrace ∷ []) ∷ []))) (sym b)
+    let bared = fused (λ (p : PartSaid). record { kind = p.0; span = nowhere }) (λ (part : DimPart). part_said part.kind) dim.1 in
+    let lined = fused (λ (p : PartSaid). indented p.1) (λ (part : DimPart). part_said part.kind) dim.1 in
+    ap₂ (λ parts lines. (s.DefDim (bare_name dim.0) parts, line (mark k.DefDim ∷ name_word dim.0 ∷ mark k.LeftBrace ∷ []) ∷ (lines ++ line (mark k.RightBrace ∷ []) ∷ []))) (sym bared) (sym lined)
 
 module _ (n : ℕ) where
   statement_kind_keeps : Keeps (statement_kind n) (statement_kind n) stated statement_words
@@ -136,14 +134,14 @@ module _ (n : ℕ) where
 abbrev words_of_lines : List Line → List Word
 words_of_lines lines = flat_map (λ line. line.words) lines
 
-part_lines : (parts : List DimPart) → words_of_lines (map (λ part. indented (part_words part.kind)) parts) ≡ parts_words parts
-part_lines parts = flat_map-map (λ (l : Line). l.words) (λ (part : DimPart). indented (part_words part.kind)) parts
-
 -- the words of the lines of a statement are its words
 statement_is : (kind : StatementKind) → words_of_lines (statement_lines kind) ≡ statement_words kind
 unfolding statement_lines statement_words
 statement_is (s.UseDim _) = refl
-statement_is (s.DefDim title parts) = ap (λ ws. mark k.DefDim ∷ name_word title ∷ mark k.LeftBrace ∷ ws) (flat_map-append (λ (l : Line). l.words) (map (λ part. indented (part_words part.kind)) parts) (line (mark k.RightBrace ∷ []) ∷ []) ∙ ap (λ ws. ws ++ mark k.RightBrace ∷ []) (part_lines parts))
+statement_is (s.DefDim title parts) =
+    let part_line : DimPart → Line = λ part. indented (part_words part.kind) in
+    ap (λ ws. mark k.DefDim ∷ name_word title ∷ mark k.LeftBrace ∷ ws) (flat_map-append (λ (l : Line). l.words) (map part_line parts) (line (mark k.RightBrace ∷ []) ∷ [])
+    ∙ ap (λ ws. ws ++ mark k.RightBrace ∷ []) (flat_map-map (λ (l : Line). l.words) part_line parts))
 statement_is (s.DefClass title params expr) = append-nil (mark k.DefClass ∷ name_word title ∷ (flat_map class_param_words params ++ body_words (params_of params) expr))
 statement_is (s.DefEntry expr) = append-nil (mark k.DefEntry ∷ body_words [] expr)
 

@@ -1,5 +1,6 @@
 -- Words of which a language reads all token lists, and what is read of spellable tokens, a combinator at a time.
 use Rattle.std.proofs.Common.{◌≡◌, true, List, [], ◌∷◌, ◌++◌, map, flat_map, refl, sym, ap, ◌∙◌, subst, inl, inr}
+use Rattle.std.specs.List.{AllByRecursion, AllZip}
 use Rattle.std.proofs.lemmas.List.{append-nil, map-append}
 use Rattle.xdg_base.specs.declared.places.Span.{Span}
 use Rattle.xdg_ast.specs.declared.token.Kind.{Kind}
@@ -98,18 +99,7 @@ spanned_written {A} {B} {f} a q = record {
   again = λ us i. let x = a.again us i in (f (span_of us) x.0, (span_of us, x.0, refl, x.1, refl), q (span_of us) x.0 x.2);
 }
 
--- each member of a list, and the members of two lists in turn
-
-abbrev pub Each : {A : Type 0} → (A → Type 0) → List A → Type 0
-Each G [] = Unit {0}
-Each G (x ∷ xs) = G x × Each G xs
-
-abbrev pub InTurn : {A : Type 0} → (A → A → Type 0) → List A → List A → Type 0
-InTurn R [] [] = Unit {0}
-InTurn R (y ∷ ys) (x ∷ xs) = R y x × InTurn R ys xs
-InTurn R _ _ = ⊥
-
-pub many_written : {A : Type 0} (l : Language A) (R : A → A → Type 0) (w : A → List Word) (xs : List A) → Each (λ x. Written l (w x) (λ y. R y x)) xs → Written (many l) (flat_map w xs) (λ ys. InTurn R ys xs)
+pub many_written : {A : Type 0} (l : Language A) (R : A → A → Type 0) (w : A → List Word) (xs : List A) → AllByRecursion (λ x. Written l (w x) (λ y. R y x)) xs → Written (many l) (flat_map w xs) (λ ys. AllZip R ys xs)
 many_written l R w [] e = record { spellable = tt; again = λ us i. ([], no_tokens us i, tt) }
 many_written l R w (x ∷ xs) e =
     let b = many_written l R w xs e.1 in
@@ -168,13 +158,13 @@ behind_gives l b = both_gives {G = λ _. Unit {0}} (record { by = λ ts x h s. t
 pub either_gives : {A : Type 0} {l m : Language A} {G : A → Type 0} → Gives l G → Gives m G → Gives (either l m) G
 either_gives {A} {l} {m} {G} a b = record { by = λ ts x h s. elim h as (λ _. G x) [ inl i ↦ a.by ts x i s | inr i ↦ b.by ts x i s ] }
 
-each_gives : {A : Type 0} {l : Language A} {G : A → Type 0} → Gives l G → (xs : List A) (ts : List Lexeme) → each l.means ts xs → AreSpellable (map word_of ts) → Each G xs
+each_gives : {A : Type 0} {l : Language A} {G : A → Type 0} → Gives l G → (xs : List A) (ts : List Lexeme) → each l.means ts xs → AreSpellable (map word_of ts) → AllByRecursion G xs
 each_gives a [] ts h s = tt
 each_gives a (x ∷ xs) ts h s =
     let i = spellable-parts ts h.0 h.1 h.2 s in
     (a.by h.0 x h.3 i.0, each_gives a xs h.1 h.4 i.1)
 
-pub many_gives : {A : Type 0} {l : Language A} {G : A → Type 0} → Gives l G → Gives (many l) (Each G)
+pub many_gives : {A : Type 0} {l : Language A} {G : A → Type 0} → Gives l G → Gives (many l) (AllByRecursion G)
 many_gives a = record { by = λ ts xs h s. each_gives a xs ts h s }
 
 pub spanned_gives : {A B : Type 0} {f : Span → A → B} {l : Language A} {G : A → Type 0} {K : B → Type 0} → Gives l G → ((s : Span) (a : A) → G a → K (f s a)) → Gives (spanned f l) K

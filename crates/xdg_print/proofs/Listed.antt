@@ -14,13 +14,10 @@ use Rattle.xdg_packed.specs.Entries.{IsEntry, TellsWordPlace}
 use Rattle.xdg_print.specs.declared.printer.Printer.{Printer}
 use Rattle.xdg_print.specs.Printed.{put_lines}
 use Rattle.xdg_types.proofs.Kept.{keeps_at, place_below, types_of}
-use Rattle.xdg_print.proofs.Put.{put_lines_append, text_of_lines}
+use Rattle.xdg_print.proofs.Put.{start, put_lines_append, text_of_lines}
 use Rattle.xdg_print.specs.LexiconText.{dim_line, dim_line_at, dim_lines, entries_line, entry_lines, entries_lines, lexicon_lines, lexicon_text}
 use Rattle.xdg_print.specs.WordPlaces.{place_of_word}
 use Rattle.xdg_facts.proofs.Lists.{from_place, any_default}
-
-abbrev start : Printer
-start = record { text = []; last = None }
 
 -- ---- words
 
@@ -87,7 +84,7 @@ unfolding entries_lines
 all_entries p table place entries i beyond before = ap (λ z. put_lines (entries_lines table place (i + 1) z) p) (sym (drop_all i entries beyond)) ∙ before
 
 -- the lines of all entries and the last line are the text
-pub all_listed : (table : Table) (entries : List Entry) (place : Option (ℕ × ℕ)) (count : ℕ) (p listed q : Printer) → place ≡ place_of_word table → count ≡ length entries → p ≡ record { text = []; last = None } → listed ≡ put_lines (entries_lines table place 1 entries) p
+pub all_listed : (table : Table) (entries : List Entry) (place : Option (ℕ × ℕ)) (count : ℕ) (p listed q : Printer) → place ≡ place_of_word table → count ≡ length entries → p ≡ start → listed ≡ put_lines (entries_lines table place 1 entries) p
     → q ≡ put_lines (entries_line count ∷ []) listed → q.text ≡ lexicon_text table entries
 unfolding lexicon_text
 all_listed table entries place count p listed q same counted none all last =

@@ -12,6 +12,10 @@ use Rattle.xdg_print.specs.declared.printer.Printer.{Printer}
 use Rattle.xdg_print.specs.Printed.{put, put_one, put_lines, begun, ended, opening, closing, is_joined, is_disjoined}
 use Rattle.xdg_facts.proofs.Lists.{from_place}
 
+-- nothing is written yet
+abbrev pub start : Printer
+start = record { text = []; last = None }
+
 pub put_append : (a b : List Word) (p : Printer) → put (a ++ b) p ≡ put b (put a p)
 put_append [] b p = refl
 put_append (word ∷ a) b p = put_append a b (put_one word p)
@@ -69,18 +73,18 @@ abbrev pub bracketed : Bool → List Word → List Word
 bracketed true words = mark k.LeftParenthesis ∷ (words ++ mark k.RightParenthesis ∷ [])
 bracketed false words = words
 
-pub put_member : (sign : Kind) (first brackets : Bool) (words rest : List Word) (more : List (List Word)) (p : Printer) → put (members sign first (bracketed brackets words ∷ more)) p ≡ put (each_behind sign more) (put (closing brackets) (put words (put (opening sign first brackets) p)))
-put_member sign true true words rest more p = put_append (words ++ mark k.RightParenthesis ∷ []) (each_behind sign more) _ ∙ ap (put (each_behind sign more)) (put_append words (mark k.RightParenthesis ∷ []) _)
-put_member sign true false words rest more p = put_append words (each_behind sign more) p
-put_member sign false true words rest more p = put_append (words ++ mark k.RightParenthesis ∷ []) (each_behind sign more) _ ∙ ap (put (each_behind sign more)) (put_append words (mark k.RightParenthesis ∷ []) _)
-put_member sign false false words rest more p = put_append words (each_behind sign more) _
+pub put_member : (sign : Kind) (first brackets : Bool) (words : List Word) (more : List (List Word)) (p : Printer) → put (members sign first (bracketed brackets words ∷ more)) p ≡ put (each_behind sign more) (put (closing brackets) (put words (put (opening sign first brackets) p)))
+put_member sign true true words more p = put_append (words ++ mark k.RightParenthesis ∷ []) (each_behind sign more) _ ∙ ap (put (each_behind sign more)) (put_append words (mark k.RightParenthesis ∷ []) _)
+put_member sign true false words more p = put_append words (each_behind sign more) p
+put_member sign false true words more p = put_append (words ++ mark k.RightParenthesis ∷ []) (each_behind sign more) _ ∙ ap (put (each_behind sign more)) (put_append words (mark k.RightParenthesis ∷ []) _)
+put_member sign false false words more p = put_append words (each_behind sign more) _
 
 pub next_member : {X : Type 0} {q r s end : Printer} (p : Printer) (sign : Kind) (first brackets : Bool) (f : X → List Word) (words : List Word) (xs : List X) (i : ℕ) (x : X) → i < length xs → x ≡ get_or xs i x → f x ≡ bracketed brackets words
     → put (members sign first (map f (drop i xs))) p ≡ end → q ≡ put (opening sign first brackets) p → r ≡ put words q → s ≡ put (closing brackets) r → put (members sign false (map f (drop (i + 1) xs))) s ≡ end
 next_member {X} {q} {r} {s} {end} p sign first brackets f words xs i x within is same left opened added closed =
     let more = map f (drop (i + 1) xs) in
     ap (put (each_behind sign more)) (closed ∙ ap (put (closing brackets)) (added ∙ ap (put words) opened))
-    ∙ sym (put_member sign first brackets words [] more p)
+    ∙ sym (put_member sign first brackets words more p)
     ∙ ap (λ z. put (members sign first (z ∷ more)) p) (sym same)
     ∙ ap (λ z. put (members sign first (map f z)) p) (sym (from_place xs i x within is)) ∙ left
 

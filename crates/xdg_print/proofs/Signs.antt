@@ -1,17 +1,15 @@
 -- Cardinalities that a sign stands for, and the numbers of the others.
-use Rattle.std.proofs.Common.{◌≡◌, ℕ, ◌<◌, ◌≤◌, ◌+◌, ◌-◌, List, [], ◌∷◌, Bool, true, false, nat_lt, map, filter, refl, sym, ap, ◌∙◌, true≢false, inl, inr, arith}
+use Rattle.std.proofs.Common.{◌≡◌, ℕ, ◌<◌, ◌≤◌, ◌+◌, ◌-◌, List, [], ◌∷◌, Bool, true, false, nat_lt, map, filter, refl, sym, ap, ◌∙◌, true≢false, arith}
 use Rattle.std.specs.Prelude.{◌↔◌, ◌||◌, ◌==◌}
 use Rattle.std.specs.List.{range_with_len}
 use Rattle.std.specs.Str.{bytes_eq}
-use Rattle.std.proofs.lemmas.Bool.Decides.{same_from_decides, Decides-ltb}
-use Rattle.std.proofs.lemmas.Bool.{cases_eq, eq-eqb, ne_eqb}
+use Rattle.std.proofs.lemmas.Bool.Decides.{same_from_decides, nat_tests}
 use Rattle.std.proofs.lemmas.Slice.Eq.{bytes_eq-Decides}
 use Rattle.xdg_ast.specs.Words.{number}
 use Rattle.xdg_domain.specs.Cards.{cards, with_card, IsCards}
 use Rattle.xdg_print.specs.declared.printer.Printer.{Printer}
 use Rattle.xdg_print.specs.Printed.{put}
 use Rattle.xdg_packed.proofs.Writing.{cards_from, next_card, all_from}
-use Rattle.xdg_facts.proofs.Truths.{or_true}
 use Rattle.xdg_facts.specs.Rises.{has, numbers_below}
 use Rattle.xdg_facts.proofs.Rising.{numbers_agree, has_of}
 
@@ -26,20 +24,14 @@ zero_and_one = refl
 -- ---- the numbers from 1 on
 
 all_with_zero : (n : ℕ) → ((n == 0) || nat_lt 0 n) ≡ true
-all_with_zero n = elim (cases_eq n 0) [
-  | inl e ↦ ap (λ b. b || nat_lt 0 n) (eq-eqb n 0 e)
-  | inr other ↦ ap (λ b. (n == 0) || b) ((Decides-ltb 0 n).1 (omega (arith, other))) ∙ or_true (n == 0)
-]
+all_with_zero n = grind (arith, nat_tests)
 
 -- with 0 all numbers, and without it those from 1 on
 with_zero : (bound : ℕ) (s : List ℕ) → s ≡ numbers_below bound (λ n. nat_lt 0 n) → numbers_below bound (λ n. (n == 0) || has s n) ≡ numbers_below bound (λ _. true)
 with_zero bound s is = numbers_agree bound (λ n. (n == 0) || has s n) (λ _. true) (λ n below. ap (λ b. (n == 0) || b) (ap (λ l. has l n) is ∙ has_of bound (λ m. nat_lt 0 m) n below) ∙ all_with_zero n)
 
 without_zero : (n : ℕ) (b : Bool) → (n ≡ 0 → b ≡ false) → ((n == 0) || b) ≡ true → b ≡ nat_lt 0 n
-without_zero n b none all = elim (cases_eq n 0) [
-  | inl e ↦ none e ∙ sym (ap (nat_lt 0) e)
-  | inr other ↦ ap (λ x. x || b) (sym (ne_eqb n 0 other)) ∙ all ∙ sym ((Decides-ltb 0 n).1 (omega (arith, other)))
-]
+without_zero n b none all = grind (arith, nat_tests, all, none)
 
 from_one : (bound : ℕ) (s : List ℕ) → s ≡ numbers_below bound (has s) → has s 0 ≡ false → numbers_below bound (λ n. (n == 0) || has s n) ≡ numbers_below bound (λ _. true) → s ≡ numbers_below bound (λ n. nat_lt 0 n)
 from_one bound s whole none all =

@@ -10,7 +10,7 @@ use Rattle.xdg_ast.specs.Kinds.{sign_of}
 use Rattle.xdg_ast.specs.Lexemes.{Lexeme, lexeme}
 use Rattle.xdg_ast.specs.Tokenizes.{IsToken, name, number, quoted, sign, Tokenizes, finished, last_comment, gap, token, Spells}
 use Rattle.xdg_ast.specs.Words.{word_of, IsSpellable, AreSpellable}
-use Rattle.xdg_print.proofs.SpelledTexts.{scalars_front, scalars_rest, all_pass}
+use Rattle.xdg_print.proofs.SpelledTexts.{scalars_split, all_pass}
 use Rattle.xdg_print.proofs.SpelledNames.{IsMark, named_spelled}
 use Rattle.xdg_print.proofs.SpelledNumbers.{number_spelled}
 use Rattle.xdg_print.proofs.SpelledQuotes.{quoted_spelled}
@@ -45,9 +45,9 @@ token_spelled at kind piece content behind (sign c said after is) short a = subs
 all_spelled : (at : ℕ) (cs : List ℕ) (tokens : List Lexeme) → Tokenizes 127 at cs tokens → all_scalars cs ≡ true → AreSpellable (map word_of tokens)
 all_spelled at cs tokens (finished place) a = tt
 all_spelled at cs tokens (last_comment place body each) a = tt
-all_spelled at cs tokens (gap place piece behind more space rest) a = all_spelled _ behind more rest (scalars_rest piece behind a)
+all_spelled at cs tokens (gap place piece behind more space rest) a = all_spelled _ behind more rest (scalars_split piece behind a).1
 all_spelled at cs tokens (token place kind piece content behind more is short rest) a =
-    (token_spelled at kind piece content behind is short (scalars_front piece behind a), all_spelled _ behind more rest (scalars_rest piece behind a))
+    (token_spelled at kind piece content behind is short (scalars_split piece behind a).0, all_spelled _ behind more rest (scalars_split piece behind a).1)
 
 -- the words that the tokens of a text say can be written
 pub spelled_words : (bytes : List ℕ) (tokens : List Lexeme) → Spells bytes tokens → AreSpellable (map word_of tokens)

@@ -2,6 +2,7 @@
 use Rattle.std.proofs.Common.{◌≡◌, ℕ, ◌+◌, ◌==◌, Bool, true, false, Option, Some, None, List, [], ◌∷◌, ◌++◌, map, refl, sym, ◌∙◌, ap, subst, append_assoc}
 use Rattle.std.specs.Prelude.{flat_map}
 use Rattle.std.specs.Char.{is_ascii, is_whitespace}
+use Rattle.std.specs.List.{AllByRecursion}
 use Rattle.std.specs.Str.{chars}
 use Rattle.std.proofs.lemmas.Bool.{cond_both, eqb-true}
 use Rattle.std.proofs.lemmas.Str.{chars-encodes}
@@ -17,6 +18,7 @@ use Rattle.xdg_ast.specs.declared.grammar.StatementKind.TheVariants as s
 use Rattle.xdg_ast.specs.declared.grammar.Grammar.{Grammar}
 use Rattle.xdg_ast.specs.Words.{Word, word_of, AreSpellable}
 use Rattle.xdg_ast.specs.Canon.{Line, indented, part_words, statement_lines, spelling, is_tight_behind, is_tight, gap, joined, line_text, lines_of, canon}
+use Rattle.xdg_facts.proofs.Each.{each_append, each_map, each_of_all}
 use Rattle.xdg_print.proofs.AgainWritten.{spellable-split}
 use Rattle.xdg_print.proofs.SpelledTexts.{AreBytesOf, no_bytes, bytes_append, bytes_utf8, ascii_bytes, all_pass, weaker_test}
 use Rattle.xdg_print.proofs.SpelledNames.{Says}
@@ -80,9 +82,11 @@ joined_says previous (word ∷ words) behind later good more =
 -- ---- lines
 
 -- the lines are indented by spaces
+abbrev pub IsIndented : Line → Type 0
+IsIndented line = EachPasses is_space line.indent
+
 abbrev pub AreIndented : List Line → Type 0
-AreIndented [] = Unit {0}
-AreIndented (line ∷ lines) = EachPasses is_space line.indent × AreIndented lines
+AreIndented lines = AllByRecursion IsIndented lines
 
 abbrev words_in : List Line → List Word
 words_in lines = flat_map (λ line. line.words) lines
@@ -119,24 +123,18 @@ spells_again lines spaces good =
 
 -- ---- the lines of a grammar
 
-indented_append : (lines more : List Line) → AreIndented lines → AreIndented more → AreIndented (lines ++ more)
-indented_append [] more a b = b
-indented_append (line ∷ lines) more a b = (a.0, indented_append lines more a.1 b)
-
-parts_indented : (parts : List (Spanned DimPartKind)) → AreIndented (map (λ part. indented (part_words part.kind)) parts)
-parts_indented [] = tt
-parts_indented (part ∷ parts) = ((refl, (refl, tt)), parts_indented parts)
-
 statement_indented : (statement : StatementKind) → AreIndented (statement_lines statement)
 unfolding statement_lines
-statement_indented (s.DefDim name parts) = (tt, indented_append (map (λ part. indented (part_words part.kind)) parts) _ (parts_indented parts) (tt, tt))
+statement_indented (s.DefDim name parts) =
+    let part_line : Spanned DimPartKind → Line = λ part. indented (part_words part.kind) in
+    (tt, each_append IsIndented (map part_line parts) _ (each_map IsIndented part_line parts (each_of_all _ parts (λ _. (refl, (refl, tt))))) (tt, tt))
 statement_indented (s.UseDim name) = (tt, tt)
 statement_indented (s.DefClass name params body) = (tt, tt)
 statement_indented (s.DefEntry body) = (tt, tt)
 
 statements_indented : (statements : List (Spanned StatementKind)) → AreIndented (flat_map (λ statement. statement_lines statement.kind) statements)
 statements_indented [] = tt
-statements_indented (statement ∷ statements) = indented_append (statement_lines statement.kind) _ (statement_indented statement.kind) (statements_indented statements)
+statements_indented (statement ∷ statements) = each_append IsIndented (statement_lines statement.kind) _ (statement_indented statement.kind) (statements_indented statements)
 
 -- the canonical text of a grammar whose words can be spelled is the text of tokens that say these words
 pub canon_spells : (grammar : Grammar) → AreSpellable (flat_map (λ line. line.words) (lines_of grammar))

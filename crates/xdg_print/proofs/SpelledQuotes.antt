@@ -14,7 +14,7 @@ use Rattle.xdg_ast.specs.Tokenizes.{size_of, IsInside, nothing, plain, escaped, 
 use Rattle.std.proofs.Math.Logic.{inl, inr}
 use Rattle.xdg_ast.specs.Words.{Word, word_of, IsShortText, IsSpellable}
 use Rattle.xdg_print.proofs.Escaping.{escape, escapable_low, escape_taken, escape_left, character_kept}
-use Rattle.xdg_print.proofs.SpelledTexts.{AreBytesOf, scalars_append, scalars_front, scalars_rest}
+use Rattle.xdg_print.proofs.SpelledTexts.{AreBytesOf, scalars_append, scalars_split}
 use Rattle.xdg_print.proofs.SpelledNames.{Says, says_more}
 
 -- ---- characters that are escaped
@@ -58,9 +58,6 @@ inside_more start before content (c ∷ cs) is = elim (cases_Bool (is_escaped c)
       (inside_more start (before ++ c ∷ []) (content + len_utf8 c) cs (plain before content None c is f)))
 ]
 
-undone_escapable : (c : ℕ) (cs : List ℕ) → undone false (92 ∷ c ∷ cs) ≡ c ∷ undone false cs
-undone_escapable c cs = refl
-
 undone_plain : (c : ℕ) (cs : List ℕ) → is_escaped c ≡ false → undone false (c ∷ cs) ≡ c ∷ undone false cs
 undone_plain c cs f =
     let parts = or_parts (c == 34) (c == 92) f in
@@ -69,7 +66,7 @@ undone_plain c cs f =
 undone_escape : (cs behind : List ℕ) → undone false (escape cs ++ behind) ≡ cs ++ undone false behind
 undone_escape [] behind = refl
 undone_escape (c ∷ cs) behind = elim (cases_Bool (is_escaped c)) as (λ _. undone false (escape (c ∷ cs) ++ behind) ≡ c ∷ (cs ++ undone false behind)) [
-  | inl t ↦ ap (λ l. undone false (l ++ behind)) (escape_taken c cs t) ∙ undone_escapable c (escape cs ++ behind) ∙ ap (λ l. c ∷ l) (undone_escape cs behind)
+  | inl t ↦ ap (λ l. undone false (l ++ behind)) (escape_taken c cs t) ∙ ap (λ l. c ∷ l) (undone_escape cs behind)
   | inr f ↦ ap (λ l. undone false (l ++ behind)) (escape_left c cs f) ∙ undone_plain c (escape cs ++ behind) f ∙ ap (λ l. c ∷ l) (undone_escape cs behind)
 ]
 
@@ -114,14 +111,14 @@ one_stands inside content c added bytes s makes size kept = record {
   made = s.made ++ c ∷ [];
   makes = λ behind. ap (undone false) (append_assoc inside added behind) ∙ s.makes (added ++ behind) ∙ ap (λ l. s.made ++ l) (makes behind) ∙ sym (append_assoc s.made (c ∷ []) (undone false behind));
   size = omega (arith, ap length (encodes-append s.made (c ∷ [])), length-append (encode_utf8_all s.made) (encode_utf8_all (c ∷ [])), length-append (encode_utf8 c) [], length-encode c, s.size, size);
-  kept = λ a. scalars_append s.made (c ∷ []) (s.kept (scalars_front inside added a)) (kept (scalars_rest inside added a));
+  kept = λ a. scalars_append s.made (c ∷ []) (s.kept (scalars_split inside added a).0) (kept (scalars_split inside added a).1);
 }
 
 stands_for : (start : ℕ) (inside : List ℕ) (content : ℕ) (wrong : Option ℕ) → IsInside start inside content wrong → wrong ≡ None → StandsFor inside content
 stands_for start inside content wrong nothing = λ none. record { made = []; makes = λ behind. refl; size = refl; kept = λ a. refl }
 stands_for start inside content wrong (plain cs n other c is e) = λ none. one_stands cs n c (c ∷ []) (len_utf8 c) (stands_for start cs n other is none) (λ behind. undone_plain c behind e) refl (λ a. a)
 stands_for start inside content wrong (escaped cs n other c is e) = λ none.
-    one_stands cs n c (92 ∷ c ∷ []) 1 (stands_for start cs n other is none) (λ behind. undone_escapable c behind) (len_utf8_ascii c (escapable_low c e)) (λ a. a)
+    one_stands cs n c (92 ∷ c ∷ []) 1 (stands_for start cs n other is none) (λ behind. refl) (len_utf8_ascii c (escapable_low c e)) (λ a. a)
 stands_for start inside content wrong (stray cs n other c is e) = λ none. absurd (none-some _ (sym none))
 
 -- the word of a quoted text can be spelled
@@ -131,5 +128,5 @@ quoted_spelled at inside content is short a =
     let s = stands_for (at + 1) inside content None is refl in
     let same : unquoted (encode_utf8_all (34 ∷ inside ++ 34 ∷ [])) ≡ encode_utf8_all s.made =
     ap (λ l. encode_utf8_all (undone false l)) (chars-encodes (34 ∷ inside ++ 34 ∷ []) a) ∙ ap encode_utf8_all (s.makes (34 ∷ []) ∙ append-nil s.made) in
-    let good : IsShortText (encode_utf8_all s.made) = ((s.made, (s.kept (scalars_front inside (34 ∷ []) a), refl)), omega (arith, s.size, short)) in
+    let good : IsShortText (encode_utf8_all s.made) = ((s.made, (s.kept (scalars_split inside (34 ∷ []) a).0, refl)), omega (arith, s.size, short)) in
     (subst IsShortText (sym same) good, refl)

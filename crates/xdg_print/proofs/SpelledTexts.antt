@@ -1,10 +1,13 @@
 -- Characters and their bytes.
-use Rattle.std.proofs.Common.{◌≡◌, ℕ, ◌<◌, Bool, true, List, [], ◌∷◌, ◌++◌, refl, ◌∙◌, ap, arith}
-use Rattle.std.specs.Char.{IsScalar, is_ascii}
+use Rattle.std.proofs.Common.{◌≡◌, ℕ, ◌<◌, Bool, true, List, [], ◌∷◌, ◌++◌, refl, ◌∙◌, ap, subst, arith}
+use Rattle.std.specs.Char.{is_ascii}
 use Rattle.std.specs.List.{list_all}
 use Rattle.std.specs.Str.{chars, all_scalars, IsUtf8, encode_utf8_all}
 use Rattle.std.proofs.lemmas.Bool.{and_parts, and_from}
-use Rattle.std.proofs.lemmas.Str.{encodes-append, encodes-chars, scalars-chars, encode_ascii}
+use Rattle.std.proofs.lemmas.List.Elements.{All-weaker}
+use Rattle.std.proofs.lemmas.List.Sums.{AllPass-from_list_all, list_all-from_AllPass}
+use Rattle.std.proofs.lemmas.Str.{chars-IsAscii, encodes-append, encodes-chars, scalars-chars, IsUtf8-from_ascii}
+use Rattle.std.proofs.lemmas.Str.Ascii.{IsAscii-from_all}
 use Rattle.xdg_ast.specs.Tokenizes.{EachPasses}
 
 -- the bytes are those of the characters
@@ -19,13 +22,9 @@ scalars_append [] ds a b = b
 scalars_append (c ∷ cs) ds a b = let parts = and_parts _ (all_scalars cs) a in and_from _ (all_scalars (cs ++ ds)) parts.0 (scalars_append cs ds parts.1 b)
 
 -- parts of characters are characters
-pub scalars_front : (cs ds : List ℕ) → all_scalars (cs ++ ds) ≡ true → all_scalars cs ≡ true
-scalars_front [] ds a = refl
-scalars_front (c ∷ cs) ds a = let parts = and_parts _ (all_scalars (cs ++ ds)) a in and_from _ (all_scalars cs) parts.0 (scalars_front cs ds parts.1)
-
-pub scalars_rest : (cs ds : List ℕ) → all_scalars (cs ++ ds) ≡ true → all_scalars ds ≡ true
-scalars_rest [] ds a = a
-scalars_rest (c ∷ cs) ds a = scalars_rest cs ds (and_parts _ (all_scalars (cs ++ ds)) a).1
+pub scalars_split : (cs ds : List ℕ) → all_scalars (cs ++ ds) ≡ true → (all_scalars cs ≡ true) × (all_scalars ds ≡ true)
+scalars_split [] ds a = (refl, a)
+scalars_split (c ∷ cs) ds a = let parts = and_parts _ (all_scalars (cs ++ ds)) a in let both = scalars_split cs ds parts.1 in (and_from _ (all_scalars cs) parts.0 both.0, both.1)
 
 -- the bytes of joined characters are the joined bytes
 pub bytes_append : (cs bs ds es : List ℕ) → AreBytesOf cs bs → AreBytesOf ds es → AreBytesOf (cs ++ ds) (bs ++ es)
@@ -51,20 +50,11 @@ utf8_bytes bytes u = record { scalars = scalars-chars bytes u; encoded = encodes
 ascii_low : (c : ℕ) → is_ascii c ≡ true → c < 128
 ascii_low c a = grind (arith, a)
 
-low_scalar : (c : ℕ) → c < 128 → IsScalar c
-low_scalar c low = grind (arith, low)
-
 -- ASCII characters are their own bytes
 pub ascii_bytes : (cs : List ℕ) → list_all is_ascii cs ≡ true → AreBytesOf cs cs
-ascii_bytes [] a = no_bytes
-ascii_bytes (c ∷ cs) a =
-    let parts = and_parts (is_ascii c) (list_all is_ascii cs) a in
-    let low : c < 128 = ascii_low c parts.0 in
-    let rest = ascii_bytes cs parts.1 in
-    record {
-      scalars = and_from _ (all_scalars cs) (low_scalar c low) rest.scalars;
-      encoded = ap (λ l. l ++ encode_utf8_all cs) (encode_ascii c low) ∙ ap (λ l. c ∷ l) rest.encoded;
-    }
+ascii_bytes cs a =
+    let ascii = IsAscii-from_all cs (All-weaker (λ c. is_ascii c ≡ true) (λ c. c < 128) ascii_low cs (AllPass-from_list_all is_ascii cs a)) in
+    subst (λ z. AreBytesOf z cs) (chars-IsAscii cs ascii) (utf8_bytes cs (IsUtf8-from_ascii cs ascii))
 
 -- ---- tests of each character
 
@@ -78,5 +68,4 @@ all_pass test (c ∷ cs) a = and_from (test c) (list_all test cs) a.0 (all_pass 
 
 -- what passes a test passes a weaker one
 pub weaker_test : (test other : ℕ → Bool) → ((c : ℕ) → test c ≡ true → other c ≡ true) → (cs : List ℕ) → list_all test cs ≡ true → list_all other cs ≡ true
-weaker_test test other weaker [] a = refl
-weaker_test test other weaker (c ∷ cs) a = let parts = and_parts (test c) (list_all test cs) a in and_from (other c) (list_all other cs) (weaker c parts.0) (weaker_test test other weaker cs parts.1)
+weaker_test test other weaker cs a = list_all-from_AllPass other cs (All-weaker (λ c. test c ≡ true) (λ c. other c ≡ true) weaker cs (AllPass-from_list_all test cs a))

@@ -17,11 +17,8 @@ use Rattle.xdg_ast.specs.Trees.{name_word, in_braces, terms_words}
 use Rattle.xdg_ast.specs.Canon.{Line, line, indented, canon, principle_words, part_words, class_param_words, body_words, statement_words, statement_lines}
 use Rattle.xdg_print.specs.declared.printer.Printer.{Printer}
 use Rattle.xdg_print.specs.Printed.{put, put_lines, begun, ended, name_pairs_words, dim_lines}
-use Rattle.xdg_print.proofs.Put.{put_append, put_lines_append, text_of_lines}
+use Rattle.xdg_print.proofs.Put.{start, put_append, put_lines_append, text_of_lines}
 use Rattle.xdg_print.proofs.Written.{put_mark, put_braces}
-
-abbrev start : Printer
-start = record { text = []; last = None }
 
 -- ---- principles
 
@@ -65,7 +62,7 @@ dim_done name parts p began named opened headed inside last closed one two three
 abbrev pub lines_in : Spanned StatementKind → List Line
 lines_in statement = statement_lines statement.kind
 
-pub all_printed : (grammar : Grammar) (items : List (Spanned StatementKind)) (p q : Printer) → items ≡ grammar.statements → p ≡ record { text = []; last = None } → q ≡ put_lines (flat_map lines_in items) p → q.text ≡ canon grammar
+pub all_printed : (grammar : Grammar) (items : List (Spanned StatementKind)) (p q : Printer) → items ≡ grammar.statements → p ≡ start → q ≡ put_lines (flat_map lines_in items) p → q.text ≡ canon grammar
 unfolding canon
 all_printed grammar items p q same none written =
     ap (λ z. z.text) written ∙ ap (λ z. (put_lines (flat_map lines_in items) z).text) none
