@@ -45,11 +45,11 @@ module _ (count : ℕ) (group : Group) (bundle : Bundle) (classes : List Class) 
     abbrev class : Class
     class = slice_index_or classes k d
 
-    like_first : (c : ℕ) → bit_at class.entries c ≡ 1 → None c → None class.first
-    like_first c mine none = subst (λ row. HasNoneWithin row least most) ((class_is count group bundle classes are k d within).each c mine).1 none
-
-    like_each : (c : ℕ) → bit_at class.entries c ≡ 1 → None class.first → None c
-    like_each c mine none = subst (λ row. HasNoneWithin row least most) (sym ((class_is count group bundle classes are k d within).each c mine).1) none
+    -- its entries allow what the first of them allows
+    alike : (c : ℕ) → bit_at class.entries c ≡ 1 → None c ↔ None class.first
+    alike c mine =
+        let same = ((class_is count group bundle classes are k d within).each c mine).1 in
+        (subst (λ row. HasNoneWithin row least most) same, subst (λ row. HasNoneWithin row least most) (sym same))
 
     -- a class that allows some
     pub gather_skip : (None class.first → ⊥) → Gathers group bundle least most classes k bits → Gathers group bundle least most classes (k + 1) bits
@@ -57,7 +57,7 @@ module _ (count : ℕ) (group : Group) (bundle : Bundle) (classes : List Class) 
       λ bit. (let both = (g c).0 bit in (in_more classes k c both.0, both.1)),
       λ both. elim (last_or count group bundle classes are k d within c both.0) [
         | inl before ↦ (g c).1 (before, both.1)
-        | inr mine ↦ absurd (some (like_first c mine both.1))
+        | inr mine ↦ absurd (some ((alike c mine).0 both.1))
       ],
     )
 
@@ -66,7 +66,7 @@ module _ (count : ℕ) (group : Group) (bundle : Bundle) (classes : List Class) 
     gather_more none g c = (
       λ bit. elim (either_bit bits class.entries c bit) [
         | inl old ↦ (let both = (g c).0 old in (in_more classes k c both.0, both.1))
-        | inr mine ↦ (in_last count group bundle classes are k d within c mine, like_each c mine none)
+        | inr mine ↦ (in_last count group bundle classes are k d within c mine, (alike c mine).1 none)
       ],
       λ both. elim (last_or count group bundle classes are k d within c both.0) [
         | inl before ↦ or_left_bit bits class.entries c ((g c).1 (before, both.1))

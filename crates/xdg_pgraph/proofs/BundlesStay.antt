@@ -19,14 +19,6 @@ use Rattle.xdg_pgraph.proofs.EdgesStay.{alike}
 use Rattle.xdg_pgraph.proofs.Ends.{counted, in_bundle, in_from, in_parts}
 use Rattle.xdg_facts.proofs.Truths.{and_swap, same_and, same_flag}
 
-module _ (old new : List (List Bool)) (lies : LiesIn new old) (node : ℕ) (entries : (c : ℕ) → Has old (entry_decision node) c → Has new (entry_decision node) c)
-    (row : ℕ → List ℕ) (number : ℕ) where
-  greatest_before : IsGreatest new node row number → IsGreatest old node row number
-  greatest_before g = record { entry = g.entry; remains = lies (entry_decision node) g.entry g.remains; allowed = g.allowed; most = λ c h. g.most c (entries c h) }
-
-  least_before : IsLeast new node row number → IsLeast old node row number
-  least_before g = record { entry = g.entry; remains = lies (entry_decision node) g.entry g.remains; allowed = g.allowed; least = λ c h. g.least c (entries c h) }
-
 module _ (parts : Parts) (group : Group) (old new : List (List Bool)) (lies : LiesIn new old) (way : Way) (node label : ℕ)
     (entries : (c : ℕ) → Has old (entry_decision node) c → Has new (entry_decision node) c)
     (values : (e : Edge) → Contains (places parts) e → e.dim.0 ≡ first_dim group → near_node way e ≡ node → e.label.0 ≡ label → (v : ℕ) → Has old (edge_decision parts e) v → Has new (edge_decision parts e) v) where
@@ -76,13 +68,13 @@ module _ (parts : Parts) (group : Group) (old new : List (List Bool)) (lies : Li
     place = r.place;
     is = open_before r.place r.is;
     says = r.says;
-    full = subst (IsGreatest old node row) must_counts (greatest_before old new lies node entries row (count_of way (must_edges parts new dim) node label) r.full);
+    full = subst (IsGreatest old node row) must_counts (let g = r.full in record { entry = g.entry; remains = lies (entry_decision node) g.entry g.remains; allowed = g.allowed; most = λ c h. g.most c (entries c h) });
   })
   edge_before d v (inr r) = inr (record {
     place = r.place;
     is = open_before r.place r.is;
     says = r.says;
-    needed = subst (IsLeast old node row) may_counts (least_before old new lies node entries row (count_of way (may_edges parts new dim) node label) r.needed);
+    needed = subst (IsLeast old node row) may_counts (let g = r.needed in record { entry = g.entry; remains = lies (entry_decision node) g.entry g.remains; allowed = g.allowed; least = λ c h. g.least c (entries c h) });
   })
 
   pub bundle_stays : IsBundleDone way parts group node label old → IsBundleDone way parts group node label new

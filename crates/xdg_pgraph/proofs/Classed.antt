@@ -1,6 +1,5 @@
 -- The entries of some classes, class by class.
 use Rattle.std.proofs.Common.{◌≡◌, ℕ, ◌<◌, ◌≤◌, ◌+◌, ◌^◌, ◌⊎◌, ◌↔◌, inl, inr, Bool, List, length, slice_index_or, sym, ◌∙◌, ap, subst, arith}
-use Prim.Native.Nat.{min}
 use lib.Bits.{bit_and}
 use Rattle.std.specs.Int.{bit_at, trailing_zeros, w64}
 use Rattle.std.proofs.lemmas.Bool.{cases_eq, cases_lt}
@@ -29,19 +28,13 @@ none_in classes c i = (let l = i.before in omega (arith, l))
 pub in_more : (classes : List Class) (k c : ℕ) → IsIn classes k c → IsIn classes (k + 1) c
 in_more classes k c i = record { class = i.class; place = i.place; before = (let l = i.before in omega (arith, l)); within = i.within; is = i.is; member = i.member }
 
--- some bit of a number
-some_bit : (n : ℕ) → 0 < n → n < 2 ^ 64 → (i : ℕ) × (i < 64) × (bit_at n i ≡ 1)
-some_bit n l m = (let t = bit_at-trailing_zeros w64 n l m in (trailing_zeros w64 n, t.0, t.1))
-
-two_ones : (a b m : ℕ) → m ≡ min a b → m ≡ 1 → a < 2 → b < 2 → (a ≡ 1) × (b ≡ 1)
-two_ones a b m e h x y = (omega (arith, e, h, x, y), omega (arith, e, h, x, y))
-
-not_none : (a b m : ℕ) → m ≡ min a b → m ≡ 0 → a ≡ 1 → b ≡ 1 → ⊥
-not_none a b m e h x y = omega (arith, e, h, x, y)
-
--- both numbers have it
-both_bits : (a b i : ℕ) → bit_at (bit_and a b) i ≡ 1 → (bit_at a i ≡ 1) × (bit_at b i ≡ 1)
-both_bits a b i h = two_ones (bit_at a i) (bit_at b i) (bit_at (bit_and a b) i) (bit_at_and a b i) h (bit_at-lt a i) (bit_at-lt b i)
+-- a bit is set of two numbers together where it is set of both
+pub both_bits : (a b i : ℕ) → (bit_at (bit_and a b) i ≡ 1) ↔ ((bit_at a i ≡ 1) × (bit_at b i ≡ 1))
+both_bits a b i =
+    let m = bit_at_and a b i in
+    let x = bit_at-lt a i in
+    let y = bit_at-lt b i in
+    (λ h. (omega (arith, m, h, x, y), omega (arith, m, h, x, y)), λ (j, k). omega (arith, m, j, k))
 
 module _ (count : ℕ) (group : Group) (bundle : Bundle) (classes : List Class) (are : AreClasses count group bundle classes) where
   -- each candidate is in one of them
@@ -86,19 +79,20 @@ module _ (count : ℕ) (group : Group) (bundle : Bundle) (classes : List Class) 
       | inr mine ↦ absurd (
           let few = are.few in
           let below = (here.each c mine).0 in
-          not_none (bit_at class.entries c) (bit_at remain c) (bit_at (bit_and class.entries remain) c) (bit_at_and class.entries remain c)
-          (ap (λ n. bit_at n c) none ∙ bit_at-zero c) mine ((told c (omega (arith, below, few)) below).1 has)
-          )
+          let there = (both_bits class.entries remain c).1 (mine, (told c (omega (arith, below, few)) below).1 has) in
+          let zero = ap (λ n. bit_at n c) none ∙ bit_at-zero c in
+          omega (arith, there, zero))
     ]
 
     -- some do
     pub class_left : remain < 2 ^ 64 → (bit_and class.entries remain ≡ 0 → ⊥) → (c : ℕ) × Has box (entry_decision bundle.node) c × (numbers_of bundle.way group bundle.node bundle.label c ≡ numbers_of bundle.way group bundle.node bundle.label class.first)
     class_left small some =
         let fewer : bit_and class.entries remain ≤ remain = and_le_r class.entries remain in
-        let bit = some_bit (bit_and class.entries remain) (elim (cases_eq (bit_and class.entries remain) 0) [ inl none ↦ absurd (some none) | inr other ↦ omega (arith, other) ]) (omega (arith, fewer, small)) in
-        let two = both_bits class.entries remain bit.0 bit.2 in
-        let mine = here.each bit.0 two.0 in
-        (bit.0, (told bit.0 bit.1 mine.0).0 two.1, mine.1)
+        let c : ℕ = trailing_zeros w64 (bit_and class.entries remain) in
+        let bit = bit_at-trailing_zeros w64 (bit_and class.entries remain) (elim (cases_eq (bit_and class.entries remain) 0) [ inl none ↦ absurd (some none) | inr other ↦ omega (arith, other) ]) (omega (arith, fewer, small)) in
+        let two = (both_bits class.entries remain c).0 bit.1 in
+        let mine = here.each c two.0 in
+        (c, (told c bit.0 mine.0).0 two.1, mine.1)
 
     pub class_next : (c : ℕ) → IsIn classes (k + 1) c → Has box (entry_decision bundle.node) c → IsIn classes k c ⊎ (numbers_of bundle.way group bundle.node bundle.label c ≡ numbers_of bundle.way group bundle.node bundle.label class.first)
     class_next c i has = elim (last_or k d within c i) [ inl before ↦ inl before | inr mine ↦ inr (here.each c mine).1 ]

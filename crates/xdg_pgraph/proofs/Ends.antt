@@ -1,7 +1,6 @@
 -- The other nodes of the edges of a bundle, and how many there are.
 use Rattle.std.proofs.Common.{◌≡◌, ℕ, ◌<◌, ◌≤◌, ◌↔◌, ◌&&◌, Bool, true, IsTrue, List, length, map, refl, sym, ◌∙◌, ap, subst, arith}
 use Rattle.std.specs.Prelude.{Contains, cond, filter, ◌==◌}
-use Rattle.std.specs.List.{AllByRecursion}
 use Rattle.std.proofs.lemmas.Bool.{and_parts, and_from, eq-eqb, eqb-true}
 use Rattle.std.proofs.lemmas.List.Elements.{All-weaker, All-contains_itself, recursion_from_All}
 use Rattle.std.proofs.lemmas.List.{length-map}
@@ -29,24 +28,16 @@ use Rattle.xdg_pgraph.specs.declared.plane.Plane.{Plane}
 use Rattle.xdg_pgraph.specs.Bundles.{edge_to, near_node, far_node, count_of}
 use Rattle.xdg_pgraph.specs.Planes.{IsPlane}
 use Rattle.xdg_graph.specs.Edges.{edge_labels, edges_of}
-use Rattle.xdg_pgraph.proofs.PlaneFacts.{which_place}
+use Rattle.xdg_pgraph.proofs.PlaneFacts.{which_on, which_place}
 use Rattle.xdg_pgraph.proofs.Rising.{AreRising, rising_same, nodes_rising, map_contained, map_rising}
 use Rattle.xdg_facts.specs.Rises.{has}
 use Rattle.xdg_facts.proofs.Rising.{contains_of_has, contains_has}
 
 -- ---- an edge is told by its two nodes
 
-pub near_is : (way : Way) (dim node label other : ℕ) → near_node way (edge_to way dim node label other) ≡ node
-near_is ways.Out dim node label other = refl
-near_is ways.In dim node label other = refl
-
-far_is : (way : Way) (dim node label other : ℕ) → far_node way (edge_to way dim node label other) ≡ other
-far_is ways.Out dim node label other = refl
-far_is ways.In dim node label other = refl
-
-pub label_is : (way : Way) (dim node label other : ℕ) → (edge_to way dim node label other).label.0 ≡ label
-label_is ways.Out dim node label other = refl
-label_is ways.In dim node label other = refl
+pub ends_are : (way : Way) (dim node label other : ℕ) → (near_node way (edge_to way dim node label other) ≡ node) × (far_node way (edge_to way dim node label other) ≡ other) × ((edge_to way dim node label other).label.0 ≡ label)
+ends_are ways.Out dim node label other = (refl, refl, refl)
+ends_are ways.In dim node label other = (refl, refl, refl)
 
 pub edge_told : (way : Way) (dim node label : ℕ) (e : Edge) → e.dim.0 ≡ dim → near_node way e ≡ node → e.label.0 ≡ label → e ≡ edge_to way dim node label (far_node way e)
 edge_told ways.Out dim node label e d n l = edge_equal e (edge dim node label e.daughter.0) d n l refl
@@ -79,20 +70,20 @@ module _ (way : Way) (edges : List Edge) (dim node label : ℕ) (ends : List ℕ
   abbrev ys : List Edge
   ys = filter (in_bundle way node label) edges
 
-  on_all : AllByRecursion (λ e. e.dim.0 ≡ dim) ys
-  on_all = each_filter (λ e. e.dim.0 ≡ dim) (in_bundle way node label) edges (recursion_from_All (λ e. e.dim.0 ≡ dim) edges (All-weaker (Contains edges) (λ e. e.dim.0 ≡ dim) on edges (All-contains_itself edges)))
-
   rising : AreRising (map (far_node way) ys)
   rising = map_rising Before (λ e. (e.dim.0 ≡ dim) × (in_bundle way node label e ≡ true)) (far_node way) (λ x y px py. later_far way dim node label x y px.0 py.0 px.1 py.1) ys
-      (each_both (λ e. e.dim.0 ≡ dim) (λ e. in_bundle way node label e ≡ true) ys on_all (each_passed (in_bundle way node label) edges))
+      (each_both (λ e. e.dim.0 ≡ dim) (λ e. in_bundle way node label e ≡ true) ys
+      (each_filter (λ e. e.dim.0 ≡ dim) (in_bundle way node label) edges (recursion_from_All (λ e. e.dim.0 ≡ dim) edges (All-weaker (Contains edges) (λ e. e.dim.0 ≡ dim) on edges (All-contains_itself edges))))
+      (each_passed (in_bundle way node label) edges))
       (ordered_filter Before (in_bundle way node label) edges ordered)
 
   there : (n : ℕ) → Contains ends n → Contains (map (far_node way) ys) n
   there n c =
       let e : Edge = edge_to way dim node label n in
       let among = (exact n).0 (contains_has ends n c) in
-      let kept = contains_filter (in_bundle way node label) edges e (in_from way node label e (near_is way dim node label n) (label_is way dim node label n)) among in
-      subst (Contains (map (far_node way) ys)) (far_is way dim node label n) (contains_map (far_node way) ys e kept)
+      let is = ends_are way dim node label n in
+      let kept = contains_filter (in_bundle way node label) edges e (in_from way node label e is.0 is.2) among in
+      subst (Contains (map (far_node way) ys)) is.1 (contains_map (far_node way) ys e kept)
 
   back : (n : ℕ) → Contains (map (far_node way) ys) n → Contains ends n
   back n c =
@@ -141,7 +132,6 @@ TellsEnds which s dim node label ends way = (other : ℕ) → IsTrue (has ends o
 pub none_behind : (which : Which) (way : Way) (parts : Parts) (box : List (List Bool)) (plane : Plane) (node label other : ℕ) → IsPlane parts plane → plane.labels ≤ label → Contains (edges_of which parts box plane.dim.0) (edge_to way plane.dim.0 node label other) → ⊥
 none_behind which way parts box plane node label other plane_is behind c =
     let e : Edge = edge_to way plane.dim.0 node label other in
-    let on = (plane_is.exact e).0 (which_place which parts box plane.dim.0 e c) in
-    let l = on.label in
-    let same = label_is way plane.dim.0 node label other in
+    let l = (which_on which parts box plane plane_is e c).label in
+    let same = (ends_are way plane.dim.0 node label other).2 in
     omega (arith, l, same, behind)

@@ -1,12 +1,11 @@
 -- How many edges lead into a node, by their labels.
 use Rattle.std.proofs.Common.{◌≡◌, ◌≢◌, ℕ, ◌<◌, ◌≤◌, ◌*◌, ◌%◌, ◌^◌, ◌↔◌, List, inl, inr, refl, sym, ◌∙◌, ap, ap₂, subst, arith}
 use lib.Bits.{bit_and}
-use Prim.Native.Nat.{min}
 use Rattle.std.specs.Prelude.{Contains}
 use Rattle.std.specs.Int.{bit_at, bit_not, trailing_zeros, w32}
 use Rattle.std.proofs.lemmas.Bool.{cases_eq, cases_lt}
 use Rattle.std.proofs.lemmas.Nat.{and_le_l}
-use Rattle.std.proofs.lemmas.Nat.Bits.{bit_at-lt, bit_at-trailing_zeros, bit_at-zero, bit_at_above, bit_at_and, bit_at_clear_other, bit_at_clear_same}
+use Rattle.std.proofs.lemmas.Nat.Bits.{bit_at-trailing_zeros, bit_at-zero, bit_at_above, bit_at_clear_other, bit_at_clear_same}
 use Rattle.xdg_problem.specs.declared.analysis.Edge.{Edge}
 use Rattle.xdg_problem.specs.declared.parts.Parts.{Parts}
 use Rattle.xdg_problem.specs.Analyses.{IsPlace}
@@ -20,15 +19,13 @@ use Rattle.xdg_pgraph.specs.declared.entered.Count.{Count}
 use Rattle.xdg_pgraph.specs.declared.entered.Count.TheVariants as counts
 use Rattle.xdg_pgraph.specs.Incomings.{HaveLabels, IsCount}
 use Rattle.xdg_pgraph.specs.Seeking.{Into}
+use Rattle.xdg_pgraph.proofs.Classed.{both_bits}
 
 -- ---- bits
 
 -- the lowest bit of a number that isn't 0
 pub lowest_bit : (n : ℕ) → (n ≡ 0 → ⊥) → n < 2 ^ 32 → (trailing_zeros w32 n < 32) × (bit_at n (trailing_zeros w32 n) ≡ 1)
 lowest_bit n some small = (let t = bit_at-trailing_zeros w32 n (elim (cases_eq n 0) [ inl none ↦ absurd (some none) | inr other ↦ omega (arith, other) ]) small in (t.0, t.1))
-
-of_both : (a b m : ℕ) → m ≡ min a b → m ≡ 1 → a < 2 → b < 2 → a ≡ 1
-of_both a b m e h x y = omega (arith, e, h, x, y)
 
 module _ (n first : ℕ) (small : n < 2 ^ 32) (within : first < 32) where
   abbrev others : ℕ
@@ -42,7 +39,7 @@ module _ (n first : ℕ) (small : n < 2 ^ 32) (within : first < 32) where
       let l : ℕ = trailing_zeros w32 others in (
         l,
         λ same. (let gone : bit_at others first ≡ 0 = bit_at_clear_same w32 n first within in let here : bit_at others first ≡ 1 = subst (λ k. bit_at others k ≡ 1) same found.1 in omega (arith, gone, here)),
-        of_both (bit_at n l) (bit_at (bit_not w32 (1 * 2 ^ first % 2 ^ 32)) l) (bit_at others l) (bit_at_and n (bit_not w32 (1 * 2 ^ first % 2 ^ 32)) l) found.1 (bit_at-lt n l) (bit_at-lt (bit_not w32 (1 * 2 ^ first % 2 ^ 32)) l),
+        ((both_bits n (bit_not w32 (1 * 2 ^ first % 2 ^ 32)) l).0 found.1).0,
       )
 
   -- there is none

@@ -22,7 +22,8 @@ pub mod Ruled
 pub mod RuledRoots
 pub mod Single
 pub mod Reached
-pub mod Labels
+pub mod Beside
+pub mod Together
 pub mod MustsStay
 pub mod Below
 pub mod Told

@@ -2,7 +2,7 @@
 -- edges that may be take something only at the daughters of lost edges, or where one of these has become a root.
 use Rattle.std.proofs.Common.{◌≡◌, ℕ, ◌<◌, ◌≤◌, ◌+◌, inl, inr, Bool, true, false, List, length, get_or, refl, sym, ◌∙◌, ap, subst, arith}
 use Rattle.std.specs.Prelude.{All, Contains}
-use Rattle.std.proofs.lemmas.Bool.{both_ways, cases_Bool, cases_eq, false_from_ne_true, false≢true}
+use Rattle.std.proofs.lemmas.Bool.{both_ways, cases_Bool, cases_eq, false_from_ne_true}
 use Rattle.std.proofs.lemmas.List.{get_or_default}
 use Rattle.xdg_problem.specs.declared.analysis.Edge.{Edge}
 use Rattle.xdg_problem.specs.declared.parts.Group.{Group}
@@ -30,6 +30,7 @@ use Rattle.xdg_store.specs.Naming.{Names}
 use Rattle.xdg_store.specs.declared.decision.Decision.{Decision}
 use Rattle.xdg_store.specs.declared.decision.Decision.TheVariants as decisions
 use Rattle.xdg_store.proofs.Kept.{on_edge}
+use Rattle.xdg_propcore.proofs.Losing.{kept_or_lost}
 use Rattle.xdg_pgraph.proofs.Branching.{musts_rule}
 use Rattle.xdg_pgraph.proofs.EdgesStay.{musts_stay}
 use Rattle.xdg_pgraph.proofs.Single.{not_more, one_mother_there}
@@ -93,10 +94,12 @@ module _ (parts : Parts) (problem : IsProblem parts) (group : Group) (old now : 
     left : (e : Edge) → Contains was e → has_node daughters e.daughter.0 ≡ false → Contains may e
     left e c out =
         let m = may_is parts old dim e c in
-        elim (cases_Bool (has now (edge_decision parts e) 0)) [
-          | inl there ↦ may_of parts now dim e (record { place = m.place; dim_is = m.dim_is; present = there })
-          | inr none ↦ absurd (both_ways (has_node daughters e.daughter.0) out ((named_edge (IsLost parts now dim daughters) lost e (is_place parts e m.place) 0 m.present (λ h. false≢true (sym none ∙ h))).1 m.dim_is))
-        ]
+        may_of parts now dim e (record {
+          place = m.place;
+          dim_is = m.dim_is;
+          present = kept_or_lost old now (edge_decision parts e) 0
+              (λ gone. both_ways (has_node daughters e.daughter.0) out ((named_edge (IsLost parts now dim daughters) lost e (is_place parts e m.place) 0 gone.0 gone.1).1 m.dim_is)) m.present;
+        })
 
     -- what is a root was one
     root_before : (v : ℕ) → Contains (below (nodes parts)) v → is_root may v ≡ true → is_root was v ≡ true

@@ -22,7 +22,7 @@ use Rattle.xdg_graph.specs.declared.which.Which.TheVariants as whichs
 use Rattle.xdg_pgraph.specs.Bundles.{edge_to, far_node, numbers_of, count_of, Barred, OpenTo, EdgeAt, IsBundleDone, IsOpen}
 use Rattle.xdg_pgraph.proofs.Bundled.{bundle_swept}
 use Rattle.xdg_pgraph.proofs.PlaneFacts.{which_place}
-use Rattle.xdg_pgraph.proofs.Ends.{TellsEnds, which_counted, near_is, label_is, edge_told}
+use Rattle.xdg_pgraph.proofs.Ends.{TellsEnds, which_counted, ends_are, edge_told}
 use Rattle.xdg_facts.specs.Rises.{has}
 
 module _ (bundle : Bundle) (s : State) (group : Group) (dim : ℕ) (on : dim ≡ first_dim group) (must may open_ones : List ℕ) (must_is : TellsEnds whichs.Must s dim bundle.node bundle.label must bundle.way) (may_is : TellsEnds whichs.May s dim bundle.node bundle.label may bundle.way) (open_is : (n : ℕ) → has open_ones n ≡ (has may n && not (has must n))) where
@@ -45,8 +45,9 @@ module _ (bundle : Bundle) (s : State) (group : Group) (dim : ℕ) (on : dim ≡
   open_edge : (other : ℕ) → has open_ones other ≡ true → OpenEdge (this other)
   open_edge other h =
       let both = and_parts (has may other) (not (has must other)) (sym (open_is other) ∙ h) in
+      let is = ends_are bundle.way dim bundle.node bundle.label other in
       record {
-        may = record { among = (may_is other).0 both.0; near = near_is bundle.way dim bundle.node bundle.label other; label_is = label_is bundle.way dim bundle.node bundle.label other };
+        may = record { among = (may_is other).0 both.0; near = is.0; label_is = is.2 };
         free = λ c. both_ways (has must other) (not-true (has must other) both.1) ((must_is other).1 c);
       }
 

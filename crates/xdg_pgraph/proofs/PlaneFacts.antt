@@ -16,7 +16,7 @@ use Rattle.xdg_rules.proofs.Shrinking.{may_is, must_is}
 use Rattle.xdg_pgraph.specs.declared.plane.Plane.{Plane}
 use Rattle.xdg_graph.specs.declared.which.Which.{Which}
 use Rattle.xdg_graph.specs.declared.which.Which.TheVariants as whichs
-use Rattle.xdg_pgraph.specs.Planes.{IsPlane}
+use Rattle.xdg_pgraph.specs.Planes.{IsOnPlane, IsPlane}
 use Rattle.xdg_graph.specs.Edges.{Stands, edge_labels, edges_of}
 use Rattle.xdg_graph.proofs.Edges.{which_exact}
 use Rattle.xdg_graph.proofs.Labelled.{has_edges, label_below, place_between}
@@ -69,3 +69,6 @@ is_among which parts box e result box_is is exact = (
   λ t. (which_exact which parts box e.dim.0 e box_is).1 ((place_is parts e is, refl), exact.0 t),
   λ c. exact.1 ((which_exact which parts box e.dim.0 e box_is).0 c).1,
 )
+
+pub which_on : (which : Which) (parts : Parts) (box : List (List Bool)) (plane : Plane) → IsPlane parts plane → (e : Edge) → Contains (edges_of which parts box plane.dim.0) e → IsOnPlane plane e
+which_on which parts box plane is e c = (is.exact e).0 (which_place which parts box plane.dim.0 e c)

@@ -30,19 +30,16 @@ cycles_run plane p q old new far plane_is exact c = all_cleared plane p q old ne
 
 -- ---- edges that close a cycle, one after another
 
--- an edge that may be leads between two nodes of a plane
-pub may_between : (plane : Plane) (parts : Parts) (box : List (List Bool)) (u v : ℕ) → IsPlane parts plane → IsDaughter (may_edges parts box plane.dim.0) u v → (u < plane.nodes) × (u ≢ v)
-may_between plane parts box u v plane_is (j, e, within, at, (m, d)) =
-    let on = (plane_is.exact e).0 ((may_exact parts box plane.dim.0 e).0 (j, within, at)).0 in
-    (let l = on.mother in omega (arith, l, m), λ same. on.differ (m ∙ same ∙ sym d))
-
 -- the mothers of a node to which a table leads from it
 module _ (plane : Plane) (far : List (List ℕ)) (v : ℕ) (parts : Parts) (box : List (List Bool)) (mothers below back : List ℕ) (exact : (x : ℕ) → IsTrue (has mothers x) ↔ IsDaughter (may_edges parts box plane.dim.0) x v) (below_is : below ≡ get_or far v []) (met : (x : ℕ) → has back x ≡ (has mothers x && has below x)) where
   pub back_far : (u : ℕ) → has back u ≡ true → In far v u
   back_far u h = subst (λ s. has s u ≡ true) below_is ((both (has mothers u) (has below u)).0 (sym (met u) ∙ h)).1
 
   pub back_between : (u : ℕ) → IsPlane parts plane → has back u ≡ true → (u < plane.nodes) × (u ≢ v)
-  back_between u plane_is h = may_between plane parts box u v plane_is ((exact u).0 ((both (has mothers u) (has below u)).0 (sym (met u) ∙ h)).0)
+  back_between u plane_is h =
+      let (j, e, within, at, (m, d)) = (exact u).0 ((both (has mothers u) (has below u)).0 (sym (met u) ∙ h)).0 in
+      let on = (plane_is.exact e).0 ((may_exact parts box plane.dim.0 e).0 (j, within, at)).0 in
+      (let l = on.mother in omega (arith, l, m), λ same. on.differ (m ∙ same ∙ sym d))
 
   back_has : (e : Edge) → Contains (may_edges parts box plane.dim.0) e → BacksInto far v e → has back e.mother.0 ≡ true
   back_has e may b = met e.mother.0 ∙ (both (has mothers e.mother.0) (has below e.mother.0)).1 (

@@ -1,5 +1,5 @@
 -- The rules of roots, step by step.
-use Rattle.std.proofs.Common.{◌≡◌, ℕ, ◌+◌, ◌<◌, ◌≤◌, inl, inr, Bool, List, [], ◌∷◌, length, get_or, sym, ◌∙◌, ap, subst, arith}
+use Rattle.std.proofs.Common.{◌≡◌, ℕ, ◌+◌, ◌<◌, ◌≤◌, inl, inr, List, [], ◌∷◌, length, get_or, sym, ◌∙◌, ap, subst, arith}
 use Rattle.std.specs.Prelude.{Contains}
 use Rattle.xdg_problem.specs.declared.analysis.Edge.{Edge}
 use Rattle.xdg_problem.specs.declared.parts.Group.{Group}
@@ -19,7 +19,7 @@ use Rattle.xdg_pgraph.specs.declared.plane.Plane.{Plane}
 use Rattle.xdg_pgraph.specs.Planes.{IsPlane}
 use Rattle.xdg_pgraph.specs.Seeking.{Aims, ToNode, RootsAre}
 use Rattle.xdg_pgraph.specs.Ruling.{RunsFor, ForRoot}
-use Rattle.xdg_pgraph.proofs.Ruled.{runs_none, runs_turn}
+use Rattle.xdg_pgraph.proofs.Ruled.{Never, Rule, part_cleared, part_none}
 use Rattle.xdg_facts.proofs.Contained.{contains_head}
 use Rattle.xdg_facts.proofs.Each.{each_contained}
 
@@ -35,17 +35,14 @@ root_within n edges found w are is =
 pub roots_same : (parts : Parts) (plane : Plane) (edges : ℕ → List Edge) (k : ℕ) → IsPlane parts plane → k ≡ plane.dim.0 → roots (nodes parts) (edges k) ≡ roots plane.nodes (edges plane.dim.0)
 roots_same parts plane edges k plane_is on = ap (λ j. roots (nodes parts) (edges j)) on ∙ ap (λ n. roots n (edges plane.dim.0)) (sym plane_is.nodes_is)
 
--- no value
-abbrev Never : List (List Bool) → ℕ → ℕ → Type 0
-Never box d v = ⊥
-
 module _ (plane : Plane) (p q : Progress) (old new : State) (plane_is : IsPlane old.parts plane) where
   abbrev dim : ℕ
   dim = plane.dim.0
 
   -- what is cleared, where all of it is taken by the rule, and the rule takes nothing else
-  pub all_cleared : (TakesRule : Parts → Group → List (List Bool) → ℕ → ℕ → Type 0) (Aim : ℕ → ℕ → Type 0) → Clears Aim p old q new → ((group : Group) → first_dim group ≡ dim → (d v : ℕ) → Aim d v → TakesRule old.parts group old.now d v) → ((group : Group) → first_dim group ≡ dim → (d v : ℕ) → TakesRule old.parts group old.now d v → Aim d v) → RunsFor TakesRule dim p old q new
-  all_cleared TakesRule Aim c to from group is on takes = runs_turn Never (TakesRule old.parts group) Aim group p p q old old new (runs_none Never group p old (λ d v a. a)) c is (λ d v aim. takes old.now d v (to group on d v aim)) (λ d v a. inr (from group on d v a))
+  pub all_cleared : (TakesRule : Rule) (Aim : ℕ → ℕ → Type 0) → Clears Aim p old q new → ((group : Group) → first_dim group ≡ dim → (d v : ℕ) → Aim d v → TakesRule old.parts group old.now d v) → ((group : Group) → first_dim group ≡ dim → (d v : ℕ) → TakesRule old.parts group old.now d v → Aim d v) → RunsFor TakesRule dim p old q new
+  all_cleared TakesRule Aim c to from = part_cleared dim p p q old old new TakesRule Never TakesRule Aim (λ group on lies. to group on) (λ group on d v a. inr (from group on d v a))
+      (part_none TakesRule Never dim p old (λ group on quiet d v none h. none)) c
 
   must_roots : (group : Group) → first_dim group ≡ dim → roots (nodes old.parts) (must_edges old.parts old.now (first_dim group)) ≡ roots plane.nodes (must_edges old.parts old.now dim)
   must_roots group on = roots_same old.parts plane (must_edges old.parts old.now) (first_dim group) plane_is on
@@ -63,17 +60,16 @@ module _ (plane : Plane) (p q : Progress) (old new : State) (plane_is : IsPlane 
       | inr none ↦ absurd (let e = ap length (sym none ∙ must_roots group on ∙ one) in omega (arith, e))
     ]
 
-    pub one_root_clears : Clears (Aims old.parts dim founds.More (ToNode w)) p old q new → RunsFor ForRoot dim p old q new
-    one_root_clears c = all_cleared ForRoot (Aims old.parts dim founds.More (ToNode w)) c aim_found found_aim
-
   pub one_root_runs : (found : Roots) (w : ℕ) → RootsAre (roots plane.nodes (must_edges old.parts old.now dim)) found → found ≡ rootss.One w → Clears (Aims old.parts dim founds.More (ToNode w)) p old q new → RunsFor ForRoot dim p old q new
-  one_root_runs found w are is c = one_root_clears w (subst (RootsAre (roots plane.nodes (must_edges old.parts old.now dim))) is are) c
+  one_root_runs found w are is c =
+      let one = subst (RootsAre (roots plane.nodes (must_edges old.parts old.now dim))) is are in
+      all_cleared ForRoot (Aims old.parts dim founds.More (ToNode w)) c (aim_found w one) (found_aim w one)
 
   pub more_roots_run : (found : Roots) → RootsAre (roots plane.nodes (must_edges old.parts old.now dim)) found → found ≡ rootss.More → RunsFor ForRoot dim p old p old
-  more_roots_run found are is group is_group on takes =
+  more_roots_run found are is = part_none ForRoot ForRoot dim p old (λ group on quiet d v a h.
       let many : 2 ≤ length (roots plane.nodes (must_edges old.parts old.now dim)) = subst (RootsAre (roots plane.nodes (must_edges old.parts old.now dim))) is are in
       let same = must_roots group on in
-      runs_none (ForRoot old.parts group) group p old (λ d v a. elim a [
+      elim a [
         | inl r ↦ (let e = ap length (sym r.root ∙ same) in omega (arith, e, many))
         | inr none ↦ (let e = ap length (sym none ∙ same) in omega (arith, e, many))
       ])

@@ -14,12 +14,12 @@ use Rattle.xdg_pgraph.specs.declared.found.Found.{Found}
 use Rattle.xdg_pgraph.specs.declared.found.Found.TheVariants as founds
 use Rattle.xdg_graph.specs.declared.which.Which.{Which}
 use Rattle.xdg_pgraph.specs.declared.plane.Plane.{Plane}
-use Rattle.xdg_pgraph.specs.Planes.{IsPlane, IsOnPlane}
+use Rattle.xdg_pgraph.specs.Planes.{IsPlane}
 use Rattle.xdg_graph.specs.Edges.{edges_of}
 use Rattle.xdg_pgraph.specs.Seeking.{Finds, IsMore, Joins, Into, IntoWith, found_with, found_merged}
 use Rattle.xdg_pgraph.proofs.Below.{Below, below_apart, below_cases, below_last, below_more}
 use Rattle.xdg_pgraph.proofs.Looked.{finds_like, finds_with, finds_merged}
-use Rattle.xdg_pgraph.proofs.PlaneFacts.{which_place}
+use Rattle.xdg_pgraph.proofs.PlaneFacts.{which_on, which_place}
 use Rattle.xdg_facts.specs.Rises.{has, Rises}
 
 -- those with one of the first labels
@@ -35,9 +35,6 @@ into_two P l founds.Nothing more f = absurd more
 into_two P l (founds.One e) more f = absurd more
 into_two P l founds.More more f = (f.0, f.1, f.2.0, f.3.0, f.4)
 
-rest_rises : (low bound n : ℕ) (s : List ℕ) → Rises low bound (n ∷ s) → Rises (n + 1) bound s
-rest_rises low bound n s r = r.2
-
 pub two_in : (s : List ℕ) → Rises 0 128 s → 1 < length s → (a : ℕ) × (b : ℕ) × (has s a ≡ true) × (has s b ≡ true) × (a ≢ b)
 two_in [] rises two = absurd (omega (arith, two))
 two_in (a ∷ []) rises two = absurd (omega (arith, two))
@@ -46,7 +43,7 @@ two_in (a ∷ b ∷ s) rises two = (
   b,
   or_here (a == a) (has (b ∷ s) a) (eq-eqb a a refl),
   either_true (a == b) (has (b ∷ s) b) (or_here (b == b) (has s b) (eq-eqb b b refl)),
-  λ same. (let up = (rest_rises 0 128 a (b ∷ s) rises).0 in omega (arith, up, same)),
+  λ same. (let up = rises.2.0 in omega (arith, up, same)),
 )
 
 -- ---- as the code goes
@@ -111,11 +108,8 @@ module _ (which : Which) (parts : Parts) (box : List (List Bool)) (plane : Plane
     more_found nodes two = (let t = two_in mothers nodes.rises two in (edge plane.dim.0 t.0 l v, edge plane.dim.0 t.1 l v, edge_in t.0 t.2, edge_in t.1 t.3, λ same. t.4 (ap (λ (e : Edge). e.mother.0) same)))
 
   module _ (plane_is : IsPlane parts plane) where
-    those_plane : (e : Edge) → Contains those e → IsOnPlane plane e
-    those_plane e c = (plane_is.exact e).0 (which_place which parts box plane.dim.0 e c)
-
     pub joined_end : (u v l : ℕ) (found : Found) → plane.labels ≤ l → Finds (FirstLabels (Joins those u v) l) found → Finds (Joins those u v) found
-    joined_end u v l found all = found_all (Joins those u v) l found (λ e j. (let k = (those_plane e j.0).label in omega (arith, k, all)))
+    joined_end u v l found all = found_all (Joins those u v) l found (λ e j. (let k = (which_on which parts box plane plane_is e j.0).label in omega (arith, k, all)))
 
     pub into_end : (v l : ℕ) (found : Found) → plane.labels ≤ l → Finds (FirstLabels (Into those v) l) found → Finds (Into those v) found
-    into_end v l found all = found_all (Into those v) l found (λ e j. (let k = (those_plane e j.0).label in omega (arith, k, all)))
+    into_end v l found all = found_all (Into those v) l found (λ e j. (let k = (which_on which parts box plane plane_is e j.0).label in omega (arith, k, all)))

@@ -22,7 +22,7 @@ use Rattle.xdg_rules.proofs.Among.{roots_among}
 use Rattle.xdg_rules.proofs.Shrinking.{may_be, may_among}
 use Rattle.xdg_store.specs.States.{State, Known}
 use Rattle.xdg_propcore.specs.Passes.{Progress, Clears, EachValue}
-use Rattle.xdg_propcore.proofs.Passing.{clears_none, clears_like, goes_none}
+use Rattle.xdg_propcore.proofs.Passing.{clears_none, clears_like}
 use Rattle.xdg_pgraph.specs.declared.entered.Roots.{Roots}
 use Rattle.xdg_pgraph.specs.declared.entered.Roots.TheVariants as rootss
 use Rattle.xdg_pgraph.specs.declared.found.Found.{Found}
@@ -33,7 +33,7 @@ use Rattle.xdg_pgraph.specs.Planes.{IsPlane}
 use Rattle.xdg_pgraph.specs.Seeking.{Finds, Into, NoneOnly, Only, RootsAre}
 use Rattle.xdg_pgraph.specs.Ruling.{RunsFor, ForOthers}
 use Rattle.xdg_pgraph.proofs.PlaneFacts.{which_place}
-use Rattle.xdg_pgraph.proofs.Ruled.{AtNode, Outside, RunsPart, outside_turn, runs_none}
+use Rattle.xdg_pgraph.proofs.Ruled.{AtNode, Outside, RunsPart, node_cleared, part_none, still_out}
 use Rattle.xdg_pgraph.proofs.RuledRoots.{all_cleared, roots_same}
 use Rattle.xdg_pgraph.proofs.TreeTests.{two_of}
 use Rattle.xdg_facts.specs.Rises.{has}
@@ -80,21 +80,16 @@ module _ (parts : Parts) (box : List (List Bool)) (dim w : ℕ) where
 abbrev pub only_daughter : AtNode OnlyMother
 only_daughter parts group box d v rule = rule.place.daughter.0
 
+only_of : (parts : Parts) (group : Group) (box : List (List Bool)) (d v dim w : ℕ) → first_dim group ≡ dim → (rule : OnlyMother parts group box d v) → rule.place.daughter.0 ≡ w → Only parts (may_edges parts box dim) w d v
+only_of parts group box d v dim w on rule at = subst (λ k. Only parts (may_edges parts box k) w d v) on
+    (record { place = rule.place; among = rule.may; into = at; one = ap (mothers (may_edges parts box (first_dim group))) (sym at) ∙ rule.only; says = rule.says })
+
 module _ (plane : Plane) (p q r : Progress) (old mid new : State) (root : ℕ) (there : Contains (roots plane.nodes (may_edges old.parts old.now plane.dim.0)) root) where
   abbrev dim : ℕ
   dim = plane.dim.0
 
   pub only_start : (left : List ℕ) → ((v : ℕ) → has left v ≡ false → NoneOnly old.parts old.now dim v) → RunsPart OnlyMother (Outside OnlyMother only_daughter left) dim p old p old
-  only_start left none group is on takes = record {
-    goes = goes_none group p old;
-    done = λ z d v x h. none x.0.place.daughter.0 x.1 d v (record {
-      place = x.0.place;
-      among = subst (λ k. Contains (may_edges old.parts old.now k) x.0.place) on x.0.may;
-      into = refl;
-      one = subst (λ k. mothers (may_edges old.parts old.now k) x.0.place.daughter.0 ≡ 1) on x.0.only;
-      says = x.0.says;
-    }) h;
-  }
+  only_start left none = part_none OnlyMother (Outside OnlyMother only_daughter left) dim p old (λ group on quiet d v x. none x.0.place.daughter.0 x.1 d v (only_of old.parts group old.now d v dim x.0.place.daughter.0 on x.0 refl))
 
   module _ (left rest : List ℕ) (w : ℕ) (first : left ≡ w ∷ rest) (plane_is : IsPlane old.parts plane) (same : mid.parts ≡ old.parts) (known : Known mid) where
     root_stays : LiesIn mid.now old.now → Contains (roots (nodes old.parts) (may_edges old.parts mid.now dim)) root
@@ -103,22 +98,18 @@ module _ (plane : Plane) (p q r : Progress) (old mid new : State) (root : ℕ) (
 
     pub only_turn : RunsPart OnlyMother (Outside OnlyMother only_daughter left) dim p old q mid → Clears (Only old.parts (may_edges old.parts mid.now dim) w) q mid r new
         → RunsPart OnlyMother (Outside OnlyMother only_daughter rest) dim p old r new
-    only_turn = outside_turn OnlyMother only_daughter dim p q r old mid new left rest w (Only old.parts (may_edges old.parts mid.now dim) w) first same
-        (λ group on lies d v h. record {
+    only_turn = node_cleared OnlyMother only_daughter dim p q r old mid new (λ n. has left n ≡ false) (λ n. has rest n ≡ false) w (still_out left rest w first) (Only old.parts (may_edges old.parts mid.now dim) w)
+        (λ group on lies d v only.
+        let h = subst (λ k. Only old.parts (may_edges old.parts mid.now k) w d v) (sym on) only in
+        record {
           place = h.place;
-          may = subst (λ k. Contains (may_edges old.parts mid.now k) h.place) (sym on) h.among;
+          may = h.among;
           says = h.says;
-          only = subst (λ k. mothers (may_edges old.parts mid.now k) h.place.daughter.0 ≡ 1) (sym on) (ap (mothers (may_edges old.parts mid.now dim)) h.into ∙ h.one);
+          only = ap (mothers (may_edges old.parts mid.now (first_dim group))) h.into ∙ h.one;
           other = root;
           root = subst (λ k. Contains (roots (nodes old.parts) (may_edges old.parts mid.now k)) root) (sym on) (root_stays lies);
         })
-        (λ group on d v rule at. record {
-          place = rule.place;
-          among = subst (λ k. Contains (may_edges old.parts mid.now k) rule.place) on rule.may;
-          into = at;
-          one = ap (mothers (may_edges old.parts mid.now dim)) (sym at) ∙ subst (λ k. mothers (may_edges old.parts mid.now k) rule.place.daughter.0 ≡ 1) on rule.only;
-          says = rule.says;
-        })
+        (λ group on d v. only_of old.parts group mid.now d v dim w on)
 
 -- ---- by the number of the roots
 
@@ -127,9 +118,9 @@ module _ (plane : Plane) (p q : Progress) (old new : State) (plane_is : IsPlane 
   may_roots box group on = roots_same old.parts plane (may_edges old.parts box) (first_dim group) plane_is on
 
   pub no_root_left : (found : Roots) → RootsAre (roots plane.nodes (may_edges old.parts old.now plane.dim.0)) found → found ≡ rootss.Nothing → RunsFor ForOthers plane.dim.0 p old p old
-  no_root_left found are is group is_group on takes =
+  no_root_left found are is = part_none ForOthers ForOthers plane.dim.0 p old (λ group on quiet d v a h.
       let none : roots (nodes old.parts) (may_edges old.parts old.now (first_dim group)) ≡ [] = may_roots old.now group on ∙ subst (RootsAre (roots plane.nodes (may_edges old.parts old.now plane.dim.0))) is are in
-      runs_none (ForOthers old.parts group) group p old (λ d v a. elim a [
+      elim a [
         | inl rule ↦ contains_none rule.other (subst (λ xs. Contains xs rule.other) none rule.root)
         | inr two ↦ (let e = ap length none in omega (arith, two, e))
       ])

@@ -76,12 +76,6 @@ module _ (parts : Parts) (box : List (List Bool)) (dim w : ℕ) where
     ]
   ]
 
-  several_settled : IsCount (Into (may_edges parts box dim) w) counts.More → IsSettled parts box dim w
-  several_settled two = record {
-    entered = (two.0, two.2.0, two.2.1);
-    none = λ d v x h. not_more parts box dim w two x.one;
-  }
-
   must_settled : (count : Count) → (count ≢ counts.Nothing) → IsCount (Into (must_edges parts box dim) w) count → IsSettled parts box dim w
   must_settled counts.Nothing some is = absurd (some refl)
   must_settled counts.One some is = record { entered = (is.0, must_may parts box dim is.0 is.1.0, is.1.1); none = must_there (is.0, is.1.0, is.1.1) }
@@ -89,7 +83,7 @@ module _ (parts : Parts) (box : List (List Bool)) (dim w : ℕ) where
 
   pub counts_settle : (here : Counts) → AreCounts parts box dim w here → CountsSettle here → IsSettled parts box dim w
   counts_settle here are settle = elim settle [
-    | inl more ↦ several_settled (subst (IsCount (Into (may_edges parts box dim) w)) more are.may)
+    | inl more ↦ (let two = subst (IsCount (Into (may_edges parts box dim) w)) more are.may in record { entered = (two.0, two.2.0, two.2.1); none = λ d v x h. not_more parts box dim w two x.one })
     | inr (one, must) ↦ must_settled here.must must are.must
   ]
 
@@ -103,9 +97,9 @@ pub settled_start : (parts : Parts) (box : List (List Bool)) (dim : ℕ) (first 
 settled_start parts box dim first v there out = absurd (false≢true (sym out ∙ there))
 
 pub settled_next : (parts : Parts) (box : List (List Bool)) (dim w : ℕ) (first left rest : List ℕ) → left ≡ w ∷ rest → IsSettled parts box dim w → AreSettled parts box dim first left → AreSettled parts box dim first rest
-settled_next parts box dim w first left rest is here before v there out = elim (cases_eq v w) [
-  | inl same ↦ subst (IsSettled parts box dim) (sym same) here
-  | inr other ↦ before v there (still_out left rest w v is other out)
+settled_next parts box dim w first left rest is here before v there out = elim (still_out left rest w is v out) [
+  | inl left_out ↦ before v there left_out
+  | inr same ↦ subst (IsSettled parts box dim) (sym same) here
 ]
 
 -- the next of some nodes of the sentence

@@ -20,10 +20,6 @@ use Rattle.xdg_pgraph.specs.Planes.{IsPlane}
 use Rattle.xdg_pgraph.specs.Seeking.{Aims, FromTo, IsOther, ToNode, ToWith}
 use Rattle.xdg_pgraph.proofs.Skipped.{place_may}
 
--- the same edges, told in another way
-pub aims_like : (parts : Parts) (dim : ℕ) (others : Found) (P Q : Edge → Type 0) → ((e : Edge) → IsPlaceOn parts dim e → P e → Q e) → (d v : ℕ) → Aims parts dim others P d v → Aims parts dim others Q d v
-aims_like parts dim others P Q to d v a = record { place = a.place; is = a.is; aimed = to a.place a.is a.aimed; other = a.other; says = a.says }
-
 -- ---- one edge
 
 module _ (parts : Parts) (e : Edge) (others : Found) (p : Progress) where
@@ -47,7 +43,7 @@ module _ (parts : Parts) (dim : ℕ) (others : Found) (Q : ℕ → Type 0) (P : 
   Those = ByOne Q (λ x. Aims parts dim others (P x))
 
   there : (d v : ℕ) → Those d v → Aims parts dim others R d v
-  there d v t = aims_like parts dim others (P t.0) R (λ e on x. to t.0 e on t.1 x) d v t.2
+  there d v (x, q, a) = record { place = a.place; is = a.is; aimed = to x a.place a.is q a.aimed; other = a.other; says = a.says }
 
   -- of those that may be
   pub aims_all : ((e : Edge) → Contains (may_edges parts old.now dim) e → IsPlaceOn parts dim e → R e → (x : ℕ) × Q x × P x e) → Clears Those p old q new → Clears (Aims parts dim others R) p old q new

@@ -11,11 +11,11 @@ use Rattle.xdg_pgraph.specs.declared.entered.Entered.{Entered}
 use Rattle.xdg_graph.specs.declared.which.Which.{Which}
 use Rattle.xdg_pgraph.specs.declared.plane.Plane.{Plane}
 use Rattle.xdg_pgraph.specs.Entering.{Enters, EnterTwice, Tells, Leaving, Labelled}
-use Rattle.xdg_pgraph.specs.Planes.{IsPlane, IsOnPlane}
+use Rattle.xdg_pgraph.specs.Planes.{IsPlane}
 use Rattle.xdg_graph.specs.Edges.{edges_of}
 use Rattle.xdg_pgraph.specs.Seeking.{ToNode}
 use Rattle.xdg_pgraph.proofs.Below.{At, Below, below_apart, below_cases, below_last, below_more, below_none}
-use Rattle.xdg_pgraph.proofs.PlaneFacts.{which_place}
+use Rattle.xdg_pgraph.proofs.PlaneFacts.{which_on, which_place}
 use Rattle.xdg_facts.proofs.Truths.{either_true, or_here}
 use Rattle.xdg_facts.specs.Rises.{has}
 
@@ -114,19 +114,16 @@ module _ (which : Which) (parts : Parts) (box : List (List Bool)) (plane : Plane
     this v e k into = edge_equal e (edge plane.dim.0 u l v) (which_place which parts box plane.dim.0 e k.0.0).1 k.0.1 k.1 into
 
   module _ (plane_is : IsPlane parts plane) where
-    those_plane : (e : Edge) → Contains those e → IsOnPlane plane e
-    those_plane e c = (plane_is.exact e).0 (which_place which parts box plane.dim.0 e c)
-
     pub from_end : (u l : ℕ) (a : Entered) → plane.labels ≤ l → Tells (Below (λ e. e.label.0) (Leaving those u) l) a → Tells (Leaving those u) a
-    from_end u l a all = told_all (λ e. e.label.0) (Leaving those u) l a (λ e x. (let k = (those_plane e x.0).label in omega (arith, k, all)))
+    from_end u l a all = told_all (λ e. e.label.0) (Leaving those u) l a (λ e x. (let k = (which_on which parts box plane plane_is e x.0).label in omega (arith, k, all)))
 
     pub all_end : (w : ℕ) (a : Entered) → plane.nodes ≤ w → Tells (Below (λ e. e.daughter.0) (Contains those) w) a → Tells (Contains those) a
-    all_end w a all = told_all (λ e. e.daughter.0) (Contains those) w a (λ e x. (let k = (those_plane e x).daughter in omega (arith, k, all)))
+    all_end w a all = told_all (λ e. e.daughter.0) (Contains those) w a (λ e x. (let k = (which_on which parts box plane plane_is e x).daughter in omega (arith, k, all)))
 
     -- no edge leads from a node to itself
     pub leaves_other : (u v : ℕ) (a : Entered) → Tells (Leaving those u) a → has a.some v ≡ true → u ≢ v
-    leaves_other u v a t h same = (let s = (t.once v).0 h in (those_plane s.0 s.1.0).differ (s.1.1 ∙ same ∙ sym s.2))
+    leaves_other u v a t h same = (let s = (t.once v).0 h in (which_on which parts box plane plane_is s.0 s.1.0).differ (s.1.1 ∙ same ∙ sym s.2))
 
     -- edges lead into nodes of the sentence
     pub entered_within : (v : ℕ) (a : Entered) → Tells (Contains those) a → has a.some v ≡ true → v < plane.nodes
-    entered_within v a t h = (let s = (t.once v).0 h in let k = (those_plane s.0 s.1).daughter in let e : s.0.daughter.0 ≡ v = s.2 in omega (arith, k, e))
+    entered_within v a t h = (let s = (t.once v).0 h in let k = (which_on which parts box plane plane_is s.0 s.1).daughter in let e : s.0.daughter.0 ≡ v = s.2 in omega (arith, k, e))

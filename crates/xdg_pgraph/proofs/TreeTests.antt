@@ -20,10 +20,12 @@ use Rattle.xdg_facts.proofs.InOrder.{Ordered, ordered_filter}
 use Rattle.xdg_facts.proofs.Contained.{contains_head}
 use Rattle.xdg_problem.proofs.PlaceOrder.{is_place, places_ordered}
 use Rattle.xdg_propcore.proofs.SeenEdges.{decided_must, seen}
-use Rattle.xdg_rules.specs.Rules.{has, IsDecided, IsPlaceOn, OneLabel, OneMother, NoCycle, HasNoRoot, HasTwoRoots, must_edges}
+use Rattle.xdg_rules.specs.Rules.{has, IsDecided, OneLabel, OneMother, NoCycle, HasNoRoot, HasTwoRoots, must_edges}
 use Rattle.xdg_rules.proofs.Among.{roots_length}
 use Rattle.xdg_rules.proofs.Shrinking.{must_of, must_is}
 use Rattle.xdg_facts.proofs.Lists.{contains_more}
+use Rattle.xdg_pgraph.specs.Seeking.{FromTo, ToNode}
+use Rattle.xdg_pgraph.proofs.Beside.{Beside, beside_label, beside_mother}
 
 -- two different edges, or at most one
 pub two_of : (xs : List Edge) → Ordered Before xs → (length xs ≤ 1) ⊎ ((a : Edge) × (b : Edge) × Contains xs a × Contains xs b × (a ≢ b))
@@ -64,43 +66,41 @@ module _ (parts : Parts) (group : Group) (box : List (List Bool)) where
         not_absent = false_from_ne_true (has box (edge_decision parts e) 1) (decided_must parts box e one s.2);
       })
 
-  -- where of two edges that a test sees, and of which something holds, the one isn't to be beside the other
+  -- where of two edges that a test sees, and of which something holds, the one isn't to stand beside the other
   few_of : (test : Test) (edges : List Edge) (Q : Edge → Type 0) → AreDecided test → Ordered Before edges → ((e : Edge) → Contains edges e → Contains (here test) e × (e.dim.0 ≡ dim) × Q e)
-      → ((a b : Edge) → IsPlaceOn parts dim a → Has box (edge_decision parts a) 0 → Contains must b → a ≢ b → Q a → Q b → ⊥) → length edges ≤ 1
+      → ((d x : ℕ) → Has box d x → Beside Q parts box d x dim → ⊥) → length edges ≤ 1
   few_of test edges Q decided ordered each none = elim (two_of edges ordered) [
     | inl few ↦ few
     | inr (x, y, c, d, differ) ↦ absurd (
         let a = each x c in
         let b = each y d in
         let s = seen_parts test x a.0 in
-        none x y (s.0, a.1) s.2 (seen_must test decided y b.0 b.1) differ a.2 b.2
-        )
+        none (edge_decision parts x) 0 s.2 (record { place = x; is = (s.0, a.1); from = a.2; other = y; among = seen_must test decided y b.0 b.1; differs = differ; joins = b.2; says = (refl, refl) }))
   ]
 
   here_ordered : (test : Test) → Ordered Before (here test)
   here_ordered test = ordered_filter Before (λ e. looks_at group test e && has box (edge_decision parts e) 0) (places parts) (places_ordered parts)
 
   pub one_mother_passes : (v k : ℕ) → AreDecided (one_mother v k) → ((d x : ℕ) → Has box d x → OneMother parts group box d x → ⊥) → length (here (one_mother v k)) ≤ 1
-  one_mother_passes v k decided closed = few_of (one_mother v k) (here (one_mother v k)) (λ e. e.daughter.0 ≡ v) decided (here_ordered (one_mother v k))
+  one_mother_passes v k decided closed = few_of (one_mother v k) (here (one_mother v k)) (ToNode v) decided (here_ordered (one_mother v k))
       (λ e c.
       let x = and_parts ((e.dim.0 == dim) && (e.daughter.0 == v)) (nat_le e.mother.0 k) (seen_parts (one_mother v k) e c).1 in
       let y = and_parts (e.dim.0 == dim) (e.daughter.0 == v) x.0 in
       (c, eqb-true e.dim.0 dim y.0, eqb-true e.daughter.0 v y.1))
-      (λ a b on present must differs p q. closed (edge_decision parts a) 0 present (record { place = a; is = on; says = (refl, refl); other = b; must = must; differs = differs; both = p ∙ sym q }))
+      (λ d x h beside. closed d x h (beside_mother parts group box d x dim refl v beside))
 
   pub one_label_passes : (u v : ℕ) → AreDecided (one_label u v) → ((d x : ℕ) → Has box d x → OneLabel parts group box d x → ⊥) → edges_joining (edges_on dim (here (one_label u v))) u v ≤ 1
   one_label_passes u v decided closed =
       let joins : Edge → Bool = λ e. (e.mother.0 == u) && (e.daughter.0 == v) in
       let on_dim : Edge → Bool = λ e. e.dim.0 == dim in
-      let few = few_of (one_label u v) (filter joins (edges_on dim (here (one_label u v)))) (λ e. (e.mother.0 ≡ u) × (e.daughter.0 ≡ v)) decided
+      let few = few_of (one_label u v) (filter joins (edges_on dim (here (one_label u v)))) (FromTo u v) decided
       (ordered_filter Before joins (edges_on dim (here (one_label u v))) (ordered_filter Before on_dim (here (one_label u v)) (here_ordered (one_label u v))))
       (λ e c.
       let x = filter_contained joins (edges_on dim (here (one_label u v))) e c in
       let y = filter_contained on_dim (here (one_label u v)) e x.0 in
       let z = and_parts (e.mother.0 == u) (e.daughter.0 == v) x.1 in
       (y.0, eqb-true e.dim.0 dim y.1, (eqb-true e.mother.0 u z.0, eqb-true e.daughter.0 v z.1)))
-      (λ a b on present must differs p q. closed (edge_decision parts a) 0 present
-      (record { place = a; is = on; says = (refl, refl); other = b; must = must; differs = differs; mother = p.0 ∙ sym q.0; daughter = p.1 ∙ sym q.1 })) in
+      (λ d x h beside. closed d x h (beside_label parts group box d x dim refl u v beside).rule) in
       let same = length-filter joins (edges_on dim (here (one_label u v))) in
       omega (arith, few, same)
 

@@ -97,13 +97,13 @@ Backs far e = In far e.daughter.0 e.mother.0
 abbrev pub BacksInto : List (List ℕ) → ℕ → Edge → Type 0
 BacksInto far v e = (e.daughter.0 ≡ v) × Backs far e
 
--- the value that says that an edge from a node to another is present, beside which one of some edges leads there
-pub record Doubled (parts : Parts) (dim : ℕ) (edges : List Edge) (u v d x : ℕ) : Type 0 where
+-- the value that says that an edge of a kind is present, as from one node to another, beside which one of some edges is of that kind
+pub record Doubled (parts : Parts) (dim : ℕ) (edges : List Edge) (P : Edge → Type 0) (d x : ℕ) : Type 0 where
   pub place : Edge
   pub is : IsPlaceOn parts dim place
-  pub from : FromTo u v place
+  pub from : P place
   pub other : Edge
   pub among : Contains edges other
   pub differs : place ≢ other
-  pub joins : FromTo u v other
+  pub joins : P other
   pub says : SaysPresent parts place d x

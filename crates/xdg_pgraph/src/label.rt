@@ -7,7 +7,7 @@ ghost use Rattle.xdg_store.specs.States.{Known};
 ghost use Rattle.xdg_pgraph.specs.Musts.{RunsBut};
 ghost use Rattle.xdg_pgraph.specs.Planes.{IsPlane};
 ghost use Rattle.xdg_pgraph.specs.Ruling.{RunsFor, OneLabelOf, RootIf, LabelIf, ByTree, ByDag};
-ghost use Rattle.xdg_pgraph.specs.Seeking.{Doubled};
+ghost use Rattle.xdg_pgraph.specs.Seeking.{Doubled, FromTo};
 
 use crate::entered::entered_from;
 use crate::finding::joined;
@@ -29,8 +29,8 @@ fn one_label_between(store: &mut Store, pass: &mut Pass, plane: &Plane, mother: 
     requires mother { mother < plane.now.nodes }
     requires daughter { daughter < plane.now.nodes }
     requires differ { mother ≢ daughter }
-    ensures clears { Clears (Doubled store.old.parts plane.now.dim.0 (must_edges store.old.parts store.old.now plane.now.dim.0) mother daughter) pass.old
-        store.old pass.new store.new }
+    ensures clears { Clears (Doubled store.old.parts plane.now.dim.0 (must_edges store.old.parts store.old.now plane.now.dim.0)
+        (FromTo mother daughter)) pass.old store.old pass.new store.new }
     ensures known { Known store.new }
 {
     let musts = joined(store, plane, Which::Must, mother, daughter);

@@ -1,4 +1,4 @@
-use Rattle.xdg_pgraph.proofs.Labels.{others_run, others_settled, others_unwanted}
+use Rattle.xdg_pgraph.proofs.Together.{others_run, others_settled, others_unwanted}
 use Rattle.xdg_pgraph.proofs.label.take_others.Goals as goal
 
 pub returns-then-not-wanted-clause-runs : goal.returns-then-not-wanted-clause-runs

@@ -2,7 +2,8 @@ use Rattle.std.proofs.Common.{◌≡◌, ℕ, true}
 use Rattle.xdg_facts.specs.Rises.{has}
 use Rattle.xdg_rules.specs.Rules.{OneMother}
 use Rattle.xdg_store.specs.States.{Known}
-use Rattle.xdg_pgraph.proofs.Ruled.{Outside, RunsPart, its_daughter}
+use Rattle.xdg_pgraph.proofs.Beside.{its_daughter}
+use Rattle.xdg_pgraph.proofs.Ruled.{Outside, RunsPart}
 use Rattle.xdg_pgraph.proofs.Skipped.{Stays}
 use Rattle.xdg_pgraph.proofs.tree.one_mother.Given as goal
 

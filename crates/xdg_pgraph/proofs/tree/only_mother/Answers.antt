@@ -1,10 +1,10 @@
-use Rattle.std.proofs.Common.{◌≡◌, ◌∙◌, ℕ, ◌∷◌, List, ap, refl, sym, subst}
+use Rattle.std.proofs.Common.{◌≡◌, ◌∙◌, ℕ, ◌∷◌, List, ap, false, refl, sym, subst}
 use Rattle.xdg_facts.specs.Rises.{has}
 use Rattle.xdg_rules.specs.Rules.{OnlyMother, may_edges}
 use Rattle.xdg_propcore.specs.Passes.{Clears}
 use Rattle.xdg_pgraph.specs.Seeking.{Only}
 use Rattle.xdg_facts.proofs.Rising.{head_in, tail_in}
-use Rattle.xdg_pgraph.proofs.Ruled.{outside_end}
+use Rattle.xdg_pgraph.proofs.Ruled.{nodes_all}
 use Rattle.xdg_pgraph.proofs.Single.{only_daughter, only_start, only_turn}
 use Rattle.xdg_pgraph.proofs.tree.only_mother.Goals as goal
 
@@ -45,4 +45,4 @@ loop-daughter-preserved c =
 
 pub returns-clause-runs : goal.returns-clause-runs
 returns-clause-runs c root there =
-    outside_end OnlyMother only_daughter c.args.plane.now.dim.0 c.args.pass.now c.loop-daughter.pass c.loop-daughter.pass c.args.store.now c.loop-daughter.store c.loop-daughter.store c.loop-daughter.daughter-iterator c.in-None.ensures.steps.0 (c.loop-daughter.invariant.3 root there)
+    nodes_all OnlyMother only_daughter c.args.plane.now.dim.0 c.args.pass.now c.loop-daughter.pass c.args.store.now c.loop-daughter.store (λ n. has c.loop-daughter.daughter-iterator n ≡ false) (λ group on d v rule. ap (λ (s : List ℕ). has s rule.place.daughter.0) c.in-None.ensures.steps.0) (c.loop-daughter.invariant.3 root there)
