@@ -98,10 +98,7 @@ order_end b InX InY labels x y n h =
     )
 
 pub ordered_same : (b : Bool) (E : List Edge) (yields wanted : Bool) (own value u x y : ℕ) (labels order : List LabelId) → yields ≡ wanted → own ≡ value → labels ≡ order → IsTrue b ↔ AllPairs (λ (e l : LabelId). IsInItem E (yields ≡ true) own u e.0 x → IsInItem E (yields ≡ true) own u l.0 y → ⊥) labels → IsTrue b ↔ AllPairs (λ (e l : LabelId). IsInItem E (wanted ≡ true) value u e.0 x → IsInItem E (wanted ≡ true) value u l.0 y → ⊥) order
-ordered_same b E yields wanted own value u x y labels order f g i h =
-    subst (λ z. IsTrue b ↔ AllPairs (λ (e l : LabelId). IsInItem E (wanted ≡ true) value u e.0 x → IsInItem E (wanted ≡ true) value u l.0 y → ⊥) z) i
-    (subst (λ z. IsTrue b ↔ AllPairs (λ (e l : LabelId). IsInItem E (wanted ≡ true) z u e.0 x → IsInItem E (wanted ≡ true) z u l.0 y → ⊥) labels) g
-    (subst (λ z. IsTrue b ↔ AllPairs (λ (e l : LabelId). IsInItem E (z ≡ true) own u e.0 x → IsInItem E (z ≡ true) own u l.0 y → ⊥) labels) f h))
+ordered_same b E yields wanted own value u x y labels order f g i h = rw (← f, ← g, ← i) h
 
 pub arm : (P : Condition → Type 0) (condition q : Condition) → condition ≡ q → P q → P condition
 arm P condition q is h = subst P (sym is) h

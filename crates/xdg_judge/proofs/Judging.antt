@@ -34,8 +34,7 @@ pub roots_kept : (parts : Parts) (group : Group) (analysis : Analysis) (count : 
 roots_kept parts group analysis count e one tuple is = ap (λ t. slice_index t 0) is ∙ (sym e ∙ one)
 
 pub roots_counted : (parts : Parts) (group : Group) (analysis : Analysis) (count n dim : ℕ) (edges : List Edge) → count ≡ length (roots n (edges_on dim edges)) → n ≡ nodes parts → dim ≡ first_dim group → edges ≡ analysis.edges → count ≡ root_count parts group analysis.edges
-roots_counted parts group analysis count n dim edges is size on same =
-    is ∙ (ap (λ k. length (roots k (edges_on dim edges))) size ∙ (ap (λ d. length (roots (nodes parts) (edges_on d edges))) on ∙ ap (λ es. length (roots (nodes parts) (edges_on (first_dim group) es))) same))
+roots_counted parts group analysis count n dim edges is size on same = rw (size, on, same) at is
 
 pub roots_broken : (parts : Parts) (group : Group) (analysis : Analysis) (count : ℕ) → count ≡ root_count parts group analysis.edges → count ≢ 1 → IsLeastBroken parts group analysis conditions.Roots (count ∷ [])
 roots_broken parts group analysis count e other = record {
@@ -47,8 +46,7 @@ roots_broken parts group analysis count e other = record {
 
 pub condition_kept : (parts : Parts) (group : Group) (analysis : Analysis) (condition : Condition) (size middle last : ℕ) → IsSearched condition → size ≡ nodes parts → middle ≡ second_size condition parts group → last ≡ third_size condition parts group → ((a : ℕ) → a < size → (b : ℕ) → b < middle → (c : ℕ) → c < last → AsksHere parts group analysis condition (tuple_for condition a b c)) → IsKeptHere parts group analysis condition
 condition_kept parts group analysis condition size middle last searched e f g h =
-    kept_of condition parts group analysis.edges (AsksHere parts group analysis condition) searched
-    (λ a l b m c n. h a (omega (arith, l, e)) b (omega (arith, m, f)) c (omega (arith, n, g)))
+    kept_of condition parts group analysis.edges (AsksHere parts group analysis condition) searched (rw (e, f, g) at h)
 
 pub condition_broken : (parts : Parts) (group : Group) (analysis : Analysis) (condition : Condition) (size middle last u x y : ℕ) → IsSearched condition → size ≡ nodes parts → middle ≡ second_size condition parts group → last ≡ third_size condition parts group → FirstThree size middle last (λ a b c. AsksHere parts group analysis condition (tuple_for condition a b c)) u x y → IsLeastBroken parts group analysis condition (tuple_for condition u x y)
 condition_broken parts group analysis condition size middle last u x y searched e f g found =

@@ -71,7 +71,4 @@ settled_end InItem labels size i bound x y s l lx ly = λ j k d m p h g. s.kept 
 -- the labels of an order as numbers
 pub settled_same : (edges : List Edge) (yields wanted : Bool) (own value u x y : ℕ) (labels order : List LabelId) → yields ≡ wanted → own ≡ value → labels ≡ order → AllPairs (λ (e l : LabelId). IsInItem edges (yields ≡ true) own u e.0 x → IsInItem edges (yields ≡ true) own u l.0 y → x < y) labels → AllPairs (λ e l. IsInItem edges (wanted ≡ true) value u e x → IsInItem edges (wanted ≡ true) value u l y → x < y) (map (λ (label : LabelId). label.0) order)
 settled_same edges yields wanted own value u x y labels order f g i h =
-    (pairs_mapped (λ e l. IsInItem edges (wanted ≡ true) value u e x → IsInItem edges (wanted ≡ true) value u l y → x < y) (λ (label : LabelId). label.0) order).1
-    (subst (λ z. AllPairs (λ (e l : LabelId). IsInItem edges (wanted ≡ true) value u e.0 x → IsInItem edges (wanted ≡ true) value u l.0 y → x < y) z) i
-    (subst (λ z. AllPairs (λ (e l : LabelId). IsInItem edges (wanted ≡ true) z u e.0 x → IsInItem edges (wanted ≡ true) z u l.0 y → x < y) labels) g
-    (subst (λ z. AllPairs (λ (e l : LabelId). IsInItem edges (z ≡ true) own u e.0 x → IsInItem edges (z ≡ true) own u l.0 y → x < y) labels) f h)))
+    (pairs_mapped (λ e l. IsInItem edges (wanted ≡ true) value u e x → IsInItem edges (wanted ≡ true) value u l y → x < y) (λ (label : LabelId). label.0) order).1 (rw (← f, ← g, ← i) h)

@@ -58,11 +58,9 @@ tallied_most condition dim edges i table a b t =
 pub tallied_here : (condition : Condition) (dim : ℕ) (edges : List Edge) (i : ℕ) (old new : List (List ℕ)) (e : Edge) (a b : ℕ) → i < length edges → e ≡ get_or edges i e → e.dim.0 ≡ dim → a ≡ first_key condition e → b ≡ second_key condition e → ((k m : ℕ) → counted new k m ≡ counted old k m + cond ((a == k) && (b == m)) 1 0) → Tallied condition dim edges i old → Tallied condition dim edges (i + 1) new
 tallied_here condition dim edges i old new e a b l at d ea eb step t = record {
   exact = λ k m.
-      step k m
-      ∙ (ap (λ z. counted old k m + cond ((z == k) && (b == m)) 1 0) ea
-      ∙ (ap (λ z. counted old k m + cond ((first_key condition e == k) && (z == m)) 1 0) eb
-      ∙ (ap (λ n. n + cond ((first_key condition e == k) && (second_key condition e == m)) 1 0) (t.exact k m)
-      ∙ sym (ap (count_by (λ f. (first_key condition f == k) && (second_key condition f == m))) (on_here dim edges i e l at d) ∙ sum_by_push (λ (f : Edge). cond ((first_key condition f == k) && (second_key condition f == m)) 1 0) (edges_on dim (take i edges)) e))));
+      (rw (ea, eb) at step k m)
+      ∙ ap (λ n. n + cond ((first_key condition e == k) && (second_key condition e == m)) 1 0) (t.exact k m)
+      ∙ sym (ap (count_by (λ f. (first_key condition f == k) && (second_key condition f == m))) (on_here dim edges i e l at d) ∙ sum_by_push (λ (f : Edge). cond ((first_key condition f == k) && (second_key condition f == m)) 1 0) (edges_on dim (take i edges)) e);
 }
 
 pub tallied_over : (condition : Condition) (dim : ℕ) (edges : List Edge) (i : ℕ) (table : List (List ℕ)) (e : Edge) → i < length edges → e ≡ get_or edges i e → (e.dim.0 ≡ dim → ⊥) → Tallied condition dim edges i table → Tallied condition dim edges (i + 1) table
