@@ -1,6 +1,6 @@
 -- Where no edge must be present that needed not be before, what goes by such edges takes no more than before, and the rules that go by the
 -- edges that may be take something only at the daughters of lost edges, or where one of these has become a root.
-use Rattle.std.proofs.Common.{◌≡◌, ℕ, ◌<◌, ◌≤◌, ◌+◌, inl, inr, Bool, true, false, List, length, get_or, refl, sym, ◌∙◌, ap, subst, arith}
+use Rattle.std.proofs.Common.{◌≡◌, ℕ, ◌<◌, ◌+◌, inl, inr, Bool, true, false, List, length, get_or, refl, sym, ◌∙◌, ap, subst, arith}
 use Rattle.std.specs.Prelude.{All, Contains}
 use Rattle.std.proofs.lemmas.Bool.{both_ways, cases_Bool, cases_eq, false_from_ne_true}
 use Rattle.std.proofs.lemmas.List.{get_or_default}
@@ -14,7 +14,6 @@ use Rattle.xdg_problem.specs.Paths.{mothers}
 use Rattle.xdg_problem.specs.Places.{below, nodes, places}
 use Rattle.xdg_problem.specs.Problems.{IsProblem}
 use Rattle.xdg_problem.specs.Vectors.{shape}
-use Rattle.xdg_problem.proofs.Ordered.{numbers_within}
 use Rattle.xdg_problem.proofs.PlaceOrder.{is_place}
 use Rattle.xdg_rules.specs.Rules.{has, IsClosedFor, Takes, may_edges, must_edges}
 use Rattle.xdg_facts.specs.Rises.{has as has_node}
@@ -22,7 +21,6 @@ use Rattle.xdg_facts.proofs.Truths.{same_flag}
 use Rattle.xdg_rules.proofs.Among.{free_root, is_root, root_contained, root_free}
 use Rattle.xdg_rules.proofs.DecidingBoxes.{decided_edges}
 use Rattle.xdg_facts.proofs.Contained.{contains_filter}
-use Rattle.xdg_facts.proofs.Each.{each_contained}
 use Rattle.xdg_facts.proofs.Keeping.{filter_on, less_length}
 use Rattle.xdg_rules.proofs.Shrinking.{may_among, may_is, may_of, must_be, must_is, must_less, must_test}
 use Rattle.xdg_store.specs.Decisions.{IsDecision}
@@ -33,6 +31,7 @@ use Rattle.xdg_store.proofs.Kept.{on_edge}
 use Rattle.xdg_propcore.proofs.Losing.{kept_or_lost}
 use Rattle.xdg_pgraph.proofs.Branching.{musts_rule}
 use Rattle.xdg_pgraph.proofs.EdgesStay.{musts_stay}
+use Rattle.xdg_pgraph.proofs.Rising.{node_below}
 use Rattle.xdg_pgraph.proofs.Single.{not_more, one_mother_there}
 use Rattle.xdg_pgraph.specs.Musts.{AreMustsDone, HasDaughter, IsLost, IsMustOn, IsSettled}
 use Rattle.xdg_pgraph.specs.Ruling.{ForOthers}
@@ -105,8 +104,7 @@ module _ (parts : Parts) (problem : IsProblem parts) (group : Group) (old now : 
     root_before : (v : ℕ) → Contains (below (nodes parts)) v → is_root may v ≡ true → is_root was v ≡ true
     root_before v in_sentence root = free_root was v (λ e c into. elim (cases_Bool (has_node daughters v)) [
       | inl there ↦ (
-          let l = (each_contained (λ i. (0 ≤ i) × (i < 0 + nodes parts)) (below (nodes parts)) v (numbers_within 0 (nodes parts)) in_sentence).1 in
-          let s = (settled v (omega (arith, l)) there).entered in
+          let s = (settled v (node_below (nodes parts) v in_sentence) there).entered in
           root_free may v root s.0 s.1 s.2)
       | inr out ↦ root_free may v root e (left e c (ap (has_node daughters) into ∙ out)) into
     ])

@@ -3,6 +3,8 @@ use Rattle.std.proofs.Common.{◌≡◌, ℕ, ◌<◌, ◌≤◌, inl, inr, List
 use Rattle.std.specs.Prelude.{Contains}
 use Rattle.std.specs.List.{AllByRecursion}
 use Rattle.xdg_nodeset.specs.Nodes.{IsNodes}
+use Rattle.xdg_problem.specs.Places.{below}
+use Rattle.xdg_problem.proofs.Ordered.{numbers_within}
 use Rattle.xdg_facts.proofs.InOrder.{Ordered}
 use Rattle.xdg_facts.proofs.Each.{each_contained, each_weaker, each_both, each_map}
 use Rattle.xdg_facts.proofs.Contained.{contains_head, contains_cases, contains_none}
@@ -30,6 +32,11 @@ rising_same (x ∷ s) (y ∷ t) so to there back = ap₂ (λ n ns. n ∷ ns) sam
       | inl f ↦ absurd (let l = each_contained (λ m. x < m) s n above c in omega (arith, l, e, f))
       | inr later ↦ later
     ]
+
+-- ---- numbers below another
+
+pub node_below : (n v : ℕ) → Contains (below n) v → v < n
+node_below n v c = (let l = each_contained (λ i. (0 ≤ i) × (i < 0 + n)) (below n) v (numbers_within 0 n) c in let r = l.1 in omega (arith, r))
 
 -- ---- sets of nodes
 

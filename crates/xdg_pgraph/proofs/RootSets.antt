@@ -1,5 +1,5 @@
 -- The nodes into which no edge leads, as a set.
-use Rattle.std.proofs.Common.{◌≡◌, ℕ, ◌+◌, ◌<◌, ◌≤◌, ◌↔◌, ◌&&◌, not, IsTrue, List, [], ◌∷◌, length, sym, ◌∙◌, ap, arith}
+use Rattle.std.proofs.Common.{◌≡◌, ℕ, ◌<◌, ◌≤◌, ◌↔◌, ◌&&◌, not, IsTrue, List, [], ◌∷◌, length, sym, ◌∙◌, ap, arith}
 use Rattle.std.specs.Prelude.{Contains, nat_lt}
 use Rattle.std.proofs.lemmas.Bool.{both_ways, false_from_ne_true, lt-ltb, ltb-true, not-true, not_from_false}
 use Rattle.std.proofs.lemmas.List.{nil_from_length}
@@ -10,14 +10,13 @@ use Rattle.xdg_nodeset.proofs.TableSets.{both}
 use Rattle.xdg_problem.specs.declared.analysis.Edge.{Edge}
 use Rattle.xdg_problem.specs.Paths.{roots}
 use Rattle.xdg_problem.specs.Places.{below}
-use Rattle.xdg_problem.proofs.Ordered.{contains_numbers, numbers_ordered, numbers_within}
+use Rattle.xdg_problem.proofs.Ordered.{contains_numbers, numbers_ordered}
 use Rattle.xdg_rules.proofs.Among.{free_root, is_root, root_contained, root_free}
 use Rattle.xdg_pgraph.specs.declared.entered.Roots.TheVariants as rootss
 use Rattle.xdg_pgraph.specs.Entering.{Enters}
 use Rattle.xdg_pgraph.specs.Seeking.{RootsAre}
-use Rattle.xdg_pgraph.proofs.Rising.{nodes_rising, rising_same}
+use Rattle.xdg_pgraph.proofs.Rising.{node_below, nodes_rising, rising_same}
 use Rattle.xdg_facts.proofs.Contained.{contains_filter}
-use Rattle.xdg_facts.proofs.Each.{each_contained}
 use Rattle.xdg_facts.proofs.InOrder.{ordered_filter}
 
 module _ (edges : List Edge) (n : ℕ) (all some set : List ℕ) (whole : (k : ℕ) → has all k ≡ nat_lt k n) (free : (k : ℕ) → has set k ≡ (has all k && not (has some k))) (is : IsNodes set) (t : (k : ℕ) → IsTrue (has some k) ↔ Enters (Contains edges) k) where
@@ -31,8 +30,7 @@ module _ (edges : List Edge) (n : ℕ) (all some set : List ℕ) (whole : (k : �
   root_set : (v : ℕ) → Contains (roots n edges) v → Contains set v
   root_set v c =
       let r = root_contained n edges v c in
-      let within = each_contained (λ i. (0 ≤ i) × (i < 0 + n)) (below n) v (numbers_within 0 n) r.0 in
-      let l : v < n = (let k = within.1 in omega (arith, k)) in
+      let l = node_below n v r.0 in
       let out = false_from_ne_true (has some v) (λ h. (let s = (t v).0 h in root_free edges v r.1 s.0 s.1 s.2)) in
       contains_of_has set v (free v ∙ (both (has all v) (not (has some v))).1 (whole v ∙ lt-ltb v n l, not_from_false (has some v) out))
 

@@ -1,13 +1,12 @@
 -- The rules of roots, step by step.
-use Rattle.std.proofs.Common.{◌≡◌, ℕ, ◌+◌, ◌<◌, ◌≤◌, inl, inr, List, [], ◌∷◌, length, get_or, sym, ◌∙◌, ap, subst, arith}
+use Rattle.std.proofs.Common.{◌≡◌, ℕ, ◌<◌, ◌≤◌, inl, inr, List, [], ◌∷◌, length, get_or, sym, ◌∙◌, ap, subst, arith}
 use Rattle.std.specs.Prelude.{Contains}
 use Rattle.xdg_problem.specs.declared.analysis.Edge.{Edge}
 use Rattle.xdg_problem.specs.declared.parts.Group.{Group}
 use Rattle.xdg_problem.specs.declared.parts.Parts.{Parts}
 use Rattle.xdg_problem.specs.Arguments.{first_dim}
 use Rattle.xdg_problem.specs.Paths.{roots}
-use Rattle.xdg_problem.specs.Places.{below, nodes}
-use Rattle.xdg_problem.proofs.Ordered.{numbers_within}
+use Rattle.xdg_problem.specs.Places.{nodes}
 use Rattle.xdg_rules.proofs.Among.{root_contained}
 use Rattle.xdg_rules.specs.Rules.{IsPlaceOn, must_edges}
 use Rattle.xdg_store.specs.States.{State}
@@ -21,15 +20,13 @@ use Rattle.xdg_pgraph.specs.Seeking.{Aims, ToNode, RootsAre}
 use Rattle.xdg_pgraph.specs.Ruling.{RunsFor, ForRoot}
 use Rattle.xdg_pgraph.proofs.Ruled.{Never, Rule, part_cleared, part_none}
 use Rattle.xdg_facts.proofs.Contained.{contains_head}
-use Rattle.xdg_facts.proofs.Each.{each_contained}
+use Rattle.xdg_pgraph.proofs.Rising.{node_below}
 
 -- a node that is the only root is a node
 pub root_within : (n : ℕ) (edges : List Edge) (found : Roots) (w : ℕ) → RootsAre (roots n edges) found → found ≡ rootss.One w → w < n
 root_within n edges found w are is =
     let one : roots n edges ≡ w ∷ [] = subst (RootsAre (roots n edges)) is are in
-    let c = root_contained n edges w (subst (λ xs. Contains xs w) (sym one) (contains_head w [])) in
-    let l = each_contained (λ i. (0 ≤ i) × (i < 0 + n)) (below n) w (numbers_within 0 n) c.0 in
-    let r = l.1 in omega (arith, r)
+    node_below n w (root_contained n edges w (subst (λ xs. Contains xs w) (sym one) (contains_head w []))).0
 
 -- the roots by the edges of a dimension
 pub roots_same : (parts : Parts) (plane : Plane) (edges : ℕ → List Edge) (k : ℕ) → IsPlane parts plane → k ≡ plane.dim.0 → roots (nodes parts) (edges k) ≡ roots plane.nodes (edges plane.dim.0)

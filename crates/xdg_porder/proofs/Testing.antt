@@ -1,7 +1,7 @@
 -- What a test sees of a box in which all that it looks at is decided.
 use Rattle.std.proofs.Common.{◌≡◌, ℕ, ◌<◌, ◌+◌, ◌↔◌, inl, inr, Bool, true, false, List, [], length, get_or, refl, sym, ap, ◌∙◌, arith, subst}
 use Rattle.std.specs.Prelude.{Contains, AllPairs}
-use Rattle.std.proofs.lemmas.Bool.{cases_Bool, cases_lt, eq-eqb, eqb-true, false≢true}
+use Rattle.std.proofs.lemmas.Bool.{cases_lt, eq-eqb, eqb-true, false≢true}
 use Rattle.std.proofs.lemmas.List.{get_or_default, length-map}
 use Rattle.std.proofs.lemmas.List.Elements.{All-nil, All-cons, All-contains, All-contains_itself, All-weaker}
 use Rattle.xdg_base.specs.declared.ids.LabelId.{LabelId}
@@ -20,7 +20,7 @@ use Rattle.xdg_problem.specs.Places.{edge, nodes, places}
 use Rattle.xdg_problem.specs.Tests.{Test, IsTest, IsTestOf, looks_at, ordered_daughters, ordered_yields}
 use Rattle.xdg_problem.specs.Vectors.{shape}
 use Rattle.xdg_problem.proofs.PlaceOrder.{is_place, place_is}
-use Rattle.xdg_rules.specs.Rules.{has, may_edges, FailsTest, IsDecided, IsPlaceOn, TestDecided, TestPasses, attr_of_node, value_in}
+use Rattle.xdg_rules.specs.Rules.{may_edges, FailsTest, IsDecided, IsPlaceOn, TestDecided, TestPasses, attr_of_node, value_in}
 use Rattle.xdg_facts.proofs.Numbers.{below_two}
 use Rattle.xdg_problem.proofs.EachTest.{each_tested}
 use Rattle.xdg_rules.proofs.Shrinking.{may_exact}
@@ -149,26 +149,10 @@ module _ (parts : Parts) (group : Group) (box : List (List Bool)) (is : IsBox (s
         let must : May parts box e → Must parts box e = λ here. subst (λ i. Must parts box (edge i e.mother.0 e.label.0 e.daughter.0)) (sym on.1) (settled e.mother.0 place.mother e.label.0 (omega (arith, below, same)) e.daughter.0
         (subst (λ i. IsPlace parts (edge i e.mother.0 e.label.0 e.daughter.0)) on.1 place)
         (subst (λ i. May parts box (edge i e.mother.0 e.label.0 e.daughter.0)) on.1 here)) in
-        elim (cases_Bool (has box (edge_decision parts e) 0)) [
-          | inl here ↦ (
-            0,
-            here,
-            λ x there. elim (below_two x (edge_values parts box is e on.0 x there)) [
-              | inl zero_is ↦ zero_is
-              | inr one_is ↦ absurd (must here (subst (Has box (edge_decision parts e)) one_is there))
-            ],
-          )
-          | inr out ↦ elim (edge_some parts box is e on.0) [
-            | inl here ↦ absurd (false≢true (sym out ∙ here))
-            | inr there ↦ (
-              1,
-              there,
-              λ x h. elim (below_two x (edge_values parts box is e on.0 x h)) [
-                | inl zero_is ↦ absurd (false≢true (sym out ∙ subst (Has box (edge_decision parts e)) zero_is h))
-                | inr one_is ↦ one_is
-              ],
-            )
-          ]
+        let two = λ (x : ℕ) (h : Has box (edge_decision parts e) x). below_two x (edge_values parts box is e on.0 x h) in
+        elim (edge_some parts box is e on.0) [
+          | inl here ↦ (0, here, λ x h. elim (two x h) [ inl zero_is ↦ zero_is | inr one_is ↦ absurd (must here (subst (Has box (edge_decision parts e)) one_is h)) ])
+          | inr there ↦ (1, there, λ x h. elim (two x h) [ inl zero_is ↦ absurd (must (subst (Has box (edge_decision parts e)) zero_is h) there) | inr one_is ↦ one_is ])
         ]
 
     pub broken_fails : group.principle ≡ principles.Order → truth_of group.truths 0 ≡ true → (u : ℕ) → u < nodes parts → AreSettled parts group box → IsDecided box (own_of u) × IsBrokenAt parts group table box u → FailsTest parts group box
