@@ -67,8 +67,6 @@ pub tree_stops : (Told : Type 0) (before after : ℕ) (files : List ℕ → Opti
 tree_stops Told before after files name text (stops.Fault f) file within tells only = λ told. record { text = text; rejects = tree_rejected files name text f (file told) within tells only; place_is = refl }
 tree_stops Told before after files name text stops.OutOfMemory file within tells only = tt
 
--- ---- a text that is too long
-
 -- ---- what a shelf gives
 
 -- a file that is told has the bytes that were loaded

@@ -5,7 +5,7 @@ use Rattle.xdg_ast.specs.declared.names.Name.{Name}
 use Rattle.xdg_ast.specs.declared.expressions.ExprKind.{ExprKind}
 use Rattle.xdg_ast.specs.declared.expressions.ExprKind.TheVariants as v
 use Rattle.xdg_terms.specs.Forms.{Bindings}
-use Rattle.xdg_classes.specs.Bodies.{Pairs, Expr, Body, either, both, saying, calling, no_body, given, body}
+use Rattle.xdg_classes.specs.Bodies.{Pairs, Expr, Body, either, both, calling, no_body, given, body}
 use Rattle.xdg_classes.proofs.Bodied.{trees, body_dim, body_use}
 use Rattle.xdg_check.specs.Checked.{Parts, named_bodies}
 use Rattle.xdg_lexicon.specs.Denotes as den
@@ -18,9 +18,7 @@ use Rattle.xdg_facts.proofs.Lists.{from_place}
 
 pub record_denotes : (checked : Parts) (bs : Bindings) (kind : ExprKind) (dim : Name) (pairs lent : Pairs) (text : List ℕ) (p : Partial) (made : List Partial) → kind ≡ v.Dim dim pairs → text ≡ dim.text → lent ≡ pairs → made ≡ p ∷ []
     → SaysRecord checked.types.dims bs text lent p → Denotes checked.types.dims (named_bodies checked.classes) bs (body kind) made
-record_denotes checked bs kind dim pairs lent text p made is same borrowed one says =
-    subst (λ b. Denotes checked.types.dims (named_bodies checked.classes) bs b made) (sym (ap body is ∙ body_dim dim pairs)) (subst (Denotes checked.types.dims (named_bodies checked.classes) bs (saying dim pairs)) (sym one)
-    (den.record_said bs dim pairs p (subst (λ t. SaysRecord checked.types.dims bs t pairs p) same (subst (λ l. SaysRecord checked.types.dims bs text l p) borrowed says))))
+record_denotes checked bs kind dim pairs lent text p made is same borrowed one says = rw (ap body is ∙ body_dim dim pairs, one) (den.record_said bs dim pairs p (rw (same, borrowed) at says))
 
 -- what holds of a use holds of its body, and back
 module _ (P : Body → Type 0) (kind : ExprKind) (name : Name) (args : Option Pairs) (lent : Pairs) (is : kind ≡ v.Use name args) (same : lent ≡ given args) where

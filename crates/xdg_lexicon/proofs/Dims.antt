@@ -88,7 +88,3 @@ module _ (dims : List DimType) (bound : ℕ) (made : Partial) (low : length dims
     record { count = long (JoinsAt dims a b) s; each = λ k dim at. (at_dim (JoinsAt dims a b) s k dim at dim at).0 },
     record { count = long (JoinsAt dims a b) s; each = λ k dim at. (at_dim (JoinsAt dims a b) s k dim at dim at).1 },
   )
-
-  module _ (bs : Bindings) (name : List ℕ) (pairs : Pairs) (s : SoFar (ReadsAt dims bs name pairs) bound made) where
-    reads : (k : ℕ) (dim : DimType) → IsDim dims k dim → ReadsDim dim bs name pairs (said_of made k)
-    reads k dim at = at_dim (ReadsAt dims bs name pairs) s k dim at dim at

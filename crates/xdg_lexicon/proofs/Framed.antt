@@ -39,6 +39,11 @@ pushed new old f is = ap reverse is ∙ reverse-append old (f ∷ [])
 pub popped : (old new : List Frame) (f g : Frame) → old ≡ new ++ f ∷ [] → f ≡ g → reverse old ≡ g ∷ reverse new
 popped old new f g is same = pushed old new g (is ∙ ap (λ h. new ++ h ∷ []) same)
 
+-- a body that is entered with one more open around it
+pub opened : {checked : Parts} {whole : Body} {scope : Scope} {b : Body} {new : List Frame} (old : List Frame) (f : Frame) → new ≡ old ++ f ∷ [] → Stands checked scope b → IsOpen checked whole (f ∷ reverse old) scope b
+    → Enters checked whole (reverse new) scope b
+opened {checked} {whole} {scope} {b} {new} old f is stands around = record { stands = stands; around = subst (λ fs. IsOpen checked whole fs scope b) (sym (pushed new old f is)) around }
+
 -- ---- parts
 
 module _ (checked : Parts) (scope : Scope) (items : List Expr) where

@@ -69,8 +69,7 @@ module _ (dims : List DimType) (first second rest others : List Partial) (o p : 
   lists new each made now =
       let a = taken_out first rest o one popped is single.0 in
       let b = taken_out second others p other taken there single.1 in
-      subst (λ l. JoinsAll dims l second made) (sym a.1) (subst (λ l. JoinsAll dims (one ∷ []) l made) (sym b.1) (subst (JoinsAll dims (one ∷ []) (other ∷ [])) (sym (now ∙ ap (λ l. l ++ new) a.0))
-      (subst (JoinsAll dims (one ∷ []) (other ∷ [])) (append-nil new) (first_then one [] (other ∷ []) new [] each (no_first (other ∷ []))))))
+      rw (a.1, b.1, now, a.0) (subst (JoinsAll dims (one ∷ []) (other ∷ [])) (append-nil new) (first_then one [] (other ∷ []) new [] each (no_first (other ∷ []))))
 
   pub single_clash : told ≡ None → JoinsAll dims first second rest
   single_clash none = lists [] (clashes other [] [] (rw none at h) no_other) rest (sym (append-nil rest))

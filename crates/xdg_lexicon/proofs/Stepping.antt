@@ -191,11 +191,8 @@ module _ {parts : Parts} {defs : List EntryDef} {i : ℕ} {def : EntryDef} (with
   refused_only checked (stops.Fault f) same one answer told = only_refused (source_of parts) (definite parts checked) f (refused f same one) so_far.once one.1 answer told
   refused_only checked stops.OutOfMemory same one answer told = tt
 
-abbrev with_entries : List Entry → SoFar
-with_entries entries = record { uses = 0; combos = 0; entries = entries }
-
-pub expanded_none : (parts : Parts) (defs : List EntryDef) (entries : List Entry) → entries ≡ [] → ExpandedSoFar parts defs 0 (with_entries entries)
-expanded_none parts defs entries none = subst (λ l. ExpandedSoFar parts defs 0 (with_entries l)) (sym none) (record {
+pub expanded_none : (parts : Parts) (defs : List EntryDef) (entries : List Entry) → entries ≡ [] → ExpandedSoFar parts defs 0 (record { uses = 0; combos = 0; entries = entries })
+expanded_none parts defs entries none = rw none (record {
   all = no_more nothing_yet;
   once = tt;
   few = omega arith;

@@ -1,5 +1,5 @@
 use Rattle.std.proofs.Common.{◌≡◌, ◌+◌, ◌-◌, get_or, rules, refl, sym, arith, subst}
-use Rattle.xdg_lexicon.proofs.Taken.{TakenSoFar, taken_begun, mine_value, theirs_value, taken_clash, taken_further, taken_done}
+use Rattle.xdg_lexicon.proofs.Taken.{taken_begun, mine_value, theirs_value, taken_clash, taken_further, taken_done}
 use Rattle.xdg_lexicon.proofs.taking.join_taken.Goals.{After-index-fields-place}
 use Rattle.xdg_lexicon.proofs.taking.join_taken.Goals as goal
 
@@ -32,8 +32,7 @@ loop-left-preserved c =
     let at = here (goal.at.loop-left-preserved c).After-index-fields-place in
     let mine = c.take_last-mine in
     let theirs = c.take_last-theirs in
-    subst (λ n. TakenSoFar c.args.fields.now c.args.one c.args.other n mine.new.said theirs.new.said c.add.new.made) at.0
-    (taken_further _ at.1.0 c.loop-left.invariant mine.ensures.here theirs.ensures.here at.1.1 c.in_ok-join_values.field-0 c.in_ok-join_values.ensures.joins c.in-Some.is c.in_ok-add-in-Some.ensures
+    rw (← at.0) (taken_further _ at.1.0 c.loop-left.invariant mine.ensures.here theirs.ensures.here at.1.1 c.in_ok-join_values.field-0 c.in_ok-join_values.ensures.joins c.in-Some.is c.in_ok-add-in-Some.ensures
     mine.ensures.front mine.ensures.rises mine.ensures.below theirs.ensures.front theirs.ensures.rises theirs.ensures.below)
 
 pub returns : goal.returns

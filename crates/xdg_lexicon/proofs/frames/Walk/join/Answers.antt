@@ -2,10 +2,10 @@ use Rattle.std.proofs.Common.{◌≡◌, ◌<◌, ◌+◌, ◌-◌, ◌∙◌, l
 use Rattle.std.proofs.lemmas.List.{get_or_default}
 use Rattle.xdg_classes.specs.Bodies.{Expr, body}
 use Rattle.xdg_lexicon.specs.declared.frames.Frame.TheVariants as frame
-use Rattle.xdg_lexicon.specs.Frames.{open_in, IsOpen}
+use Rattle.xdg_lexicon.specs.Frames.{open_in}
 use Rattle.xdg_lexicon.specs.Partial.{ArePartial}
 use Rattle.xdg_lexicon.specs.Weights.{heavy, sized}
-use Rattle.xdg_lexicon.proofs.Framed.{pushed, all_joined, next_joined}
+use Rattle.xdg_lexicon.proofs.Framed.{opened, pushed, all_joined, next_joined}
 use Rattle.xdg_lexicon.proofs.Weighed.{to_last}
 use Rattle.xdg_lexicon.proofs.frames.Walk.join.Goals.{After-dims-dims}
 use Rattle.xdg_lexicon.proofs.frames.Walk.join.Goals as goal
@@ -30,7 +30,6 @@ returns-then-place-eq0-clause-leaves c =
 pub enter-requires : goal.enter-requires
 enter-requires c =
     let l = c.requires.leaves in
-    let checked = c.args.checked.now in
     let whole = body c.args.self.now.whole.now in
     let walk = c.args.self.now in
     let items = c.args.members.now in
@@ -41,12 +40,7 @@ enter-requires c =
     let at : e ≡ get_or items next e = get_or_default items next c.index-members-next.result e inside in
     let dims = dims_are (goal.at.enter-requires c).After-dims-dims in
     let further = next_joined whole (open_in walk) l.denotes l.around.0 l.around.1 (rw dims at c.in_ok-both.ensures.joins) (rw dims at c.in_ok-both.ensures.partial) e next before at in
-    record {
-      enters = record {
-        stands = further.0;
-        around = subst (λ fs. IsOpen checked whole fs walk.scope (body e.kind)) (sym (pushed c.add.new.frames.items walk.frames.items (frame.Joining c.args.members next c.in_ok-both.both) c.in_ok-add.ensures)) (further.1, l.around.1);
-      };
-    }
+    record { enters = opened walk.frames.items (frame.Joining c.args.members next c.in_ok-both.both) c.in_ok-add.ensures further.0 (further.1, l.around.1) }
 
 pub returns-clause-less : goal.returns-clause-less
 returns-clause-less c =

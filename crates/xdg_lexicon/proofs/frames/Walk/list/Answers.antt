@@ -1,10 +1,10 @@
-use Rattle.std.proofs.Common.{◌≡◌, ◌<◌, ◌+◌, length, get_or, arith, ap, sym, subst}
+use Rattle.std.proofs.Common.{◌≡◌, ◌<◌, ◌+◌, length, get_or, arith, ap}
 use Rattle.std.proofs.lemmas.List.{get_or_default}
 use Rattle.xdg_classes.specs.Bodies.{Expr, body}
 use Rattle.xdg_lexicon.specs.declared.frames.Frame.TheVariants as frame
-use Rattle.xdg_lexicon.specs.Frames.{open_in, IsOpen}
+use Rattle.xdg_lexicon.specs.Frames.{open_in}
 use Rattle.xdg_lexicon.specs.Weights.{heavy, sized}
-use Rattle.xdg_lexicon.proofs.Framed.{pushed, all_listed, next_listed}
+use Rattle.xdg_lexicon.proofs.Framed.{opened, pushed, all_listed, next_listed}
 use Rattle.xdg_lexicon.proofs.Weighed.{from_first}
 use Rattle.xdg_lexicon.proofs.frames.Walk.list.Goals as goal
 use Rattle.xdg_facts.proofs.Options.{if_ok}
@@ -29,7 +29,6 @@ bounds-members-next c =
 pub enter-requires : goal.enter-requires
 enter-requires c =
     let l = c.requires.leaves in
-    let checked = c.args.checked.now in
     let whole = body c.args.self.now.whole.now in
     let walk = c.args.self.now in
     let items = c.args.members.now in
@@ -38,12 +37,7 @@ enter-requires c =
     let e : Expr = get_or items next c.index-members-next.result in
     let at : e ≡ get_or items next e = get_or_default items next c.index-members-next.result e inside in
     let further = next_listed whole (open_in walk) l.denotes l.partial l.around.0 l.around.1 c.in_ok-append.ensures.items e inside at in
-    record {
-      enters = record {
-        stands = further.0;
-        around = subst (λ fs. IsOpen checked whole fs walk.scope (body e.kind)) (sym (pushed c.add.new.frames.items walk.frames.items (frame.Listing c.args.members next c.append.new.self) c.in_ok-add.ensures)) (further.1, l.around.1);
-      };
-    }
+    record { enters = opened walk.frames.items (frame.Listing c.args.members next c.append.new.self) c.in_ok-add.ensures further.0 (further.1, l.around.1) }
 
 pub returns-clause-less : goal.returns-clause-less
 returns-clause-less c =
