@@ -3,6 +3,10 @@ use Rattle.std.proofs.Common.{◌≡◌, ℕ, ◌+◌, ◌<◌, ◌⊎◌, inl, 
 use Rattle.std.proofs.lemmas.Bool.{cases_eq}
 use Rattle.xdg_problem.specs.declared.analysis.Edge.{Edge}
 
+-- what is below the next number is below this one, or is this one
+pub up_to : (k n : ℕ) → n < k + 1 → (n < k) ⊎ (n ≡ k)
+up_to k n less = elim (cases_eq n k) [ inl same ↦ inr same | inr other ↦ inl (omega (arith, less, other)) ]
+
 -- something holds of an edge, whose number is below a bound
 abbrev pub Below : (Edge → ℕ) → (Edge → Type 0) → ℕ → Edge → Type 0
 Below number P k e = P e × (number e < k)
@@ -23,10 +27,7 @@ module _ (number : Edge → ℕ) (P : Edge → Type 0) where
     below_last x = (x.0, (let l = x.1 in omega (arith, l)))
 
     pub below_cases : Below number P (k + 1) e → Below number P k e ⊎ At number P k e
-    below_cases x = elim (cases_eq (number e) k) [
-      | inl same ↦ inr (x.0, same)
-      | inr other ↦ inl (x.0, (let l = x.1 in omega (arith, l, other)))
-    ]
+    below_cases x = elim (up_to k (number e) x.1) [ inl less ↦ inl (x.0, less) | inr same ↦ inr (x.0, same) ]
 
     pub below_apart : Below number P k e → At number P k e → ⊥
     below_apart x y = (let l = x.1 in let same = y.1 in omega (arith, l, same))

@@ -22,7 +22,8 @@ use Rattle.xdg_pgraph.specs.Entering.{Leaving, Tells}
 use Rattle.xdg_pgraph.specs.Planes.{IsOnPlane, IsPlane}
 use Rattle.xdg_pgraph.specs.Ruling.{RunsFor, OneLabelOf}
 use Rattle.xdg_pgraph.specs.Seeking.{Aims, Doubled, Finds, FromTo, Into, IsOther, ToNode}
-use Rattle.xdg_pgraph.proofs.Ruled.{AtNode, AtThose, Outside, Rule, RunsPart, node_cleared, nodes_all, part_like, part_none, part_then, still_out, up_to}
+use Rattle.xdg_pgraph.proofs.Below.{up_to}
+use Rattle.xdg_pgraph.proofs.Ruled.{AtNode, AtThose, Outside, Rule, RunsPart, node_cleared, nodes_all, part_like, part_none, part_then, still_out}
 use Rattle.xdg_pgraph.proofs.Skipped.{must_may, place_may}
 
 -- ---- an edge beside which another was found

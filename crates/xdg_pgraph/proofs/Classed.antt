@@ -2,7 +2,7 @@
 use Rattle.std.proofs.Common.{◌≡◌, ℕ, ◌<◌, ◌≤◌, ◌+◌, ◌^◌, ◌⊎◌, ◌↔◌, inl, inr, Bool, List, length, slice_index_or, sym, ◌∙◌, ap, subst, arith}
 use lib.Bits.{bit_and}
 use Rattle.std.specs.Int.{bit_at, trailing_zeros, w64}
-use Rattle.std.proofs.lemmas.Bool.{cases_eq, cases_lt}
+use Rattle.std.proofs.lemmas.Bool.{cases_eq}
 use Rattle.std.proofs.lemmas.List.{get_or_default}
 use Rattle.std.proofs.lemmas.Nat.{and_le_r}
 use Rattle.std.proofs.lemmas.Nat.Bits.{bit_at-lt, bit_at-trailing_zeros, bit_at-zero, bit_at_and}
@@ -12,6 +12,7 @@ use Rattle.xdg_pgraph.specs.declared.allowances.Class.{Class}
 use Rattle.xdg_pgraph.specs.declared.bundle.Bundle.{Bundle}
 use Rattle.xdg_pgraph.specs.Allowances.{AreClasses, IsClass}
 use Rattle.xdg_pgraph.specs.Bundles.{numbers_of}
+use Rattle.xdg_pgraph.proofs.Below.{up_to}
 
 -- one of the first classes has an entry
 pub record IsIn (classes : List Class) (k c : ℕ) : Type 0 where
@@ -54,10 +55,9 @@ module _ (count : ℕ) (group : Group) (bundle : Bundle) (classes : List Class) 
 
     -- it has an entry, or one before does
     pub last_or : (c : ℕ) → IsIn classes (k + 1) c → IsIn classes k c ⊎ (bit_at class_at.entries c ≡ 1)
-    last_or c i = elim (cases_lt i.place k) [
+    last_or c i = elim (up_to k i.place i.before) [
       | inl less ↦ inl (record { class = i.class; place = i.place; before = less; within = i.within; is = i.is; member = i.member })
-      | inr past ↦
-          let at : i.place ≡ k = (let l = i.before in omega (arith, l, past)) in
+      | inr at ↦
           let same : i.class ≡ class_at = sym i.is ∙ ap (λ p. slice_index_or classes p i.class) at ∙ get_or_default classes k i.class d within in
           inr (subst (λ (x : Class). bit_at x.entries c ≡ 1) same i.member)
     ]

@@ -1,8 +1,8 @@
 -- Where no edge must be present that needed not be before, what goes by such edges takes no more than before, and the rules that go by the
 -- edges that may be take something only at the daughters of lost edges, or where one of these has become a root.
-use Rattle.std.proofs.Common.{◌≡◌, ℕ, ◌<◌, ◌+◌, inl, inr, Bool, true, false, List, length, get_or, refl, sym, ◌∙◌, ap, subst, arith}
+use Rattle.std.proofs.Common.{◌≡◌, ℕ, ◌<◌, ◌+◌, inl, inr, Bool, true, false, List, length, get_or, refl, ◌∙◌, ap, subst, arith}
 use Rattle.std.specs.Prelude.{All, Contains}
-use Rattle.std.proofs.lemmas.Bool.{both_ways, cases_Bool, cases_eq, false_from_ne_true}
+use Rattle.std.proofs.lemmas.Bool.{both_ways, cases_Bool, false_from_ne_true}
 use Rattle.std.proofs.lemmas.List.{get_or_default}
 use Rattle.xdg_problem.specs.declared.analysis.Edge.{Edge}
 use Rattle.xdg_problem.specs.declared.parts.Group.{Group}
@@ -20,6 +20,7 @@ use Rattle.xdg_facts.specs.Rises.{has as has_node}
 use Rattle.xdg_facts.proofs.Truths.{same_flag}
 use Rattle.xdg_rules.proofs.Among.{free_root, is_root, root_contained, root_free}
 use Rattle.xdg_rules.proofs.DecidingBoxes.{decided_edges}
+use Rattle.xdg_facts.proofs.Numbers.{all_next}
 use Rattle.xdg_facts.proofs.Contained.{contains_filter}
 use Rattle.xdg_facts.proofs.Keeping.{filter_on, less_length}
 use Rattle.xdg_rules.proofs.Shrinking.{may_among, may_is, may_of, must_be, must_is, must_less, must_test}
@@ -40,17 +41,16 @@ use Rattle.xdg_pgraph.specs.Ruling.{ForOthers}
 
 -- the first decisions, so many, are on edges that need not be, and have their daughters among some nodes
 abbrev pub AreLost : Parts → List (List Bool) → ℕ → List Decision → ℕ → List ℕ → Type 0
-AreLost parts box dim removed count daughters = (k : ℕ) (d : Decision) → k < count → IsLost parts box dim daughters (get_or removed k d)
+AreLost parts box dim removed count daughters = (k : ℕ) → k < count → (d : Decision) → IsLost parts box dim daughters (get_or removed k d)
 
 kept : (dim : ℕ) (old new : List ℕ) (d : Decision) → ((n : ℕ) → has_node old n ≡ true → has_node new n ≡ true) → HasDaughter dim old d → HasDaughter dim new d
 kept dim old new (decisions.Place e) stays h = λ on. stays e.daughter.0 (h on)
 kept dim old new d stays h = tt
 
 pub lost_more : (parts : Parts) (box : List (List Bool)) (dim : ℕ) (removed : List Decision) (k : ℕ) (default : Decision) (old new : List ℕ) → k < length removed → (IsMustOn parts box dim (get_or removed k default) → ⊥) → HasDaughter dim new (get_or removed k default) → ((n : ℕ) → has_node old n ≡ true → has_node new n ≡ true) → AreLost parts box dim removed k old → AreLost parts box dim removed (k + 1) new
-lost_more parts box dim removed k default old new within free here stays before i d l = elim (cases_eq i k) [
-  | inl q ↦ subst (IsLost parts box dim new) (get_or_default removed k default d within ∙ ap (λ j. get_or removed j d) (sym q)) (free, here)
-  | inr f ↦ (let b = before i d (omega (arith, l, f)) in (b.0, kept dim old new (get_or removed i d) stays b.1))
-]
+lost_more parts box dim removed k default old new within free here stays before = all_next (λ i. (d : Decision) → IsLost parts box dim new (get_or removed i d)) k
+    (λ i l d. (let b = before i l d in (b.0, kept dim old new (get_or removed i d) stays b.1)))
+    (λ d. subst (IsLost parts box dim new) (get_or_default removed k default d within) (free, here))
 
 -- ---- all of them
 

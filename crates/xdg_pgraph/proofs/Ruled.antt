@@ -1,5 +1,5 @@
 -- What a rule takes, part by part.
-use Rattle.std.proofs.Common.{◌≡◌, ℕ, ◌+◌, ◌<◌, ◌⊎◌, ◌||◌, inl, inr, Bool, true, false, List, ◌∷◌, refl, ap, sym, ◌∙◌, subst, arith}
+use Rattle.std.proofs.Common.{◌≡◌, ℕ, ◌⊎◌, ◌||◌, inl, inr, Bool, true, false, List, ◌∷◌, refl, ap, sym, ◌∙◌, subst}
 use Rattle.std.proofs.lemmas.Bool.{cases_eq, ne_eqb}
 use Rattle.xdg_facts.specs.Rises.{has}
 use Rattle.xdg_problem.specs.declared.parts.Group.{Group}
@@ -97,10 +97,6 @@ still_out left rest v is w out = elim (cases_eq w v) [
   | inl same ↦ inr same
   | inr other ↦ inl (subst (λ s. has s w ≡ false) (sym is) (ap (λ b. b || has rest w) (ne_eqb v w (λ e. other (sym e))) ∙ out))
 ]
-
--- what is below the next number is below this one, or is this one
-pub up_to : (k n : ℕ) → n < k + 1 → (n < k) ⊎ (n ≡ k)
-up_to k n less = elim (cases_eq n k) [ inl same ↦ inr same | inr other ↦ inl (omega (arith, less, other)) ]
 
 -- what a rule takes at a node, of each value that it takes
 abbrev pub AtNode : Rule → Type 0

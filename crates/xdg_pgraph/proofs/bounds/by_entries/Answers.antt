@@ -1,11 +1,11 @@
 use Rattle.std.proofs.Common.{◌≡◌, ◌<◌, ◌+◌, ◌∙◌, [], inl, inr, false, true, length, get_or, ap, refl, subst, arith}
-use Rattle.std.proofs.lemmas.Bool.{cases_lt}
 use Rattle.xdg_problem.specs.declared.parts.Parts.{Parts}
 use Rattle.xdg_problem.specs.Boxes.{Has, entry_decision}
 use Rattle.xdg_rules.specs.Rules.{HasNoneWithin}
 use Rattle.xdg_graph.proofs.Remaining.{entry_end}
 use Rattle.xdg_pgraph.specs.Bounding.{Widens}
 use Rattle.xdg_pgraph.specs.Bundles.{numbers_of}
+use Rattle.xdg_pgraph.proofs.Below.{up_to}
 use Rattle.xdg_pgraph.proofs.Allowed.{tells_next, tells_skip, tells_start}
 use Rattle.xdg_pgraph.proofs.bounds.by_entries.Goals as goal
 
@@ -23,9 +23,9 @@ loop-place-init c = tells_start c.args.store.now.now c.args.bundle.node (numbers
 
 pub loop-place-preserved-then-not-entry_in : goal.loop-place-preserved-then-not-entry_in
 loop-place-preserved-then-not-entry_in c = tells_skip c.args.store.now.now c.args.bundle.node (numbers_of c.args.bundle.way c.args.group.now c.args.bundle.node c.args.bundle.label) 128 c.args.least c.args.most (λ k. k < c.loop-place.place) (λ k. k < c.loop-place.place + 1) c.loop-place.looked
-    (λ k l has. elim (cases_lt k c.loop-place.place) [
+    (λ k l has. elim (up_to c.loop-place.place k l) [
       | inl less ↦ less
-      | inr past ↦ absurd (let e : k ≡ c.loop-place.place = omega (arith, l, past) in let t : false ≡ true = c.if-not-entry_in.ensures.exact.1 (subst (Has c.args.store.now.now (entry_decision c.args.bundle.node)) e has) in cc)
+      | inr e ↦ absurd (let t : false ≡ true = c.if-not-entry_in.ensures.exact.1 (subst (Has c.args.store.now.now (entry_decision c.args.bundle.node)) e has) in cc)
     ])
     c.loop-place.invariant
 
@@ -34,9 +34,9 @@ loop-place-preserved c =
     let same = c.numbers_at-numbers.ensures.same c.args.group.now c.features_of-candidates.ensures in
     tells_next c.args.store.now.now c.args.bundle.node (numbers_of c.args.bundle.way c.args.group.now c.args.bundle.node c.args.bundle.label) 128 c.args.least c.args.most (λ k. k < c.loop-place.place) (λ k. k < c.loop-place.place + 1) (numbers_of c.args.bundle.way c.args.group.now c.args.bundle.node c.args.bundle.label c.loop-place.place) c.loop-place.looked c.with-looked.result c.loop-place.place
     (c.if-not-entry_in.ensures.exact.0 refl) refl
-    (λ k l has. elim (cases_lt k c.loop-place.place) [
+    (λ k l has. elim (up_to c.loop-place.place k l) [
       | inl less ↦ inl less
-      | inr past ↦ inr (let e : k ≡ c.loop-place.place = omega (arith, l, past) in ap (numbers_of c.args.bundle.way c.args.group.now c.args.bundle.node c.args.bundle.label) e)
+      | inr e ↦ inr (ap (numbers_of c.args.bundle.way c.args.group.now c.args.bundle.node c.args.bundle.label) e)
     ])
     (subst (λ row. Widens row c.loop-place.looked.allowed c.with-looked.result.allowed) same c.with-looked.ensures.allowed)
     (λ not. (let both = c.with-looked.ensures.barred not in (both.0, subst (λ row. HasNoneWithin row c.args.least c.args.most → ⊥) same both.1)))

@@ -11,4 +11,4 @@ pub loop-decision-preserved : goal.loop-decision-preserved
 loop-decision-preserved c = lost_more c.args.store.now.parts c.args.store.now.now c.args.dim.0 c.args.decisions.now c.loop-decision.decision-index _ c.loop-decision.daughters c.with_daughter-daughters.result c.loop-decision-test.true (λ must. false≢true (sym c.if-is_must.false ∙ c.is_must.ensures.1 must)) c.with_daughter-daughters.ensures.here c.with_daughter-daughters.ensures.stays c.loop-decision.invariant
 
 pub returns : goal.returns
-returns c i d l = (let t = c.loop-decision-test.false in c.loop-decision.invariant i d (omega (arith, l, t)))
+returns c i d l = (let t = c.loop-decision-test.false in c.loop-decision.invariant i (omega (arith, l, t)) d)
