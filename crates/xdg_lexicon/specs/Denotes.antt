@@ -5,7 +5,7 @@ use Rattle.xdg_names.specs.Texts.{place_of}
 use Rattle.xdg_types.specs.declared.table.DimType.{DimType}
 use Rattle.xdg_terms.specs.Forms.{Bindings}
 use Rattle.xdg_terms.specs.Closed.{closed}
-use Rattle.xdg_classes.specs.Bodies.{Pairs, Body, either, both, saying, calling, Bodies, no_body, body_then, body, Called, calls}
+use Rattle.xdg_classes.specs.Bodies.{Pairs, Body, either, both, saying, calling, Bodies, no_body, body_then, Called, calls}
 use Rattle.xdg_classes.specs.Wants.{NamedBody}
 use Rattle.xdg_check.specs.Checked.{Parts}
 use Rattle.xdg_check.specs.Counts.{class_texts}
