@@ -36,26 +36,24 @@ scalars_escape : (cs : List ℕ) → all_scalars cs ≡ true → all_scalars (es
 scalars_escape [] a = refl
 scalars_escape (c ∷ cs) a =
     let parts = and_parts _ (all_scalars cs) a in
-    cond_both (is_escaped c) (92 ∷ c ∷ []) (c ∷ []) (λ l. all_scalars (l ++ escape cs) ≡ true)
-    (λ _. and_from _ (all_scalars (escape cs)) parts.0 (scalars_escape cs parts.1))
-    (λ _. and_from _ (all_scalars (escape cs)) parts.0 (scalars_escape cs parts.1))
+    let one : all_scalars (c ∷ []) ≡ true = and_from _ true parts.0 refl in
+    scalars_append (escaped_byte c) (escape cs) (cond_both (is_escaped c) (92 ∷ c ∷ []) (c ∷ []) (λ l. all_scalars l ≡ true) (λ _. one) (λ _. one)) (scalars_escape cs parts.1)
 
 -- ---- what escaped characters stand for
+
+inside_next : (start : ℕ) (before added : List ℕ) (content size c : ℕ) (cs : List ℕ) → escape (c ∷ cs) ≡ added ++ escape cs → len_utf8 c ≡ size → IsInside start ((before ++ added) ++ escape cs) ((content + size) + size_of cs) None
+    → IsInside start (before ++ escape (c ∷ cs)) (content + size_of (c ∷ cs)) None
+inside_next start before added content size c cs is long more =
+    let all : (content + size) + size_of cs ≡ content + size_of (c ∷ cs) = omega (arith, length-append (encode_utf8 c) (encode_utf8_all cs), length-encode c, long) in
+    subst (λ n. IsInside start (before ++ escape (c ∷ cs)) n None) all
+    (subst (λ l. IsInside start l ((content + size) + size_of cs) None) (append_assoc before added (escape cs) ∙ ap (λ l. before ++ l) (sym is)) more)
 
 -- escaped characters go on the inside of a quoted text
 inside_more : (start : ℕ) (before : List ℕ) (content : ℕ) (cs : List ℕ) → IsInside start before content None → IsInside start (before ++ escape cs) (content + size_of cs) None
 inside_more start before content [] is = subst (λ l. IsInside start l (content + 0) None) (sym (append-nil before)) (subst (λ n. IsInside start before n None) (omega arith) is)
 inside_more start before content (c ∷ cs) is = elim (cases_Bool (is_escaped c)) as (λ _. IsInside start (before ++ escape (c ∷ cs)) (content + size_of (c ∷ cs)) None) [
-  | inl t ↦
-      let size : (content + 1) + size_of cs ≡ content + size_of (c ∷ cs) = omega (arith, length-append (encode_utf8 c) (encode_utf8_all cs), length-encode c, len_utf8_ascii c (escapable_low c t)) in
-      subst (λ n. IsInside start (before ++ escape (c ∷ cs)) n None) size
-      (subst (λ l. IsInside start l ((content + 1) + size_of cs) None) (append_assoc before (92 ∷ c ∷ []) (escape cs) ∙ ap (λ l. before ++ l) (sym (escape_taken c cs t)))
-      (inside_more start (before ++ 92 ∷ c ∷ []) (content + 1) cs (escaped before content None c is t)))
-  | inr f ↦
-      let size : (content + len_utf8 c) + size_of cs ≡ content + size_of (c ∷ cs) = omega (arith, length-append (encode_utf8 c) (encode_utf8_all cs), length-encode c) in
-      subst (λ n. IsInside start (before ++ escape (c ∷ cs)) n None) size
-      (subst (λ l. IsInside start l ((content + len_utf8 c) + size_of cs) None) (append_assoc before (c ∷ []) (escape cs) ∙ ap (λ l. before ++ l) (sym (escape_left c cs f)))
-      (inside_more start (before ++ c ∷ []) (content + len_utf8 c) cs (plain before content None c is f)))
+  | inl t ↦ inside_next start before (92 ∷ c ∷ []) content 1 c cs (escape_taken c cs t) (len_utf8_ascii c (escapable_low c t)) (inside_more start (before ++ 92 ∷ c ∷ []) (content + 1) cs (escaped before content None c is t))
+  | inr f ↦ inside_next start before (c ∷ []) content (len_utf8 c) c cs (escape_left c cs f) refl (inside_more start (before ++ c ∷ []) (content + len_utf8 c) cs (plain before content None c is f))
 ]
 
 undone_plain : (c : ℕ) (cs : List ℕ) → is_escaped c ≡ false → undone false (c ∷ cs) ≡ c ∷ undone false cs
