@@ -43,13 +43,15 @@ least_first sizes P t f = (first_below sizes P t f, λ other. first_at_most size
 
 -- The tuples of one to three sizes, from three numbers of which those that they have no place for are below 1.
 module _ (P : List ℕ → Type 0) where
-  kept : (n : ℕ) (sizes : List ℕ) → nat_lt (length sizes) 3 ≡ true → ((a : ℕ) → a < n → (b : ℕ) → b < get_or sizes 0 1 → (c : ℕ) → c < get_or sizes 1 1 → P (a ∷ take (length sizes) (b ∷ c ∷ []))) → (t : List ℕ) → AreBelow (n ∷ sizes) t → P t
+  kept : (n : ℕ) (sizes : List ℕ) → nat_lt (length sizes) 3 ≡ true → ((a : ℕ) → a < n → (b : ℕ) → b < get_or sizes 0 1 → (c : ℕ) → c < get_or sizes 1 1 → P (a ∷ take (length sizes) (b ∷ c ∷ [])))
+      → (t : List ℕ) → AreBelow (n ∷ sizes) t → P t
   kept n [] few h = tuples_of (n ∷ []) P (λ a l. h a l 0 (omega arith) 0 (omega arith))
   kept n (m ∷ []) few h = tuples_of (n ∷ m ∷ []) P (λ a l b k. h a l b k 0 (omega arith))
   kept n (m ∷ k ∷ []) few h = tuples_of (n ∷ m ∷ k ∷ []) P h
   kept n (m ∷ k ∷ j ∷ sizes) few h = absurd (omega (arith, ltb-true _ _ few))
 
-  least : (n : ℕ) (sizes : List ℕ) (u x y : ℕ) → nat_lt (length sizes) 3 ≡ true → FirstThree n (get_or sizes 0 1) (get_or sizes 1 1) (λ a b c. P (a ∷ take (length sizes) (b ∷ c ∷ []))) u x y → Least (n ∷ sizes) P (u ∷ take (length sizes) (x ∷ y ∷ []))
+  least : (n : ℕ) (sizes : List ℕ) (u x y : ℕ) → nat_lt (length sizes) 3 ≡ true → FirstThree n (get_or sizes 0 1) (get_or sizes 1 1) (λ a b c. P (a ∷ take (length sizes) (b ∷ c ∷ []))) u x y
+      → Least (n ∷ sizes) P (u ∷ take (length sizes) (x ∷ y ∷ []))
   least n [] u x y few f = least_first (n ∷ []) P (u ∷ []) (f.within, f.here.here.fails, λ a l. f.before a l 0 (omega arith) 0 (omega arith))
   least n (m ∷ []) u x y few f = least_first (n ∷ m ∷ []) P (u ∷ x ∷ []) (f.within, (f.here.within, f.here.here.fails, λ b l. f.here.before b l 0 (omega arith)), λ a l b k. f.before a l b k 0 (omega arith))
   least n (m ∷ k ∷ []) u x y few f = least_first (n ∷ m ∷ k ∷ []) P (u ∷ x ∷ y ∷ []) (f.within, (f.here.within, (f.here.here.within, f.here.here.fails, f.here.here.before), f.here.before), f.before)

@@ -60,7 +60,8 @@ tallied_here condition dim edges i old new e a b l at d ea eb step t = record {
   exact = λ k m.
       (rw (ea, eb) at step k m)
       ∙ ap (λ n. n + cond ((first_key condition e == k) && (second_key condition e == m)) 1 0) (t.exact k m)
-      ∙ sym (ap (count_by (λ f. (first_key condition f == k) && (second_key condition f == m))) (on_here dim edges i e l at d) ∙ sum_by_push (λ (f : Edge). cond ((first_key condition f == k) && (second_key condition f == m)) 1 0) (edges_on dim (take i edges)) e);
+      ∙ sym (ap (count_by (λ f. (first_key condition f == k) && (second_key condition f == m))) (on_here dim edges i e l at d)
+      ∙ sum_by_push (λ (f : Edge). cond ((first_key condition f == k) && (second_key condition f == m)) 1 0) (edges_on dim (take i edges)) e);
 }
 
 pub tallied_over : (condition : Condition) (dim : ℕ) (edges : List Edge) (i : ℕ) (table : List (List ℕ)) (e : Edge) → i < length edges → e ≡ get_or edges i e → (e.dim.0 ≡ dim → ⊥) → Tallied condition dim edges i table → Tallied condition dim edges (i + 1) table
