@@ -1,7 +1,7 @@
 -- Whether a set of nodes has members, and what that says of other sets.
 use Rattle.std.proofs.Common.{◌≡◌, ◌↔◌, ◌⊎◌, ℕ, ◌<◌, IsTrue, inl, inr, zero, suc, Bool, true, false, ◌&&◌, List, length, refl, sym, ◌∙◌, arith}
 use Rattle.std.specs.Prelude.{not, ◌==◌}
-use Rattle.std.proofs.lemmas.Bool.{cases_Bool, and_parts, and_from, eqb-true, false≢true, false_from_ne_true, not_from_false, both_ways, not-true}
+use Rattle.std.proofs.lemmas.Bool.{cases_Bool, and_parts, and_from, eq-eqb, eqb-true, false≢true, false_from_ne_true, not_from_false, both_ways, not-true}
 use Rattle.xdg_graph.specs.Every.{IsEvery}
 use Rattle.xdg_formula_value.specs.Rows.{Over}
 use Rattle.xdg_facts.proofs.Rising.{contains_of_has}
