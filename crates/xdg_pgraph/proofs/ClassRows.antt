@@ -1,5 +1,5 @@
 -- The rows of classes of all bundles.
-use Rattle.std.proofs.Common.{◌≡◌, ℕ, ◌<◌, ◌≤◌, ◌+◌, ◌*◌, inl, inr, List, [], ◌∷◌, ◌++◌, length, get_or, refl, ap, sym, ◌∙◌, arith, subst}
+use Rattle.std.proofs.Common.{◌≡◌, ℕ, ◌<◌, ◌+◌, ◌*◌, inl, inr, List, [], ◌∷◌, ◌++◌, length, get_or, refl, ap, sym, ◌∙◌, arith, subst}
 use Rattle.std.proofs.lemmas.Bool.{cases_eq, cases_lt}
 use Rattle.std.proofs.lemmas.List.{get_or_append_left, get_or_past, get_or_push, length_push}
 use Rattle.xdg_problem.specs.declared.parts.Group.{Group}
@@ -42,10 +42,6 @@ same_bundle labels a b l k e =
 -- ---- one row after another
 
 module _ (parts : Parts) (group : Group) (labels : ℕ) where
-  -- behind the rows there is none
-  past : (rows : List (List Class)) (bundle : Bundle) → length rows ≤ class_place labels bundle → HasClasses parts group bundle (get_or rows (class_place labels bundle) [])
-  past rows bundle behind some = absurd (some (get_or_past rows (class_place labels bundle) [] behind))
-
   pub rows_more : (rows : List (List Class)) (bundle : Bundle) (row : List Class) → bundle.label < labels → length rows ≡ class_place labels bundle → HasClasses parts group bundle row → AreRows parts group labels rows → AreRows parts group labels (rows ++ row ∷ [])
   rows_more rows bundle row l at has are other k = elim (cases_lt (class_place labels other) (length rows)) [
     | inl before ↦ subst (HasClasses parts group other) (sym (get_or_append_left rows (row ∷ []) [] (class_place labels other) before)) (are other k)
@@ -54,7 +50,7 @@ module _ (parts : Parts) (group : Group) (labels : ℕ) where
           let same : bundle ≡ other = same_bundle labels bundle other l k (sym at ∙ sym here) in
           subst (λ it. HasClasses parts group it (get_or (rows ++ row ∷ []) (class_place labels it) [])) same
           (subst (HasClasses parts group bundle) (sym (get_or_push rows row [] (class_place labels bundle) at)) has)
-      | inr apart ↦ past (rows ++ row ∷ []) other (let long = length_push rows row in omega (arith, long, behind, apart))
+      | inr apart ↦ (λ some. absurd (some (get_or_past (rows ++ row ∷ []) (class_place labels other) [] (let long = length_push rows row in omega (arith, long, behind, apart)))))
     ]
   ]
 

@@ -47,20 +47,15 @@ module _ (plane : Plane) (p q : Progress) (old new : State) (plane_is : IsPlane 
   pub no_root_runs : (found : Roots) → RootsAre (roots plane.nodes (must_edges old.parts old.now dim)) found → found ≡ rootss.Nothing → Clears EachValue p old q new → RunsFor ForRoot dim p old q new
   no_root_runs found are is c = all_cleared ForRoot EachValue c (λ group on d v a. inr (must_roots group on ∙ subst (RootsAre (roots plane.nodes (must_edges old.parts old.now dim))) is are)) (λ group on d v a. tt)
 
-  module _ (w : ℕ) (one : roots plane.nodes (must_edges old.parts old.now dim) ≡ w ∷ []) where
-    aim_found : (group : Group) → first_dim group ≡ dim → (d v : ℕ) → Aims old.parts dim founds.More (ToNode w) d v → ForRoot old.parts group old.now d v
-    aim_found group on d v a = inl (record { place = a.place; is = subst (λ k. IsPlaceOn old.parts k a.place) (sym on) a.is; says = a.says; root = must_roots group on ∙ one ∙ ap (λ k. k ∷ []) (sym a.aimed) })
-
-    found_aim : (group : Group) → first_dim group ≡ dim → (d v : ℕ) → ForRoot old.parts group old.now d v → Aims old.parts dim founds.More (ToNode w) d v
-    found_aim group on d v a = elim a [
-      | inl r ↦ record { place = r.place; is = subst (λ k. IsPlaceOn old.parts k r.place) on r.is; aimed = ap (λ xs. get_or xs 0 0) (sym r.root ∙ must_roots group on ∙ one); other = tt; says = r.says }
-      | inr none ↦ absurd (let e = ap length (sym none ∙ must_roots group on ∙ one) in omega (arith, e))
-    ]
-
   pub one_root_runs : (found : Roots) (w : ℕ) → RootsAre (roots plane.nodes (must_edges old.parts old.now dim)) found → found ≡ rootss.One w → Clears (Aims old.parts dim founds.More (ToNode w)) p old q new → RunsFor ForRoot dim p old q new
   one_root_runs found w are is c =
-      let one = subst (RootsAre (roots plane.nodes (must_edges old.parts old.now dim))) is are in
-      all_cleared ForRoot (Aims old.parts dim founds.More (ToNode w)) c (aim_found w one) (found_aim w one)
+      let one : roots plane.nodes (must_edges old.parts old.now dim) ≡ w ∷ [] = subst (RootsAre (roots plane.nodes (must_edges old.parts old.now dim))) is are in
+      all_cleared ForRoot (Aims old.parts dim founds.More (ToNode w)) c
+      (λ group on d v a. inl (record { place = a.place; is = subst (λ k. IsPlaceOn old.parts k a.place) (sym on) a.is; says = a.says; root = must_roots group on ∙ one ∙ ap (λ k. k ∷ []) (sym a.aimed) }))
+      (λ group on d v a. elim a [
+        | inl r ↦ record { place = r.place; is = subst (λ k. IsPlaceOn old.parts k r.place) on r.is; aimed = ap (λ xs. get_or xs 0 0) (sym r.root ∙ must_roots group on ∙ one); other = tt; says = r.says }
+        | inr none ↦ absurd (let e = ap length (sym none ∙ must_roots group on ∙ one) in omega (arith, e))
+      ])
 
   pub more_roots_run : (found : Roots) → RootsAre (roots plane.nodes (must_edges old.parts old.now dim)) found → found ≡ rootss.More → RunsFor ForRoot dim p old p old
   more_roots_run found are is = part_none ForRoot ForRoot dim p old (λ group on quiet d v a h.

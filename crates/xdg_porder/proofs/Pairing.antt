@@ -5,7 +5,6 @@ use Rattle.std.proofs.lemmas.List.{get_or_default, get_or-map, length-map}
 use Rattle.xdg_base.specs.declared.ids.LabelId.{LabelId}
 use Rattle.xdg_problem.specs.declared.parts.Group.{Group}
 use Rattle.xdg_problem.specs.declared.parts.Parts.{Parts}
-use Rattle.xdg_problem.specs.declared.parts.Principle.{Principle}
 use Rattle.xdg_problem.specs.declared.parts.Principle.TheVariants as principles
 use Rattle.xdg_problem.specs.Analyses.{IsPlace}
 use Rattle.xdg_problem.specs.Arguments.{first_dim, order_of, label_count}
@@ -41,18 +40,15 @@ at_comes (label ∷ order) (suc i) (suc j) l m = inr (at_comes order i j (omega 
 pub comes : (group : Group) (i j : ℕ) → i < j → j < length group.order → ComesBefore (order_of group) (label_at group i) (label_at group j)
 comes group i j less within = at_comes (order_of group) i j less (let c = length-map group.order (λ (label : LabelId). label.0) in omega (arith, within, c))
 
-order_is : (p : Principle) → p ≡ principles.Order → (labels : ℕ) (order : List LabelId) → IsOrderFor p labels order → AllPairs (λ a b. a ≢ b) order
-order_is p same labels order is = (let both : IsOrderFor principles.Order labels order = subst (λ q. IsOrderFor q labels order) same is in both.1)
-
 -- labels of which one comes before the other differ
 pub comes_differ : (parts : Parts) (group : Group) → IsGroup parts group → group.principle ≡ principles.Order → (l m : ℕ) → ComesBefore (order_of group) l m → l ≢ m
 comes_differ parts group is same l m comes =
-    let differ = order_is group.principle same (label_count parts (first_dim group)) group.order is.order in
+    let both : IsOrderFor principles.Order (label_count parts (first_dim group)) group.order = subst (λ p. IsOrderFor p (label_count parts (first_dim group)) group.order) same is.order in
     pairs_before (λ a b. a ≢ b) (order_of group) l m (λ i j d less within equal.
     let count = length-map group.order (λ (label : LabelId). label.0) in
     let first = get_or-map (λ (label : LabelId). label.0) group.order i (record { 0 = 0 }) d (omega (arith, less, within, count)) in
     let second = get_or-map (λ (label : LabelId). label.0) group.order j (record { 0 = 0 }) d (omega (arith, within, count)) in
-    differ i j (record { 0 = 0 }) less (omega (arith, within, count)) (ap (λ n. record { 0 = n }) (sym first ∙ equal ∙ second))) comes
+    both.1 i j (record { 0 = 0 }) less (omega (arith, within, count)) (ap (λ n. record { 0 = n }) (sym first ∙ equal ∙ second))) comes
 
 -- ---- the wrong side
 
