@@ -20,7 +20,7 @@ use Rattle.xdg_principles.specs.Typed.{AreTypedUses}
 use Rattle.xdg_principles.specs.Uses.{AreUsesOf}
 use Rattle.xdg_check.specs.declared.checked.Class.{Class}
 use Rattle.xdg_check.specs.declared.checked.EntryDef.{EntryDef}
-use Rattle.xdg_check.specs.Answers.{NameOffends, ValueOffends, AreClassesOf, AreEntriesOf, IsCheckedOf, Refuses}
+use Rattle.xdg_check.specs.Answers.{NameOffends, ValueOffends, IsClassOf, IsEntryOf, AreClassesOf, AreEntriesOf, IsCheckedOf, Refuses}
 use Rattle.xdg_check.specs.Checked.{IsOrder, IsChecked, IsRightBody}
 use Rattle.xdg_check.specs.Counts.{class_texts, bare, uses, combos, AreCounted}
 use Rattle.xdg_check.specs.Lex.{HasLex, LexOffends}
@@ -30,7 +30,8 @@ use Rattle.xdg_check.proofs.Filled.{same_texts}
 use Rattle.xdg_check.proofs.Keeping.{RightBodies, right_body}
 use Rattle.xdg_check.proofs.Placing.{bare_classes, is_order}
 use Rattle.xdg_check.proofs.Sound.{right_bodies}
-use Rattle.xdg_check.proofs.Sources.{source_of, entry_of, same_names, class_scoped, class_body, entry_scoped, entry_body}
+use Rattle.xdg_principles.proofs.Sides.{zip_second}
+use Rattle.xdg_check.proofs.Sources.{same_names, class_scoped, class_body, entry_scoped, entry_body}
 use Rattle.xdg_facts.specs.Membership.{In, Differ}
 use Rattle.xdg_ast.specs.Texts.{texts}
 
@@ -82,17 +83,17 @@ module _ (statements : List Statement) (table : Table) (names : None_of (NameOff
 
     class_right : (c : Class) → In final c → IsRightBody table final c.params (body c.body.kind)
     class_right c h =
-        let s = source_of (classes statements) (classes statements) final final_are c h in
+        let s = zip_second (IsClassOf (classes statements)) (classes statements) final final_are c h in
         subst (λ ps. IsRightBody table final ps (body c.body.kind)) (sym s.1.1.params)
         (right_body statements table bodies_right values_right final final_are (class_scoped s.0) (class_body statements s.0 s.1.0) (body c.body.kind) s.1.1.body)
 
     entry_right : (e : EntryDef) → In entry_defs e → IsRightBody table final [] (body e.body.kind)
     entry_right e h =
-        let s = entry_of (classes statements) (entries statements) entry_defs final_entries e h in
+        let s = zip_second (IsEntryOf (classes statements)) (entries statements) entry_defs final_entries e h in
         right_body statements table bodies_right values_right final final_are (entry_scoped s.0) (entry_body statements s.0 s.1.0) (body e.body.kind) s.1.1.body
 
     params_apart : (c : Class) → In final c → Differ c.params
-    params_apart c h = let s = source_of (classes statements) (classes statements) final final_are c h in subst Differ (sym s.1.1.params) (params_differ statements table bodies_right s.0 s.1.0)
+    params_apart c h = let s = zip_second (IsClassOf (classes statements)) (classes statements) final final_are c h in subst Differ (sym s.1.1.params) (params_differ statements table bodies_right s.0 s.1.0)
 
     pub is_checked : AreTypedUses table principles → IsChecked (record { types = table; principles = principles; classes = final; entries = entry_defs; order = order })
     is_checked compiled = record {

@@ -21,10 +21,11 @@ use Rattle.xdg_names.proofs.Texts.{not_among, no_text}
 use Rattle.xdg_types.proofs.NamesKnown.{each_known}
 use Rattle.xdg_check.specs.declared.checked.Class.{Class}
 use Rattle.xdg_check.specs.Completed.{left_out, preset_pair, bound_by}
-use Rattle.xdg_check.specs.Answers.{AreClassesOf}
+use Rattle.xdg_check.specs.Answers.{IsClassOf, AreClassesOf}
 use Rattle.xdg_check.specs.Checked.{IsBound}
 use Rattle.xdg_classes.proofs.Known.{named_in, named_some}
-use Rattle.xdg_check.proofs.Sources.{made_of, completed_call}
+use Rattle.xdg_principles.proofs.Sides.{zip_first}
+use Rattle.xdg_check.proofs.Sources.{completed_call}
 use Rattle.xdg_facts.specs.Membership.{In, Differ}
 use Rattle.xdg_facts.proofs.In.{in_append, in_left, in_right, in_map, map_in}
 use Rattle.xdg_ast.specs.Texts.{texts}
@@ -136,7 +137,7 @@ module _ (statements : List Statement) (table : Table) (right : None_of (NameOff
       let cs = classes statements in
       let c = class_of call h in
       let at = named_in cs call.name.text c.0 c.1 in
-      let m = made_of cs cs made are c.0 at.0 in
+      let m = zip_first (IsClassOf cs) cs made are c.0 at.0 in
       let given = texts (keys call.args) in
       let left = left_out given c.0.params in
       let args : bound_by (class_named cs call.name.text) call.args ≡ call.args ++ left = ap (λ o. bound_by o call.args) c.1 in

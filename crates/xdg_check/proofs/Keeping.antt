@@ -20,12 +20,13 @@ use Rattle.xdg_classes.specs.Wants as w
 use Rattle.xdg_classes.specs.Wants.{NamedBody, Wants, at_feature, at_argument, feature_shape, feature_in, type_named}
 use Rattle.xdg_check.specs.declared.checked.Class.{Class}
 use Rattle.xdg_check.specs.Completed.{completed, bound_by, left_out}
-use Rattle.xdg_check.specs.Answers.{AreClassesOf}
+use Rattle.xdg_check.specs.Answers.{IsClassOf, AreClassesOf}
 use Rattle.xdg_check.specs.Checked.{named_body, named_bodies, IsRight, IsScoped, IsRightRecord, IsRightCall, IsRightBody}
 use Rattle.xdg_check.proofs.Binding.{class_of, is_bound, left_pair}
 use Rattle.xdg_check.proofs.Opened.{less_open, wants_stand}
 use Rattle.xdg_classes.proofs.Known.{named_in}
-use Rattle.xdg_check.proofs.Sources.{same_records, completed_calls, completed_call, source_of, class_scoped, class_body}
+use Rattle.xdg_principles.proofs.Sides.{zip_second}
+use Rattle.xdg_check.proofs.Sources.{same_records, completed_calls, completed_call, class_scoped, class_body}
 use Rattle.xdg_facts.proofs.Options.{some_same}
 use Rattle.xdg_facts.proofs.Texts.{same_text, is_same}
 use Rattle.xdg_facts.specs.Membership.{In, Differ}
@@ -99,7 +100,7 @@ module _ (statements : List Statement) (table : Table) (names : None_of (NameOff
     unfolding GivenOrPreset
     wants_source (at_feature c said pair s param u in_classes in_records in_pairs type inside) =
         let m = map_in named_body made c in_classes in
-        let source = source_of (classes statements) (classes statements) made are m.0 m.1.0 in
+        let source = zip_second (IsClassOf (classes statements)) (classes statements) made are m.0 m.1.0 in
         let n = w.named source.0 in
         let name : n.name ≡ c.name = sym source.1.1.name ∙ ap (λ (x : NamedBody). x.name) m.1.1 in
         let params : c.params ≡ n.params = ap (λ (x : NamedBody). x.params) (sym m.1.1) ∙ source.1.1.params in
@@ -109,7 +110,7 @@ module _ (statements : List Statement) (table : Table) (names : None_of (NameOff
         (subst (λ rs. In rs said) (ap records tree ∙ same_records (classes statements) n.body) in_records) in_pairs type (subst (λ ps. In (params_in ps s pair.value) (param, u)) params inside))
     wants_source (at_argument c call pair s param u in_classes in_calls in_args wanted inside) =
         let m = map_in named_body made c in_classes in
-        let source = source_of (classes statements) (classes statements) made are m.0 m.1.0 in
+        let source = zip_second (IsClassOf (classes statements)) (classes statements) made are m.0 m.1.0 in
         let n = w.named source.0 in
         let name : n.name ≡ c.name = sym source.1.1.name ∙ ap (λ (x : NamedBody). x.name) m.1.1 in
         let params : c.params ≡ n.params = ap (λ (x : NamedBody). x.params) (sym m.1.1) ∙ source.1.1.params in

@@ -1,5 +1,5 @@
 -- A grammar with its table has one meaning or one first fault.
-use Rattle.std.proofs.Common.{◌≡◌, ◌⊎◌, inl, inr, ℕ, List, [], ◌∷◌, map, Some, Ok, Err, refl, sym, ap, ap₂, ◌∙◌}
+use Rattle.std.proofs.Common.{◌≡◌, ◌⊎◌, inl, inr, ℕ, List, map, Some, Ok, Err, sym, ap, ap₂, ◌∙◌}
 use Rattle.std.specs.Prelude.{Result}
 use Rattle.xdg_base.specs.declared.faults.Fault.{Fault}
 use Rattle.xdg_base.specs.declared.faults.Stop.{Stop}
@@ -15,6 +15,7 @@ use Rattle.xdg_classes.specs.Definitions.{ClassDef, param_names}
 use Rattle.xdg_classes.specs.Graph.{CycleOffends}
 use Rattle.xdg_classes.specs.Wants.{NamedBody}
 use Rattle.xdg_principles.proofs.OneUse.{one_list}
+use Rattle.xdg_principles.proofs.Sides.{zip_seen}
 use Rattle.xdg_check.specs.declared.checked.Class.{Class}
 use Rattle.xdg_check.specs.declared.checked.EntryDef.{EntryDef}
 use Rattle.xdg_check.specs.Answers.{NameOffends, ValueOffends, IsRight, Refuses, IsClassOf, AreClassesOf, IsEntryOf, AreEntriesOf, IsCheckedOf, Tells, IsAnswer}
@@ -38,9 +39,7 @@ one_class cs source made h =
     ∙ ap (λ z. record { name = source.name.text; params = texts (param_names source.params); body = z }) h.body
 
 all_classes : (cs sources : List ClassDef) (made : List Class) → AreClassesOf cs sources made → named_bodies made ≡ map (class_of cs) sources
-all_classes cs [] [] h = refl
-all_classes cs (source ∷ sources) (m ∷ made) h = ap₂ (λ z zs. z ∷ zs) (one_class cs source m h.0) (all_classes cs sources made h.1)
-all_classes cs _ _ h = absurd h
+all_classes cs sources made = zip_seen (IsClassOf cs) (class_of cs) named_body sources made (one_class cs)
 
 entry_of : List ClassDef → d.EntryDef → ℕ × Body
 entry_of cs source = (source.at, completed cs (body source.body.kind))
@@ -50,9 +49,7 @@ unfolding entry_of
 one_entry cs source made h = ap₂ (λ n b. (n, b)) h.at h.body
 
 all_entries : (cs : List ClassDef) (sources : List d.EntryDef) (made : List EntryDef) → AreEntriesOf cs sources made → map placed_body made ≡ map (entry_of cs) sources
-all_entries cs [] [] h = refl
-all_entries cs (source ∷ sources) (m ∷ made) h = ap₂ (λ z zs. z ∷ zs) (one_entry cs source m h.0) (all_entries cs sources made h.1)
-all_entries cs _ _ h = absurd h
+all_entries cs sources made = zip_seen (IsEntryOf cs) (entry_of cs) placed_body sources made (one_entry cs)
 
 -- ---- passes, one after the other
 

@@ -1,5 +1,5 @@
 -- The order of the classes of the text is one of the completed classes.
-use Rattle.std.proofs.Common.{◌≡◌, inl, ℕ, zero, suc, List, [], ◌∷◌, map, length, slice_get, slice_index_or, Some, refl, sym, ap, ◌∙◌, subst, arith}
+use Rattle.std.proofs.Common.{◌≡◌, inl, ℕ, List, [], ◌∷◌, map, length, slice_index_or, Some, refl, sym, ap, ◌∙◌, subst, arith}
 use Rattle.std.proofs.lemmas.List.{get_or-map}
 use Rattle.std.proofs.lemmas.Option.{get_or_from_slice_get, slice_get_within}
 use Rattle.xdg_names.specs.Leads.{uses_of}
@@ -23,6 +23,8 @@ use Rattle.xdg_check.specs.Counts.{bare}
 use Rattle.xdg_check.specs.Checked.{IsOrder}
 use Rattle.xdg_check.proofs.Binding.{class_of}
 use Rattle.xdg_classes.proofs.Known.{named_in}
+use Rattle.xdg_facts.proofs.Lists.{zip_length}
+use Rattle.xdg_principles.proofs.Sides.{zip_place}
 use Rattle.xdg_check.proofs.Sources.{completed_calls, completed_call, same_names, class_scoped, class_body}
 use Rattle.xdg_facts.specs.Membership.{In}
 use Rattle.xdg_facts.proofs.In.{flat_map_in, in_map as map_in, map_in as in_map, in_got}
@@ -30,16 +32,8 @@ use Rattle.xdg_ast.specs.Texts.{texts}
 
 -- ---- classes by place
 
-source_at : (cs sources : List ClassDef) (made : List Class) → AreClassesOf cs sources made → (k : ℕ) (m : Class) → slice_get made k ≡ Some m → (c : ClassDef) × ((slice_get sources k ≡ Some c) × IsClassOf cs c m)
-source_at cs [] [] are k m h = absurd (cc)
-source_at cs (c ∷ sources) (x ∷ made) are zero m h = let e : x ≡ m = cc in (c, (refl, subst (IsClassOf cs c) e are.0))
-source_at cs (c ∷ sources) (x ∷ made) are (suc k) m h = source_at cs sources made are.1 k m h
-source_at cs _ _ are k m h = absurd are
-
 pub as_long : (cs sources : List ClassDef) (made : List Class) → AreClassesOf cs sources made → length made ≡ length sources
-as_long cs [] [] are = refl
-as_long cs (c ∷ sources) (x ∷ made) are = ap suc (as_long cs sources made are.1)
-as_long cs _ _ are = absurd are
+as_long cs sources made are = sym (zip_length (IsClassOf cs) sources made are)
 
 -- counts change nothing else
 pub bare_classes : (cs sources : List ClassDef) (old new : List Class) → map bare new ≡ map bare old → AreClassesOf cs sources old → AreClassesOf cs sources new
@@ -77,7 +71,7 @@ module _ (statements : List Statement) (table : Table) (names : None_of (NameOff
         placed = λ k inside. o.placed k (omega (arith, inside, long));
         after = λ i inside c at call stands.
             let a = slice_index_or ordering.order i 0 in
-            let source = source_at cs cs made are a c at in
+            let source = zip_place (IsClassOf cs) cs made are a c at in
             let old = map_in (completed_call cs) (calls (body source.0.body.kind)) call (subst (λ xs. In xs call) (ap calls source.1.1.body ∙ completed_calls cs (body source.0.body.kind)) stands) in
             let all : In (all_calls statements) old.0 = flat_map_in (λ (one : Scoped). calls one.body) (bodies statements) (class_scoped source.0) old.0 (class_body statements source.0 (in_got cs a source.0 source.1.0)) old.1.0 in
             let found = class_of statements table names old.0 all in

@@ -1,16 +1,18 @@
 -- Classes and entries with completed bindings, beside those of the text.
-use Rattle.std.proofs.Common.{◌≡◌, inl, inr, ℕ, List, [], ◌∷◌, ◌++◌, map, refl, sym, ap₂, ◌∙◌, subst}
+use Rattle.std.proofs.Common.{◌≡◌, List, [], ◌++◌, map, refl, sym, ap₂, ◌∙◌}
 use Rattle.std.proofs.lemmas.List.{map-append}
+use Rattle.xdg_ast.specs.declared.names.Name.{Name}
 use Rattle.xdg_types.specs.Parts.{Statement}
 use Rattle.xdg_classes.specs.Bodies.{Body, either, both, saying, calling, Bodies, no_body, body_then, body, Called, records, records_in, calls, calls_in}
 use Rattle.xdg_classes.specs.Definitions as d
 use Rattle.xdg_classes.specs.Definitions.{ClassDef, class, classes, class_names, class_named, param_names, Scoped, scoped, bodies, entry, entries}
 use Rattle.xdg_check.specs.declared.checked.Class.{Class}
-use Rattle.xdg_check.specs.declared.checked.EntryDef.{EntryDef}
 use Rattle.xdg_check.specs.Completed.{completed, all_completed, bound_by}
-use Rattle.xdg_check.specs.Answers.{IsClassOf, AreClassesOf, IsEntryOf, AreEntriesOf}
+use Rattle.xdg_check.specs.Answers.{IsClassOf, AreClassesOf}
 use Rattle.xdg_check.specs.Counts.{class_texts}
+use Rattle.xdg_principles.proofs.Sides.{zip_seen}
 use Rattle.xdg_facts.specs.Membership.{In}
+use Rattle.xdg_facts.proofs.Lists.{fused}
 use Rattle.xdg_facts.proofs.In.{in_left, in_right, in_flat_map, flat_map_in, map_in}
 use Rattle.xdg_ast.specs.Texts.{texts}
 
@@ -45,34 +47,10 @@ module _ (cs : List ClassDef) where
 -- ---- made from the text
 
 module _ (cs : List ClassDef) where
-  pub source_of : (sources : List ClassDef) (made : List Class) → AreClassesOf cs sources made → (m : Class) → In made m → (c : ClassDef) × (In sources c × IsClassOf cs c m)
-  source_of [] (x ∷ made) are m h = absurd are
-  source_of (c ∷ sources) (x ∷ made) are m h = elim h [
-    | inl e ↦ (c, (inl refl, subst (IsClassOf cs c) e are.0))
-    | inr k ↦ (let r = source_of sources made are.1 m k in (r.0, (inr r.1.0, r.1.1)))
-  ]
-  source_of _ _ are m h = absurd h
-
-  pub made_of : (sources : List ClassDef) (made : List Class) → AreClassesOf cs sources made → (c : ClassDef) → In sources c → (m : Class) × (In made m × IsClassOf cs c m)
-  made_of [] made are c h = absurd h
-  made_of (x ∷ sources) [] are c h = absurd are
-  made_of (x ∷ sources) (m ∷ made) are c h = elim h [
-    | inl e ↦ (m, (inl refl, subst (λ y. IsClassOf cs y m) e are.0))
-    | inr k ↦ (let r = made_of sources made are.1 c k in (r.0, (inr r.1.0, r.1.1)))
-  ]
-
   pub same_names : (sources : List ClassDef) (made : List Class) → AreClassesOf cs sources made → class_texts made ≡ texts (class_names sources)
-  same_names [] [] are = refl
-  same_names (c ∷ sources) (m ∷ made) are = ap₂ (λ (x : List ℕ) y. x ∷ y) are.0.name (same_names sources made are.1)
-  same_names _ _ are = absurd are
-
-  pub entry_of : (sources : List d.EntryDef) (made : List EntryDef) → AreEntriesOf cs sources made → (m : EntryDef) → In made m → (e : d.EntryDef) × (In sources e × IsEntryOf cs e m)
-  entry_of [] (x ∷ made) are m h = absurd are
-  entry_of (e ∷ sources) (x ∷ made) are m h = elim h [
-    | inl same ↦ (e, (inl refl, subst (IsEntryOf cs e) same are.0))
-    | inr k ↦ (let r = entry_of sources made are.1 m k in (r.0, (inr r.1.0, r.1.1)))
-  ]
-  entry_of _ _ are m h = absurd h
+  same_names sources made are =
+      zip_seen (IsClassOf cs) (λ (c : ClassDef). c.name.text) (λ (m : Class). m.name) sources made (λ c m is. is.name) are
+      ∙ sym (fused (λ (n : Name). n.text) (λ (c : ClassDef). c.name) sources)
 
 -- ---- the bodies of the text
 

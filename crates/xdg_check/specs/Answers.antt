@@ -1,5 +1,6 @@
 -- What an answer tells of a grammar with its table of types.
-use Rattle.std.specs.Prelude.{◌≡◌, ◌⊎◌, List, [], ◌∷◌, Result, Ok, Err, Some}
+use Rattle.std.specs.Prelude.{◌≡◌, ◌⊎◌, List, Result, Ok, Err, Some}
+use Rattle.std.specs.List.{AllZip}
 use Rattle.xdg_base.specs.declared.faults.Fault.{Fault}
 use Rattle.xdg_base.specs.declared.faults.Stop.{Stop}
 use Rattle.xdg_base.specs.Told.{TellsOf}
@@ -60,9 +61,7 @@ pub record IsClassOf (cs : List ClassDef) (source : ClassDef) (made : Class) : T
   pub span : made.body.span ≡ source.body.span
 
 abbrev pub AreClassesOf : List ClassDef → List ClassDef → List Class → Type 0
-AreClassesOf cs [] [] = Unit {0}
-AreClassesOf cs (source ∷ sources) (made ∷ more) = IsClassOf cs source made × AreClassesOf cs sources more
-AreClassesOf cs _ _ = ⊥
+AreClassesOf cs sources made = AllZip (IsClassOf cs) sources made
 
 -- the entry with the place of its word and its body, in which the bindings are completed
 pub record IsEntryOf (cs : List ClassDef) (source : d.EntryDef) (made : EntryDef) : Type 0 where
@@ -71,9 +70,7 @@ pub record IsEntryOf (cs : List ClassDef) (source : d.EntryDef) (made : EntryDef
   pub span : made.body.span ≡ source.body.span
 
 abbrev pub AreEntriesOf : List ClassDef → List d.EntryDef → List EntryDef → Type 0
-AreEntriesOf cs [] [] = Unit {0}
-AreEntriesOf cs (source ∷ sources) (made ∷ more) = IsEntryOf cs source made × AreEntriesOf cs sources more
-AreEntriesOf cs _ _ = ⊥
+AreEntriesOf cs sources made = AllZip (IsEntryOf cs) sources made
 
 -- the table, the principle uses, and the classes and entries in the order of the text, with their counts
 pub record IsCheckedOf (statements : List Statement) (table : Table) (parts : Parts) : Type 0 where
