@@ -10,7 +10,7 @@ use Rattle.xdg_packed.specs.Lexicon.{Lexicon}
 use Rattle.xdg_types.specs.declared.table.DimType.{DimType}
 use Rattle.xdg_types.specs.Table.{Table, IsTable, KeepsDim, firsts}
 use Rattle.xdg_formula.specs.Tables.{member_shape, no_dim, used_dims}
-use Rattle.xdg_build.specs.Formulas.{place_of}
+use Rattle.xdg_build.specs.Formulas.{place_or_zero}
 use Rattle.xdg_build.specs.Places.{names_at}
 use Rattle.xdg_build.proofs.Rightly.{IsMemberAt}
 use Rattle.xdg_build.proofs.Used.{type_kept, used_is}
@@ -24,7 +24,7 @@ pub record IsHere (dim : DimType) (lent : List (List ℕ × Ty)) (name : List �
   pub kept : KeepsDim dim
 
 pub member_here : (table : Table) (lexicon : Lexicon) → IsTable table → (all : DimType → List (List ℕ × Ty)) (rule : Ty → List Fault) (dim name : Name) → IsMemberAt table all rule dim name
-    → (d : ℕ) (found : DimType) (lent : List (List ℕ × Ty)) (own : ℕ) → d ≡ place_of (names_at table.dims table.used) dim.text → found ≡ get_or (used_dims table) d no_dim → lent ≡ all found → own ≡ place_of (firsts lent) name.text
+    → (d : ℕ) (found : DimType) (lent : List (List ℕ × Ty)) (own : ℕ) → d ≡ place_or_zero (names_at table.dims table.used) dim.text → found ≡ get_or (used_dims table) d no_dim → lent ≡ all found → own ≡ place_or_zero (firsts lent) name.text
     → IsHere found lent name.text own rule
 member_here table lexicon is all rule dim name m d found lent own d_is there same own_is =
     let within : d < length (used_dims table) = (let l = m.dim_at.within in omega (arith, l, d_is)) in

@@ -26,7 +26,7 @@ use Rattle.xdg_formula.specs.Written as w
 use Rattle.xdg_formula.specs.Written.{Trees, no_tree, tree_then, tree, trees_of}
 use Rattle.xdg_formula.specs.declared.tree.RuleKind.{RuleKind}
 use Rattle.xdg_formula.proofs.Treed.{treed}
-use Rattle.xdg_build.specs.Formulas.{formula_in, formulas_in, formulas_of, member_number, number_of, place_of}
+use Rattle.xdg_build.specs.Formulas.{formula_in, formulas_in, formulas_of, member_number, number_of, place_or_zero}
 use Rattle.xdg_build.specs.Places.{names_at}
 use Rattle.xdg_build.specs.Problems.{IsFor}
 use Rattle.xdg_build.specs.Readings.{type_at}
@@ -58,13 +58,14 @@ right_by dims scope kind form t right is trees = subst (IsRight dims scope) (ap 
 pub items_right : (dims : List DimType) (scope : List (List ℕ)) (members items : List RuleTerm) → faults_each dims scope (trees_of (map treed members)) ≡ [] → items ≡ members → All (λ term. IsRight dims scope (tree term.kind)) items
 items_right dims scope members items none same = subst (All (λ (term : RuleTerm). IsRight dims scope (tree term.kind))) (sym same) (each_right dims scope members none)
 
-pub attr_made : (table : Table) (lexicon : Lexicon) (parts : Parts) (scope : List (List ℕ)) (node dim attribute : Name) (value : Term) (m d i n : ℕ) (found : DimType) (lent : List (List ℕ × Ty)) → m ≡ place_of scope node.text → d ≡ place_of (names_at table.dims table.used) dim.text
-    → found ≡ get_or (used_dims table) d no_dim → lent ≡ found.attrs → i ≡ place_of (firsts lent) attribute.text → n ≡ number_of (type_at (typed lent) i) value → y.Attr m (record { 0 = d }) (record { 0 = i }) n ≡ formula_in table lexicon parts scope (w.attr node dim attribute value)
+pub attr_made : (table : Table) (lexicon : Lexicon) (parts : Parts) (scope : List (List ℕ)) (node dim attribute : Name) (value : Term) (m d i n : ℕ) (found : DimType) (lent : List (List ℕ × Ty))
+    → m ≡ place_or_zero scope node.text → d ≡ place_or_zero (names_at table.dims table.used) dim.text → found ≡ get_or (used_dims table) d no_dim → lent ≡ found.attrs → i ≡ place_or_zero (firsts lent) attribute.text
+    → n ≡ number_of (type_at (typed lent) i) value → y.Attr m (record { 0 = d }) (record { 0 = i }) n ≡ formula_in table lexicon parts scope (w.attr node dim attribute value)
 attr_made table lexicon parts scope node dim attribute value m d i n found lent e_m e_d e_found e_lent e_i e_n = rw (e_m, e_n, e_i, e_lent, e_found, e_d) refl
 
-pub feat_made : (table : Table) (lexicon : Lexicon) (parts : Parts) (scope : List (List ℕ)) (node dim feature : Name) (value : Term) (m d i n : ℕ) (found : DimType) (lent : List (List ℕ × Ty)) (made : List (List Bool)) → m ≡ place_of scope node.text
-    → d ≡ place_of (names_at table.dims table.used) dim.text → found ≡ get_or (used_dims table) d no_dim → lent ≡ found.fields → i ≡ place_of (firsts lent) feature.text → n ≡ member_number (member_shape (type_at (typed lent) i)) value
-    → made ≡ table_of lexicon.entries parts.candidates d i n → y.Feat m made ≡ formula_in table lexicon parts scope (w.feat node dim feature value)
+pub feat_made : (table : Table) (lexicon : Lexicon) (parts : Parts) (scope : List (List ℕ)) (node dim feature : Name) (value : Term) (m d i n : ℕ) (found : DimType) (lent : List (List ℕ × Ty)) (made : List (List Bool))
+    → m ≡ place_or_zero scope node.text → d ≡ place_or_zero (names_at table.dims table.used) dim.text → found ≡ get_or (used_dims table) d no_dim → lent ≡ found.fields → i ≡ place_or_zero (firsts lent) feature.text
+    → n ≡ member_number (member_shape (type_at (typed lent) i)) value → made ≡ table_of lexicon.entries parts.candidates d i n → y.Feat m made ≡ formula_in table lexicon parts scope (w.feat node dim feature value)
 feat_made table lexicon parts scope node dim feature value m d i n found lent made e_m e_d e_found e_lent e_i e_n e_made = rw (e_m, e_made, e_n, e_i, e_lent, e_found, e_d) refl
 
 -- ---- types
@@ -86,7 +87,7 @@ module _ (table : Table) (lexicon : Lexicon) (parts : Parts) (is : IsTable table
   dims = used_dims table
 
   abbrev number : Name → ℕ
-  number dim = place_of (names_at table.dims table.used) dim.text
+  number dim = place_or_zero (names_at table.dims table.used) dim.text
 
   abbrev MadeSays : List (List ℕ) → w.Tree → Type 0
   MadeSays scope t = Says table lexicon parts scope t (claim (formula_in table lexicon parts scope t))
@@ -120,7 +121,7 @@ module _ (table : Table) (lexicon : Lexicon) (parts : Parts) (is : IsTable table
     made_says scope place (w.attr node dim attribute value) right =
         let m = attr_right table scope node dim attribute value (place, right) in
         let all = (dim_of table dim.text).attrs in
-        let i : ℕ = place_of (firsts all) attribute.text in
+        let i : ℕ = place_or_zero (firsts all) attribute.text in
         let kept : KeepsDim (dim_of table dim.text) = dim_kept table lexicon is (number dim) m.dim_at.within in
         let small = (attribute_right (typed all) i attribute.text (shape m.type) kept.attributes (typed_at all i attribute.text m.type m.stands)).0 in
         let meant = number_right (shape m.type) value small m.right in
@@ -130,7 +131,7 @@ module _ (table : Table) (lexicon : Lexicon) (parts : Parts) (is : IsTable table
         let m = feat_right table scope node dim feature value (place, right) in
         let of = members_by feature value (member_shape (shape m.type)) m.right in
         let all = (dim_of table dim.text).fields in
-        let i : ℕ = place_of (firsts all) feature.text in
+        let i : ℕ = place_or_zero (firsts all) feature.text in
         let kept : KeepsDim (dim_of table dim.text) = dim_kept table lexicon is (number dim) m.dim_at.within in
         let type = feature_right (typed all) i feature.text (shape m.type) kept.features (typed_at all i feature.text m.type m.stands) in
         let meant = number_right of.0 value (member_small (shape m.type) of.0 of.1 type) of.2 in

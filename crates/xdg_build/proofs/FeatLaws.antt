@@ -1,18 +1,17 @@
 -- What an atom about a feature says, and the table of candidates that is made of it.
 use Rattle.xdg_build.proofs.Planned.{feature_right}
-use Rattle.std.proofs.Common.{◌≡◌, ◌↔◌, ℕ, zero, suc, ◌<◌, true, false, Bool, List, [], ◌∷◌, length, get_or, map, refl, sym, ap, ◌∙◌, subst, arith}
-use Rattle.std.specs.Prelude.{All, Contains, MatchOption, Some, slice_get, slice_index, slice_index_or}
-use Rattle.std.proofs.lemmas.List.{get_or-map, get_or_default, length-map}
+use Rattle.std.proofs.Common.{◌≡◌, ◌↔◌, ℕ, zero, suc, ◌<◌, true, false, Bool, List, [], ◌∷◌, length, get_or, map, refl, sym, ap, ◌∙◌, arith}
+use Rattle.std.specs.Prelude.{Contains, Some, slice_get, slice_index, slice_index_or}
+use Rattle.std.proofs.lemmas.List.{get_or-map, length-map}
 use Rattle.std.proofs.lemmas.List.Elements.{All-contains}
-use Rattle.std.proofs.lemmas.Option.{get_or_from_slice_get, slice_get-get_or}
 use Rattle.xdg_ast.specs.declared.names.Name.{Name}
 use Rattle.xdg_ast.specs.Grammar.{Term}
 use Rattle.xdg_base.specs.declared.ids.EntryNo.{EntryNo}
-use Rattle.xdg_domain.specs.Shapes.{Shape, count, shape, text}
+use Rattle.xdg_domain.specs.Shapes.{Shape, count, shape}
 use Rattle.xdg_domain.specs.Valencies.{said_at}
 use Rattle.xdg_domain.specs.declared.types.Ty.{Ty}
 use Rattle.xdg_domain.specs.declared.values.Value.{out-Value}
-use Rattle.xdg_packed.specs.Entries.{IsWhole}
+use Rattle.xdg_principles.specs.declared.building.Arg.TheVariants as arg
 use Rattle.xdg_packed.specs.Lexicon.{Entry, Lexicon}
 use Rattle.xdg_problem.specs.declared.analysis.Analysis.{Analysis}
 use Rattle.xdg_problem.specs.declared.parts.Parts.{Parts}
@@ -27,20 +26,22 @@ use Rattle.xdg_terms.specs.Means.{IsAt}
 use Rattle.xdg_types.specs.Table as tables
 use Rattle.xdg_types.specs.Table.{Table, KeepsDim, typed}
 use Rattle.xdg_build.specs.Grammars.{Grammar}
-use Rattle.xdg_build.proofs.Said.{entry_at as entry_right_at}
-use Rattle.xdg_build.specs.Readings.{OnFeature, dimension, said_for, record_for, type_at, value_texts}
+use Rattle.xdg_build.proofs.Told.{on_feature, told_of}
+use Rattle.xdg_packed.proofs.OfTable.{entry_at as entry_right_at}
+use Rattle.xdg_build.specs.Readings.{OnFeature, dimension, entry_at, record_for, value_texts}
 use Rattle.xdg_build.proofs.Readings.{place_is, record_same}
-use Rattle.xdg_formula.specs.Tables.{member_shape, no_dim}
+use Rattle.xdg_formula.specs.Tables.{member_shape}
 use Rattle.xdg_formula.specs.Written as w
 use Rattle.xdg_build.specs.Problems.{IsFor}
 use Rattle.xdg_build.specs.Says.{Says}
-use Rattle.xdg_build.specs.Tables.{entry_says, table_of}
+use Rattle.xdg_build.specs.Tables.{entry_says, says_in, table_of}
 use Rattle.xdg_build.specs.Truths.{IsOrHas, constants_of}
 use Rattle.xdg_build.proofs.Standing.{IsDimAt}
 use Rattle.xdg_build.proofs.Used.{among_all, used_within, dim_kept, among_below}
 use Rattle.xdg_build.proofs.AtomLaws.{alike, member_only, pair_says, typed_at}
-use Rattle.xdg_build.proofs.Featured.{said_says, said_field}
+use Rattle.xdg_build.proofs.Featured.{value_says}
 use Rattle.xdg_facts.proofs.Facts.{both_steps}
+use Rattle.xdg_facts.proofs.In.{in_get}
 
 -- ---- the candidate of a node
 
@@ -51,9 +52,6 @@ chosen_at [] entries v has l = absurd (omega (arith, l))
 chosen_at (candidates ∷ all) [] v has l = absurd has
 chosen_at (candidates ∷ all) (entry ∷ entries) zero has l = (entry_back candidates entry (record { 0 = 0 }) has.0, place_within candidates entry has.0, has.0)
 chosen_at (candidates ∷ all) (entry ∷ entries) (suc v) has l = chosen_at all entries v has.1 (omega (arith, l))
-
-all_at : {A : Type 0} (P : A → Type 0) (xs : List (List A)) (v : ℕ) → All (All P) xs → v < length xs → All P (get_or xs v [])
-all_at P xs v all l = All-contains (All P) xs (get_or xs v []) all (v, l, get_or_default xs v (get_or xs v []) [] l)
 
 module _ (table : Table) (lexicon : Lexicon) (parts : Parts) (problem : IsProblem parts) (is : tables.IsTable table) (for_it : IsFor table lexicon parts) (scope : List (List ℕ)) where
   abbrev g : Grammar
@@ -69,11 +67,6 @@ module _ (table : Table) (lexicon : Lexicon) (parts : Parts) (problem : IsProble
     -- the records of entries for the dimension
     record_is : (entry : Entry) → length entry ≡ length table.used → record_for table.used entry k ≡ get_or entry d []
     record_is entry long = record_same table.used entry k long ∙ ap (λ i. get_or entry i []) (place_is (length table.dims) table.used d k is.used (used_within table lexicon is d at.within) refl)
-
-    whole_at : (e : ℕ) → e < length lexicon.entries → IsWhole (dimension g k) (get_or (get_or lexicon.entries e []) d [])
-    whole_at e l =
-        (entry_right_at table lexicon.entries e for_it.entries l).each d (dimension g k)
-        (k, (slice_get-get_or table.used d 0 (used_within table lexicon is d at.within), slice_get-get_or table.dims k no_dim (among_below table lexicon is d at.within)))
 
     module _ (feature : Name) (value : Term) (i n : ℕ) (type : Ty) (of : Shape) (stands : slice_get (dimension g k).fields i ≡ Some (feature.text, type)) (members : member_shape (shape type) ≡ Some of) (within : n < count of) (texts : value_texts of n ≡ constants_of value) where
       abbrev made : List (List Bool)
@@ -91,25 +84,17 @@ module _ (table : Table) (lexicon : Lexicon) (parts : Parts) (problem : IsProble
           candidates_long : length parts.candidates ≡ nodes parts
           candidates_long = problem.candidates_each
 
-      type_right : type_at (typed (dimension g k).fields) i ≡ shape type
-      type_right = ap (λ (one : List ℕ × Shape). one.1) (get_or_from_slice_get (typed (dimension g k).fields) i (feature.text, shape type) ([], text) (typed_at (dimension g k).fields i feature.text type stands))
-
       -- the entry with that number says so exactly where its value is the one with these constants, or has it
       entry_right : (a : Analysis) (v : ℕ) → (get_or a.entries v (record { 0 = 0 })).0 < length lexicon.entries
           → (entry_says lexicon.entries d i n (get_or a.entries v (record { 0 = 0 })) ≡ true) ↔ OnFeature g a k v (Some i) (λ s x. IsOrHas s x (constants_of value))
       entry_right a v l =
-          let e : ℕ = (get_or a.entries v (record { 0 = 0 })).0 in
-          let entry : Entry = get_or lexicon.entries e [] in
-          let whole : IsWhole (dimension g k) (get_or entry d []) = whole_at e l in
-          let said = said_says (shape type) of (said_at (get_or entry d []) i) n (constants_of value) members
-          (feature_right (typed (dimension g k).fields) i feature.text (shape type) kept.features (typed_at (dimension g k).fields i feature.text type stands))
-          (λ x h. said_field (dimension g k) (get_or entry d []) i feature.text (shape type) x whole (typed_at (dimension g k).fields i feature.text type stands) h) within texts in
-          let read : said_for g a k v i ≡ said_at (get_or entry d []) i = ap (λ m. said_at m i) (record_is entry (entry_right_at table lexicon.entries e for_it.entries l).count) in (
-            λ h. subst (λ s. MatchOption (said_for g a k v i) ⊥ (λ x. IsOrHas s (out-Value x) (constants_of value))) (sym type_right)
-                (subst (λ o. MatchOption o ⊥ (λ x. IsOrHas (shape type) (out-Value x) (constants_of value))) (sym read) (said.0 h)),
-            λ h. said.1 (subst (λ o. MatchOption o ⊥ (λ x. IsOrHas (shape type) (out-Value x) (constants_of value))) read
-                (subst (λ s. MatchOption (said_for g a k v i) ⊥ (λ x. IsOrHas s (out-Value x) (constants_of value))) type_right h)),
-          )
+          let named = typed_at (dimension g k).fields i feature.text type stands in
+          let entry = entry_right_at table lexicon.entries (get_or a.entries v (record { 0 = 0 })).0 _ for_it.entries l refl in
+          let told = told_of g a k v i feature.text (shape type) (in_get table.used d 0 (used_within table lexicon is d at.within)) (among_below table lexicon is d at.within) entry named in
+          let read = ap (λ o. says_in o n) (sym (ap (λ m. said_at m i) (record_is (entry_at g a v) entry.count)) ∙ told.said) in
+          let same = value_says (shape type) of (out-Value told.value) n (constants_of value) members (feature_right (typed (dimension g k).fields) i feature.text (shape type) kept.features named) told.right within texts in
+          let on = on_feature g a k v i (shape type) (Some (arg.Feature i)) (λ s x. IsOrHas s x (constants_of value)) told refl in
+          (λ h. on.1 (same.0 (sym read ∙ h)), λ h. read ∙ same.1 (on.0 h))
 
       -- the table says so of a node's candidate exactly where the node has that feature
       row_says : (a : Analysis) → IsAnalysis parts a → (v : ℕ) → v < nodes parts
@@ -122,7 +107,7 @@ module _ (table : Table) (lexicon : Lexicon) (parts : Parts) (problem : IsProble
           let there : says made v c ≡ entry_says lexicon.entries d i n entry =
           ap (λ row. slice_index_or row c false) (row_of v m) ∙ get_or-map (entry_says lexicon.entries d i n) (get_or parts.candidates v []) c (record { 0 = 0 }) false chosen.1 ∙ ap (entry_says lexicon.entries d i n) chosen.0 in
           let within : entry.0 < length lexicon.entries =
-          All-contains (λ (no : EntryNo). no.0 < length lexicon.entries) (get_or parts.candidates v []) entry (all_at (λ (no : EntryNo). no.0 < length lexicon.entries) parts.candidates v for_it.candidates m) chosen.2 in
+          All-contains (λ (no : EntryNo). no.0 < length lexicon.entries) (get_or parts.candidates v []) entry (for_it.candidates v [] m) chosen.2 in
           let right = entry_right a v within in
           (λ h. right.0 (sym there ∙ h), λ h. there ∙ right.1 h)
 

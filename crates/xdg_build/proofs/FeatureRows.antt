@@ -18,18 +18,16 @@ use Rattle.xdg_build.proofs.TypeRows.{sizes_again, all_below, first_key, sets, i
 use Rattle.xdg_build.specs.Readings.{value_texts, IsMember, IsMemberAt, IsAllowedAt}
 use Rattle.xdg_build.proofs.Different.{same_tuple}
 use Rattle.xdg_facts.proofs.Facts.{both_steps}
+use Rattle.xdg_facts.proofs.Lists.{any_default, head_of}
 use Rattle.xdg_facts.proofs.Options.{some_same}
 use Rattle.xdg_facts.specs.Membership.{Differ}
 use Rattle.xdg_terms.proofs.Meant.{one_place}
 
 -- ---- values by their constants
 
-first_same : (x y : List ℕ) → x ∷ [] ≡ y ∷ [] → x ≡ y
-first_same x y h = cc
-
 -- values of a type with the same constants have the same number
 pub same_number : (s : Shape) (m n : ℕ) → IsSmall s → m < count s → n < count s → value_texts s m ≡ value_texts s n → m ≡ n
-same_number (domain cs) m n small within inside e = one_place cs m n small.1 within inside (first_same (get_or cs m []) (get_or cs n []) e)
+same_number (domain cs) m n small within inside e = one_place cs m n small.1 within inside (head_of (get_or cs m []) (get_or cs n []) [] [] e)
 same_number (tuple ss) m n small within inside e = same_tuple ss m n small within inside e
 same_number s m n small within inside e = absurd small
 
@@ -57,18 +55,11 @@ names_number s row n small within inside = (
   λ c. (n, c, refl),
 )
 
-some_in : (row : List ℕ) → 0 < length row → (n : ℕ) × Contains row n
-some_in [] h = absurd (omega (arith, h))
-some_in (n ∷ row) h = (n, (0, omega arith, refl))
-
-has_some : (row : List ℕ) (n : ℕ) → Contains row n → 0 < length row
-has_some row n h = let within : h.0 < length row = h.1 in omega (arith, within)
-
 -- it names some value exactly where it isn't empty
 pub names_some : (s : Shape) (row : List ℕ) → ((texts : List (List ℕ)) × Names s row texts) ↔ (0 < length row)
 names_some s row = (
-  λ h. has_some row h.1.0 h.1.1,
-  λ l. (let n = some_in row l in (value_texts s n.0, (n.0, n.1, refl))),
+  λ h. (let within : h.1.1.0 < length row = h.1.1.1 in omega (arith, within)),
+  λ l. (let n : ℕ = get_or row 0 0 in (value_texts s n, (n, (0, l, any_default row 0 n 0 l), refl))),
 )
 
 -- ---- what is said of each key stands in its row

@@ -1,22 +1,15 @@
 -- Values of features of entries, by their numbers and by their constants.
-use Rattle.std.proofs.Common.{◌≡◌, ◌↔◌, ℕ, ◌<◌, true, List, refl, sym, ap, ◌∙◌, subst}
-use Rattle.std.specs.Prelude.{◌==◌, Option, None, Some, MatchOption, slice_get}
-use Rattle.std.proofs.lemmas.Bool.{eqb-true, eq-eqb, false≢true}
-use Rattle.xdg_domain.specs.Shapes.{Shape, domain, tuple, set, iset, fields, fields_of, count, IsType, IsSmall}
-use Rattle.xdg_domain.specs.Valencies.{said_at}
-use Rattle.xdg_domain.specs.Values.{IsIn, IsFieldOf, AllBelow}
-use Rattle.xdg_domain.specs.declared.values.Value.{Value, out-Value}
+use Rattle.std.proofs.Common.{◌≡◌, ◌↔◌, ℕ, ◌<◌, true, List, sym, ap, ◌∙◌, subst}
+use Rattle.std.specs.Prelude.{◌==◌, Some}
+use Rattle.std.proofs.lemmas.Bool.{eqb-true, eq-eqb}
+use Rattle.xdg_domain.specs.Shapes.{Shape, domain, tuple, set, iset, count, IsType, IsSmall}
+use Rattle.xdg_domain.specs.Values.{IsIn, AllBelow}
+use Rattle.xdg_domain.specs.declared.values.Value.{Value}
 use Rattle.xdg_domain.specs.declared.values.Value.TheOpen.{Value-F}
-use Rattle.xdg_domain.proofs.Keyed.{said_right}
-use Rattle.xdg_packed.specs.Entries.{IsWhole}
-use Rattle.xdg_packed.specs.Lexicon.{Record}
-use Rattle.xdg_types.specs.declared.table.DimType.{DimType}
-use Rattle.xdg_types.specs.Table.{typed}
-use Rattle.xdg_build.proofs.Said.{field_in, each_of}
 use Rattle.xdg_build.specs.Readings.{value_texts}
 use Rattle.xdg_build.proofs.FeatureRows.{Names, names_number, same_number}
 use Rattle.xdg_formula.specs.Tables.{member_shape}
-use Rattle.xdg_build.specs.Tables.{is_or_has, says_in}
+use Rattle.xdg_build.specs.Tables.{is_or_has}
 use Rattle.xdg_build.specs.Truths.{IsOrHas}
 use Rattle.xdg_facts.specs.Rises.{has}
 use Rattle.xdg_facts.proofs.Rising.{contains_has, contains_of_has}
@@ -58,15 +51,3 @@ value_says (iset s) of (Value-F.Set ns) n texts h type is within said =
     set_says s ns n texts type is.1 (subst (λ t. n < count t) (sym same) within) (ap (λ t. value_texts t n) same ∙ said)
 value_says (iset s) of _ n texts h type is within said = absurd is
 value_says other of v n texts h type is within said = absurd (cc)
-
--- the same of what may be said
-pub said_says : (s of : Shape) (said : Option Value) (n : ℕ) (texts : List (List ℕ)) → member_shape s ≡ Some of → IsType s → ((v : Value) → said ≡ Some v → IsIn s (out-Value v)) → n < count of → value_texts of n ≡ texts
-    → (says_in said n ≡ true) ↔ MatchOption said ⊥ (λ v. IsOrHas s (out-Value v) texts)
-said_says s of None n texts h type is within texts_are = ((λ e. absurd (false≢true e)), (λ no_value. absurd no_value))
-said_says s of (Some v) n texts h type is within texts_are = value_says s of (out-Value v) n texts h type (is v refl) within texts_are
-
--- ---- entries
-
--- what a whole record says for a feature is of its type
-pub said_field : (dim : DimType) (m : Record) (place : ℕ) (name : List ℕ) (type : Shape) (v : Value) → IsWhole dim m → slice_get (typed dim.fields) place ≡ Some (name, type) → said_at m place ≡ Some v → IsIn type (out-Value v)
-said_field dim m place name type v whole stands is = field_in (typed dim.fields) place name type v stands (said_right (IsFieldOf (fields_of (typed dim.fields))) m place v (each_of dim m whole) is)

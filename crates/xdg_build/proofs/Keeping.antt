@@ -1,5 +1,5 @@
 -- A compiled sentence keeps the solutions of the grammar.
-use Rattle.std.proofs.Common.{◌≡◌, ◌<◌, None, List, [], ◌∷◌, map, refl, sym, subst, inl, inr, All}
+use Rattle.std.proofs.Common.{◌≡◌, ◌<◌, None, List, map, sym, subst, All}
 use Rattle.std.specs.Prelude.{◌↔◌, get_or}
 use Rattle.std.specs.List.{AllZip}
 use Rattle.std.proofs.lemmas.List.{get_or-map, length-map}
@@ -13,6 +13,7 @@ use Rattle.xdg_problem.specs.Relations.{Relation}
 use Rattle.xdg_problem.specs.Solutions as compiled
 use Rattle.xdg_types.specs.Table.{IsTable}
 use Rattle.xdg_packed.specs.Entries.{IsRightLexicon}
+use Rattle.xdg_principles.proofs.Sides.{zip_map}
 use Rattle.xdg_principles.specs.declared.building.PrincipleUse.{PrincipleUse}
 use Rattle.xdg_principles.specs.Typed.{AreTypedUses}
 use Rattle.xdg_check.specs.Checked.{IsChecked}
@@ -34,15 +35,12 @@ use Rattle.xdg_facts.proofs.In.{in_get}
 
 -- ---- lists
 
-zip_map : {A B : Type 0} (R : A → B → Type 0) (f : A → B) (xs : List A) → ((x : A) → In xs x → R x (f x)) → AllZip R xs (map f xs)
-zip_map R f [] h = tt
-zip_map R f (x ∷ xs) h = (h x (inl refl), zip_map R f xs (λ y i. h y (inr i)))
-
-unmapped : {A B : Type 0} (P : B → Type 0) (f : A → B) (xs : List A) → All P (map f xs) → All (λ x. P (f x)) xs
-unmapped P f xs all k d within = subst P (get_or-map f xs k d (f d) within) (all k (f d) (subst (λ n. k < n) (sym (length-map xs f)) within))
-
-along : {A : Type 0} (P Q : A → Type 0) (xs : List A) → ((x : A) → In xs x → P x → Q x) → All P xs → All Q xs
-along P Q xs h all k d within = h (get_or xs k d) (in_get xs k d within) (all k d within)
+-- what holds of each of what is made of a list, where it holds of an element just if it holds of what is made of it
+mapped_on : {A B : Type 0} (Q : A → Type 0) (P : B → Type 0) (f : A → B) (xs : List A) → ((x : A) → In xs x → Q x ↔ P (f x)) → All Q xs ↔ All P (map f xs)
+mapped_on Q P f xs same = (
+  λ all. All-map P f xs (λ k d within. (same (get_or xs k d) (in_get xs k d within)).0 (all k d within)),
+  λ all k d within. (same (get_or xs k d) (in_get xs k d within)).1 (subst P (get_or-map f xs k d (f d) within) (all k (f d) (subst (λ n. k < n) (sym (length-map xs f)) within))),
+)
 
 -- ---- solutions
 
@@ -62,21 +60,14 @@ module _ (g : Grammar) (words : List SentenceWord) (table : IsTable g.table) (ty
     each_use : AllZip (λ (u : PrincipleUse) (group : Group). Satisfies g words a u ↔ Relation (compiled g words) group a) (used_uses g) (compiled g words).groups
     each_use = zip_map (λ (u : PrincipleUse) (group : Group). Satisfies g words a u ↔ Relation (compiled g words) group a) of_use (used_uses g) satisfied
 
-    all_satisfied : All (λ (group : Group). Relation (compiled g words) group a) (compiled g words).groups → All (Satisfies g words a) (used_uses g)
-    all_satisfied all =
-        along (λ (u : PrincipleUse). Relation (compiled g words) (of_use u) a) (Satisfies g words a) (used_uses g) (λ u i. (satisfied u i).1)
-        (unmapped (λ (group : Group). Relation (compiled g words) group a) of_use (used_uses g) all)
-
-    all_related : All (Satisfies g words a) (used_uses g) → All (λ (group : Group). Relation (compiled g words) group a) (compiled g words).groups
-    all_related all =
-        All-map (λ (group : Group). Relation (compiled g words) group a) of_use (used_uses g)
-        (along (Satisfies g words a) (λ (u : PrincipleUse). Relation (compiled g words) (of_use u) a) (used_uses g) (λ u i. (satisfied u i).0) all)
+    all_satisfied : All (Satisfies g words a) (used_uses g) ↔ All (λ (group : Group). Relation (compiled g words) group a) (compiled g words).groups
+    all_satisfied = mapped_on (Satisfies g words a) (λ (group : Group). Relation (compiled g words) group a) of_use (used_uses g) satisfied
 
   solution_of : (a : Analysis) → compiled.IsSolution (compiled g words) a → IsSolutionOf g words a
-  solution_of a h = record { fits = (same_analyses g words admitted a).0 h.fits; each = all_satisfied a h.fits h.each }
+  solution_of a h = record { fits = (same_analyses g words admitted a).0 h.fits; each = (all_satisfied a h.fits).1 h.each }
 
   of_solution : (a : Analysis) → IsSolutionOf g words a → compiled.IsSolution (compiled g words) a
-  of_solution a h = let is : IsAnalysis (compiled g words) a = (same_analyses g words admitted a).1 h.fits in record { fits = is; each = all_related a is h.each }
+  of_solution a h = let is : IsAnalysis (compiled g words) a = (same_analyses g words admitted a).1 h.fits in record { fits = is; each = (all_satisfied a is).0 h.each }
 
   keeps_solutions : KeepsSolutions g words (compiled g words)
   keeps_solutions = record {

@@ -27,8 +27,9 @@ use Rattle.xdg_build.specs.Compiled.{candidates_of, compiled}
 use Rattle.xdg_build.specs.Problems.{IsPlanOf, IsFor}
 use Rattle.xdg_build.specs.Refusals.{refusal}
 use Rattle.xdg_build.proofs.Admitted.{IsKnown, IsAdmitted, is_admitted}
-use Rattle.xdg_build.proofs.Numbered.{each_below, are_candidates}
+use Rattle.xdg_build.proofs.Numbered.{are_candidates}
 use Rattle.xdg_build.proofs.Planned as planned
+use Rattle.xdg_build.proofs.Stocked.{word_entries}
 
 module _ (g : Grammar) (words : List SentenceWord) (groups : List Group) where
   abbrev made : Parts
@@ -89,8 +90,8 @@ module _ (g : Grammar) (words : List SentenceWord) (groups : List Group) where
 pub known_entries : (g : Grammar) (words : List SentenceWord) (candidates : List (List EntryNo)) → candidates ≡ candidates_of g words → All (All (λ (entry : EntryNo). entry.0 < length g.lexicon.entries)) candidates
 known_entries g words candidates same =
     let P : List EntryNo → Type 0 = All (λ (entry : EntryNo). entry.0 < length g.lexicon.entries) in
-    subst (All P) (sym same) (All-map P (λ (word : SentenceWord). numbers_of (words_of g.lexicon) word.text) words (λ k d within.
-    subst (λ n. All (λ (entry : EntryNo). entry.0 < n) (numbers_of (words_of g.lexicon) (get_or words k d).text)) (length-map g.lexicon.entries (word_of g.lexicon.dim g.lexicon.field)) (each_below (words_of g.lexicon) (get_or words k d).text)))
+    let numbers : SentenceWord → List EntryNo = λ word. numbers_of (words_of g.lexicon) word.text in
+    subst (All P) (sym same) (All-map P numbers words (λ k d within. word_entries g (get_or words k d).text (numbers (get_or words k d)) refl))
 
 -- the compiled sentence is a problem of its grammar
 plans_are : (g : Grammar) (used : List ℕ) → AllZip IsPlanOf (dims_at g.table.dims used) (map (plan_at g g.table.dims) used)

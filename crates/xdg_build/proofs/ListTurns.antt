@@ -1,9 +1,9 @@
 -- Turns of loops over lists.
-use Rattle.std.proofs.Common.{◌≡◌, ℕ, suc, ◌<◌, ◌≤◌, ◌+◌, Bool, true, false, cond, List, [], ◌∷◌, ◌++◌, length, get_or, map, take, drop, ap, sym, ◌∙◌, subst, arith, eq-eqb}
+use Rattle.std.proofs.Common.{◌≡◌, ℕ, suc, ◌<◌, ◌+◌, Bool, true, false, cond, List, [], ◌∷◌, ◌++◌, length, get_or, map, take, drop, ap, sym, ◌∙◌, subst, arith, eq-eqb}
 use Rattle.std.specs.Prelude.{◌==◌, filter, flat_map}
 use Rattle.std.specs.List.{AllZip, list_any}
 use Rattle.std.proofs.lemmas.Bool.{ne_eqb, cond-true, cond-false}
-use Rattle.std.proofs.lemmas.List.{append_assoc, flat_map_more, take_all, take_more}
+use Rattle.std.proofs.lemmas.List.{append_assoc, flat_map_more, take_more}
 use Rattle.std.proofs.Math.Seq.{drop-cons}
 use Rattle.xdg_types.specs.Table.{Table}
 use Rattle.xdg_build.specs.Grammars.{place_of_used, is_used}
@@ -56,6 +56,3 @@ pub zip_more : {A B : Type 0} (R : A → B → Type 0) (xs : List A) (i : ℕ) (
 zip_more R xs i ys now x y l is pushed zip last =
     subst (AllZip R (take (i + 1) xs)) (sym pushed)
     (subst (λ front. AllZip R front (ys ++ y ∷ [])) (ap (λ one. take i xs ++ one ∷ []) is ∙ sym (take_more xs i x l)) (zip_behind R (take i xs) ys x y zip last))
-
-pub zip_all : {A B : Type 0} (R : A → B → Type 0) (xs : List A) (i : ℕ) (ys : List B) → length xs ≤ i → AllZip R (take i xs) ys → AllZip R xs ys
-zip_all R xs i ys over zip = subst (λ front. AllZip R front ys) (take_all i xs over) zip

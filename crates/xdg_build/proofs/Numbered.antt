@@ -12,6 +12,7 @@ use Rattle.xdg_packed.specs.Lexicon.{number, places_of, numbers_of}
 use Rattle.xdg_problem.specs.Problems.{AreCandidates}
 use Rattle.xdg_domain.proofs.Numbers.{numbers_increase}
 use Rattle.xdg_facts.specs.Rises.{numbers_below}
+use Rattle.xdg_facts.proofs.Contained.{contains_map}
 use Rattle.xdg_facts.proofs.Rising.{contains_of_has, has_between}
 
 -- a number stands among numbers of entries
@@ -19,9 +20,6 @@ contains_numbers : (xs : List ℕ) (entry : EntryNo) → Contains (map number xs
 contains_numbers xs entry h =
     let within : h.0 < length xs = subst (λ n. h.0 < n) (length-map xs number) h.1 in
     (h.0, within, ap (λ (n : EntryNo). n.0) (sym (get_or-map number xs h.0 entry.0 entry within) ∙ h.2))
-
-numbers_contain : (xs : List ℕ) (entry : EntryNo) → Contains xs entry.0 → Contains (map number xs) entry
-numbers_contain xs entry h = (h.0, subst (λ n. h.0 < n) (sym (length-map xs number)) h.1, get_or-map number xs h.0 entry.0 entry h.1 ∙ ap number h.2)
 
 below_count : (count : ℕ) → All (λ n. n < count) (range_with_len 0 count)
 below_count count = All-from_get_or (λ n. n < count) (range_with_len 0 count) 0 (λ i h.
@@ -56,7 +54,7 @@ module _ (words : List (List ℕ)) (word : List ℕ) where
 
   pub stands_numbered : (entry : EntryNo) → entry.0 < length words → get_or words entry.0 [] ≡ word → Contains (numbers_of words word) entry
   stands_numbered entry within is =
-      numbers_contain (places_of words word) entry
+      contains_map number (places_of words word) entry.0
       (contains_of_has (places_of words word) entry.0 (has_between stands 0 (length words) entry.0 (omega arith) (omega (arith, within)) ∙ (bytes_eq-Decides (get_or words entry.0 []) word).1 is))
 
   places_rise : AllPairs (λ (a b : ℕ). a < b) (places_of words word)

@@ -1,10 +1,9 @@
 -- The compiled dimensions are dimensions of a problem.
-use Rattle.std.proofs.Common.{◌≡◌, ℕ, ◌<◌, ◌≤◌, zero, suc, List, [], ◌∷◌, length, get_or, map, refl, sym, ap, ◌∙◌, subst, arith, All, Some}
+use Rattle.std.proofs.Common.{◌≡◌, ℕ, ◌<◌, ◌≤◌, List, [], ◌∷◌, length, get_or, map, refl, sym, ap, ◌∙◌, subst, arith, All, Some}
 use Rattle.std.specs.Prelude.{◌≢◌, slice_get}
 use Rattle.std.specs.List.{AllPairs, range_with_len}
 use Rattle.std.proofs.lemmas.List.{get_or-map, length-map}
-use Rattle.std.proofs.lemmas.Option.{slice_get-get_or}
-use Rattle.xdg_facts.proofs.In.{differ_once}
+use Rattle.std.proofs.lemmas.Option.{slice_get-get_or, slice_get_within, get_or_from_slice_get}
 use Rattle.std.proofs.lemmas.List.Elements.{All-nil, All-cons, All-map}
 use Rattle.std.proofs.lemmas.List.FromFn.{length-map-range_with_len, get_or-map-range_with_len}
 use Rattle.xdg_domain.specs.declared.types.Ty.{Ty}
@@ -19,6 +18,9 @@ use Rattle.xdg_formula.specs.Tables.{no_dim}
 use Rattle.xdg_build.specs.Plans.{shown_as, attr_plan, attr_plans, dim_plan, plan_at, plans}
 use Rattle.xdg_build.proofs.Different.{differ_by, differ_all, same_tuple, some_text}
 use Rattle.xdg_facts.specs.Membership.{Differ}
+use Rattle.xdg_facts.proofs.Lists.{any_default}
+use Rattle.xdg_types.proofs.Kept.{at_place, keeps_at}
+use Rattle.xdg_types.proofs.Places as placed
 use Rattle.xdg_terms.proofs.Meant.{one_place}
 use Rattle.xdg_formula.proofs.Turns.{place_within}
 
@@ -81,28 +83,22 @@ module _ (g : Grammar) where
         attrs = are_attrs (typed dim.attrs) h.attributes;
       }
 
+-- what holds of each element holds of the one that stands at a place
+got : {X : Type 0} (Each : List X → Type 0) (One : X → Type 0) → ((x : X) (xs : List X) → Each (x ∷ xs) → One x × Each xs) → (xs : List X) (i : ℕ) (x : X) → Each xs → slice_get xs i ≡ Some x → One x
+got Each One parts xs i x h stands = at_place Each One parts xs i x h (slice_get_within xs i x stands) (sym (get_or_from_slice_get xs i x x stands))
+
 pub feature_right : (all : Typed) (f : ℕ) (name : List ℕ) (type : Shape) → AreFeatures all → slice_get all f ≡ Some (name, type) → IsType type
-feature_right [] f name type h stands = absurd cc
-feature_right (one ∷ all) zero name type h stands = (let same : one ≡ (name, type) = cc in subst (λ (x : List ℕ × Shape). IsType x.1) same h.0)
-feature_right (one ∷ all) (suc f) name type h stands = feature_right all f name type h.1 stands
+feature_right all f name type = got AreFeatures (λ one. IsType one.1) (λ _ _ h. h) all f (name, type)
 
 pub attribute_right : (all : Typed) (i : ℕ) (name : List ℕ) (type : Shape) → AreAttributes all → slice_get all i ≡ Some (name, type) → IsSmall type × (0 < count type)
-attribute_right [] i name type h stands = absurd cc
-attribute_right (one ∷ all) zero name type h stands = (let same : one ≡ (name, type) = cc in subst (λ (x : List ℕ × Shape). IsSmall x.1 × (0 < count x.1)) same h.0)
-attribute_right (one ∷ all) (suc i) name type h stands = attribute_right all i name type h.1 stands
+attribute_right all i name type = got AreAttributes (λ one. IsSmall one.1 × (0 < count one.1)) (λ _ _ h. h) all i (name, type)
 
 pub kept_at : (dims : List DimType) (k : ℕ) → KeepDims dims → k < length dims → KeepsDim (get_or dims k no_dim)
-kept_at [] k h within = absurd (omega (arith, within))
-kept_at (dim ∷ dims) zero h within = h.0
-kept_at (dim ∷ dims) (suc k) h within = kept_at dims k h.1 (omega (arith, within))
+kept_at dims k h within = keeps_at dims k (get_or dims k no_dim) h within (any_default dims k no_dim (get_or dims k no_dim) within)
 
 -- no place stands twice
-apart : (bound : ℕ) (ks : List ℕ) → ArePlaces bound ks → Differ ks
-apart bound [] h = tt
-apart bound (k ∷ ks) h = (h.0.1, apart bound ks h.1)
-
 pub places_once : (bound : ℕ) (ks : List ℕ) (i j : ℕ) → ArePlaces bound ks → i < length ks → j < length ks → get_or ks i 0 ≡ get_or ks j 0 → i ≡ j
-places_once bound ks i j h l m e = differ_once ks i j (get_or ks i 0) (apart bound ks h) (slice_get-get_or ks i 0 l) (slice_get-get_or ks j 0 m ∙ ap (λ (k : ℕ). Some k) (sym e))
+places_once bound ks i j h l m e = placed.places_once bound ks i j (get_or ks i 0) h (slice_get-get_or ks i 0 l) (slice_get-get_or ks j 0 m ∙ ap (λ (k : ℕ). Some k) (sym e))
 
 module _ (g : Grammar) (right : IsTable g.table) where
   abbrev at : ℕ → DimPlan

@@ -1,5 +1,5 @@
 -- The compiled principle uses are right over parts that suit them.
-use Rattle.std.proofs.Common.{◌≡◌, ℕ, ◌<◌, Bool, true, List, [], length, get_or, map, filter, sym, ap, ap₂, ◌∙◌, subst, arith}
+use Rattle.std.proofs.Common.{◌≡◌, ℕ, ◌<◌, Bool, true, List, [], length, get_or, map, filter, refl, sym, ap, ap₂, ◌∙◌, subst, arith}
 use Rattle.std.specs.Prelude.{All, flat_map, Result, Ok, Err, IfOk}
 use Rattle.std.proofs.lemmas.List.{get_or_default}
 use Rattle.std.proofs.lemmas.List.Elements.{All-map}
@@ -24,7 +24,7 @@ use Rattle.xdg_build.specs.Suits.{Suits}
 use Rattle.xdg_build.proofs.Dimensions.{below_at}
 use Rattle.xdg_build.proofs.Forms.{which_within}
 use Rattle.xdg_build.proofs.Lists.{in_filter}
-use Rattle.xdg_build.proofs.Said.{entry_at}
+use Rattle.xdg_packed.proofs.OfTable.{entry_at}
 use Rattle.xdg_build.proofs.Taken.{dim_id, group_right}
 use Rattle.xdg_facts.specs.Membership.{In}
 use Rattle.xdg_facts.proofs.In.{in_get}
@@ -51,7 +51,7 @@ wide g u dim typed_so used lexicon is n d less = subst (λ x. dim < length x) (g
     below = below_at g.table u typed_so used place (in_get u.dims (feature_dim u.principle) 0 (omega (arith, typed_so.count, which_within u.principle)))
 
     entry : IsEntry g.table (get_or g.lexicon.entries n [])
-    entry = entry_at g.table g.lexicon.entries n lexicon.entries less
+    entry = entry_at g.table g.lexicon.entries n _ lexicon.entries less refl
 
 -- the group that was made of its parts
 pub made_group : (g : Grammar) (candidates : List (List EntryNo)) (u : PrincipleUse) (q : Principle) (dims places : List ℕ) (args : List Arg) (used : List ℕ) (dim : ℕ)

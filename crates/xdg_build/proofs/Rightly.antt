@@ -22,7 +22,7 @@ use Rattle.xdg_formula.specs.Rules.{RuleTerm}
 use Rattle.xdg_formula.specs.Written as w
 use Rattle.xdg_formula.specs.Written.{tree, trees_of}
 use Rattle.xdg_formula.proofs.Treed.{treed}
-use Rattle.xdg_build.specs.Formulas.{place_of}
+use Rattle.xdg_build.specs.Formulas.{place_or_zero}
 use Rattle.xdg_build.specs.Places.{names_at}
 use Rattle.xdg_build.specs.Right.{IsRight}
 use Rattle.xdg_build.proofs.Standing.{IsDimAt, dim_found, dim_of, text_at, type_found}
@@ -57,12 +57,12 @@ found_by name (Some found) rule h = (found, refl, h)
 
 -- ---- names
 
-pub node_at : (scope : List (List ℕ)) (node : Name) → unbound scope node ≡ [] → IsAt scope (place_of scope node.text) node.text
+pub node_at : (scope : List (List ℕ)) (node : Name) → unbound scope node ≡ [] → IsAt scope (place_or_zero scope node.text) node.text
 node_at scope node h = text_at scope node.text (is_there _ scope node h)
 
 -- a dimension, of which a rule finds nothing wrong
 pub dim_right : (table : Table) (dim : Name) (rule : DimType → List Fault) → in_dim (used_dims table) dim rule ≡ []
-    → IsDimAt table dim.text (place_of (names_at table.dims table.used) dim.text) × (rule (dim_of table dim.text) ≡ [])
+    → IsDimAt table dim.text (place_or_zero (names_at table.dims table.used) dim.text) × (rule (dim_of table dim.text) ≡ [])
 dim_right table dim rule h =
     let here = found_by dim (dim_named (used_dims table) dim.text) rule h in
     let at = dim_found table dim.text here.0 here.1 in
@@ -70,9 +70,9 @@ dim_right table dim rule h =
 
 -- an attribute or a feature of a dimension, of whose type a rule finds nothing wrong
 pub record IsMemberAt (table : Table) (all : DimType → List (List ℕ × Ty)) (rule : Ty → List Fault) (dim name : Name) : Type 0 where
-  pub dim_at : IsDimAt table dim.text (place_of (names_at table.dims table.used) dim.text)
+  pub dim_at : IsDimAt table dim.text (place_or_zero (names_at table.dims table.used) dim.text)
   pub type : Ty
-  pub stands : slice_get (all (dim_of table dim.text)) (place_of (firsts (all (dim_of table dim.text))) name.text) ≡ Some (name.text, type)
+  pub stands : slice_get (all (dim_of table dim.text)) (place_or_zero (firsts (all (dim_of table dim.text))) name.text) ≡ Some (name.text, type)
   pub right : rule type ≡ []
 
 pub member_right : (table : Table) (all : DimType → List (List ℕ × Ty)) (rule : Ty → List Fault) (dim name : Name) → in_dim (used_dims table) dim (λ found. under_name name (type_named (all found) name.text) rule) ≡ []
@@ -86,7 +86,7 @@ member_right table all rule dim name h =
 
 module _ (table : Table) (scope : List (List ℕ)) where
   pub edge_dim : (dim mother label daughter : Name) → IsRight (used_dims table) scope (w.edge dim mother label daughter)
-      → IsDimAt table dim.text (place_of (names_at table.dims table.used) dim.text) × (has_text (dim_of table dim.text).labels label.text ≡ true)
+      → IsDimAt table dim.text (place_or_zero (names_at table.dims table.used) dim.text) × (has_text (dim_of table dim.text).labels label.text ≡ true)
   edge_dim dim mother label daughter right =
       let at = dim_right table dim (λ found. missing _ found.labels label) (first_none (edge_faults (used_dims table) dim label) (unbound_nodes scope mother daughter) right.1) in
       (at.0, is_there _ (dim_of table dim.text).labels label at.1)

@@ -189,7 +189,7 @@ module _ (g : Grammar) (words : List SentenceWord) (a : Analysis) (u : Principle
         ∙ told.value_same g words a u h 0 some_dim v i
 
     stands : slice_get (typed (dimension g d1).attrs) i ≡ Some (member.name, member.type)
-    stands = told.attribute_stands g words a u h nth.First typing i some_dim member
+    stands = told.member_stands g words a u h sorts.Attribute nth.First typing i some_dim member
 
     text_is : (key : List ℕ) (v : ℕ) → argument u key ≡ Some (arg.Attr i) → attribute g words a u d1 key v ≡ value_texts member.type (number v)
     text_is key v under =

@@ -38,7 +38,8 @@ use Rattle.xdg_build.specs.Suits.{Suits}
 use Rattle.xdg_build.proofs.Dimensions.{Home, home_of, below_at, is_used_home, labels-home, members-home}
 use Rattle.xdg_build.proofs.Forms.{dims_wanted, first_within}
 use Rattle.xdg_build.proofs.Listed.{order_right}
-use Rattle.xdg_build.proofs.Said.{entry_at, feature_fits}
+use Rattle.xdg_build.proofs.Said.{feature_fits}
+use Rattle.xdg_packed.proofs.OfTable.{entry_at}
 use Rattle.xdg_build.proofs.TypedArguments.{Named, AllNamed, args_of, all_named, wanted_by}
 use Rattle.xdg_build.proofs.TypeRows.{RowsFit, same_count}
 use Rattle.xdg_facts.proofs.In.{in_get}
@@ -207,6 +208,6 @@ module _ (g : Grammar) (candidates : List (List EntryNo)) (parts : Parts) (u : P
     feats_each = λ v less. ap length (row v less) ∙ length-map (get_or candidates v []) of ∙ ap (λ all. length (get_or all v [])) (sym suits.candidates);
     features = λ v less. subst (All (AreFeatures p parts group)) (sym (row v less)) (All-map (AreFeatures p parts group) of (get_or candidates v []) (λ k d small.
         let entry : EntryNo = get_or (get_or candidates v []) k d in
-        features_right (get_or g.lexicon.entries entry.0 []) (entry_at g.table g.lexicon.entries entry.0 lexicon.entries (within v [] (node v less) k d small)) p named.0 typed_so.count));
+        features_right (get_or g.lexicon.entries entry.0 []) (entry_at g.table g.lexicon.entries entry.0 _ lexicon.entries (within v [] (node v less) k d small) refl) p named.0 typed_so.count));
     suits = suited p typed_so.of_texts;
   })

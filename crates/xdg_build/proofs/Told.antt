@@ -1,18 +1,17 @@
 -- A typed use in a used dimension: its dimensions, and what the entries of nodes say for its features.
 use Rattle.xdg_build.proofs.Planned.{kept_at, feature_right, attribute_right}
-use Rattle.std.proofs.Common.{◌≡◌, ℕ, ◌<◌, ◌↔◌, true, List, [], length, get_or, map, sym, ap, ap₂, ◌∙◌, subst, arith}
+use Rattle.std.proofs.Common.{◌≡◌, ℕ, ◌<◌, ◌↔◌, true, List, [], length, get_or, map, refl, sym, ap, ap₂, ◌∙◌, subst, arith}
 use Rattle.std.specs.Prelude.{Option, Some, MatchOption, slice_get, slice_index, flat_map}
 use Rattle.std.proofs.lemmas.List.{get_or-map, length-map}
-use Rattle.std.proofs.lemmas.Option.{slice_get_within, get_or_from_slice_get}
+use Rattle.std.proofs.lemmas.Option.{slice_get-get_or, slice_get_within, get_or_from_slice_get}
 use Rattle.xdg_base.specs.declared.ids.DimId.{DimId}
 use Rattle.xdg_base.specs.declared.ids.EntryNo.{EntryNo}
 use Rattle.xdg_domain.specs.Defaults.{IsFilledIn}
-use Rattle.xdg_domain.specs.Shapes.{Shape, text, IsType, fields_of, count, IsSmall}
+use Rattle.xdg_domain.specs.Shapes.{Shape, text, IsType, count, IsSmall}
 use Rattle.xdg_domain.specs.Valencies.{said_at}
-use Rattle.xdg_domain.specs.Values.{IsIn, IsFieldOf}
+use Rattle.xdg_domain.specs.Values.{IsIn}
 use Rattle.xdg_domain.specs.declared.values.Value.{Value, out-Value}
 use Rattle.xdg_domain.specs.declared.values.Value.TheOpen.{Value-F}
-use Rattle.xdg_domain.proofs.Keyed.{said_right}
 use Rattle.xdg_packed.specs.Lexicon.{Record}
 use Rattle.xdg_problem.specs.declared.analysis.Analysis.{Analysis}
 use Rattle.xdg_problem.specs.declared.parts.Feat.{Feat}
@@ -22,21 +21,23 @@ use Rattle.xdg_problem.specs.Features.{row}
 use Rattle.xdg_problem.specs.Vectors.{entry_places}
 use Rattle.xdg_types.specs.declared.table.DimType.{DimType}
 use Rattle.xdg_types.specs.Table.{Typed, typed, IsTable, KeepsDim}
-use Rattle.xdg_packed.specs.Entries.{IsWhole, IsEntry, IsRightLexicon}
+use Rattle.xdg_packed.specs.Entries.{IsEntry, IsRightLexicon}
 use Rattle.xdg_principles.specs.declared.building.Arg.{Arg}
 use Rattle.xdg_principles.specs.declared.building.Arg.TheVariants as arg
 use Rattle.xdg_principles.specs.declared.building.PrincipleUse.{PrincipleUse}
+use Rattle.xdg_problem.specs.declared.forms.Sort.{Sort}
 use Rattle.xdg_problem.specs.declared.forms.Sort.TheVariants as sorts
 use Rattle.xdg_problem.specs.declared.forms.Typing.{Typing}
 use Rattle.xdg_problem.specs.declared.forms.Which.{Which}
+use Rattle.xdg_principles.specs.Settings.{members_in}
 use Rattle.xdg_principles.specs.Typed.{IsTypedUse, IsTypedMember, number_of, labels_at}
 use Rattle.xdg_build.specs.Features.{rows_in, rows_of, feature}
 use Rattle.xdg_build.specs.Grammars.{Grammar, is_used, used_place}
 use Rattle.xdg_formula.specs.Tables.{no_dim, used_dims}
 use Rattle.xdg_build.specs.Groups.{features_in, features_at, group_of, dims_of}
-use Rattle.xdg_build.proofs.Dimensions.{used_below, Home, home_of, has_place, is_used_home, labels-home, members-home}
-use Rattle.xdg_build.proofs.Said as reading
-use Rattle.xdg_build.proofs.Said.{entry_at as entry_right_at}
+use Rattle.xdg_build.proofs.Dimensions.{used_at, used_below, Home, home_of, has_place, labels-home, members-home}
+use Rattle.xdg_build.proofs.Said.{said_of}
+use Rattle.xdg_packed.proofs.OfTable.{entry_at as entry_right_at}
 use Rattle.xdg_build.specs.Compiled.{candidates_of, compiled}
 use Rattle.xdg_build.specs.Readings.{edges_in, value_number, dimension, type_at, record_for, entry_at, said_for, OnFeature, feature_place}
 use Rattle.xdg_build.specs.Solutions.{IsAnalysisOf}
@@ -71,6 +72,18 @@ on_feature g a k v f type argument P told is =
       λ h. subst (A (Some told.value)) told.typed (subst (λ o. A o (type_at (typed (dimension g k).fields) f)) told.said (subst (λ o. OnFeature g a k v (feature_place o) P) is h)),
       λ p. subst (λ o. OnFeature g a k v (feature_place o) P) (sym is) (subst (λ o. A o (type_at (typed (dimension g k).fields) f)) (sym told.said) (subst (A (Some told.value)) (sym told.typed) p)),
     )
+
+pub told_of : (g : Grammar) (a : Analysis) (k v f : ℕ) (name : List ℕ) (type : Shape) → In g.table.used k → k < length g.table.dims → IsEntry g.table (entry_at g a v)
+    → slice_get (typed (dimension g k).fields) f ≡ Some (name, type) → IsTold g a k v f type
+told_of g a k v f name type used within is stands =
+    let x = said_of g.table (used_place g.table k) (dimension g k) (entry_at g a v) f name type is (k, (used_at g.table.used k used, slice_get-get_or g.table.dims k no_dim within)) stands in
+    record {
+      value = x.value;
+      said = ap (λ (r : Record). said_at r f) (record_same g.table.used (entry_at g a v) k is.count) ∙ x.is;
+      typed = ap (λ (one : List ℕ × Shape). one.1) (get_or_from_slice_get (typed (dimension g k).fields) f (name, type) ([], text) stands);
+      right = x.right;
+      filled = x.filled;
+    }
 
 -- what is known of an analysis and of a use in a used dimension
 pub record Given (g : Grammar) (words : List SentenceWord) (a : Analysis) (u : PrincipleUse) : Type 0 where
@@ -134,52 +147,35 @@ module _ (g : Grammar) (words : List SentenceWord) (a : Analysis) (u : Principle
   pub labels_are : (which : Which) → number_of which < length u.dims → labels_at g.table u which ≡ (dimension g (dim_number which)).labels
   labels_are which within = labels-home g.table u which within (home (number_of which) within) ∙ ap (λ (dim : DimType). dim.labels) (sym (dim_is (number_of which) within))
 
-  pub kept_dim : (m : ℕ) → m < length u.dims → KeepsDim (dimension g (get_or u.dims m 0))
-  kept_dim m within = kept_at g.table.dims (get_or u.dims m 0) h.table.dims (slice_get_within g.table.dims (get_or u.dims m 0) (home m within).dim (home m within).stands)
+  below : (m : ℕ) → m < length u.dims → get_or u.dims m 0 < length g.table.dims
+  below m within = h.right.dims (get_or u.dims m 0) (in_get u.dims m 0 within)
 
-  pub attribute_stands : (which : Which) (typing : Typing) (i : ℕ) → number_of which < length u.dims → (member : IsTypedMember g.table u h.right.shared sorts.Attribute which typing i)
-      → slice_get (typed (dimension g (dim_number which)).attrs) i ≡ Some (member.name, member.type)
-  attribute_stands which typing i within member =
-      ap (λ (dim : DimType). slice_get (typed dim.attrs) i) (dim_is (number_of which) within)
-      ∙ sym (ap (λ (all : Typed). slice_get all i) (members-home g.table u sorts.Attribute which within (home (number_of which) within))) ∙ member.stands
+  pub kept_dim : (m : ℕ) → m < length u.dims → KeepsDim (dimension g (get_or u.dims m 0))
+  kept_dim m within = kept_at g.table.dims (get_or u.dims m 0) h.table.dims (below m within)
+
+  -- the attribute or the feature that an argument names stands in its dimension
+  pub member_stands : (sort : Sort) (which : Which) (typing : Typing) (k : ℕ) → number_of which < length u.dims → (member : IsTypedMember g.table u h.right.shared sort which typing k)
+      → slice_get (typed (members_in sort (Some (dimension g (dim_number which))))) k ≡ Some (member.name, member.type)
+  member_stands sort which typing k within member =
+      ap (λ (dim : DimType). slice_get (typed (members_in sort (Some dim))) k) (dim_is (number_of which) within)
+      ∙ sym (ap (λ (all : Typed). slice_get all k) (members-home g.table u sort which within (home (number_of which) within))) ∙ member.stands
 
   pub attribute_small : (which : Which) (typing : Typing) (i : ℕ) → number_of which < length u.dims → (member : IsTypedMember g.table u h.right.shared sorts.Attribute which typing i) → IsSmall member.type × (0 < count member.type)
   attribute_small which typing i within member =
-      attribute_right (typed (dimension g (dim_number which)).attrs) i member.name member.type (kept_dim (number_of which) within).attributes (attribute_stands which typing i within member)
+      attribute_right (typed (dimension g (dim_number which)).attrs) i member.name member.type (kept_dim (number_of which) within).attributes (member_stands sorts.Attribute which typing i within member)
 
   entry_is : (v : ℕ) → v < length words → IsEntry g.table (entry_at g a v)
-  entry_is v node = entry_right_at g.table g.lexicon.entries (get_or a.entries v (record { 0 = 0 })).0 h.lexicon.entries (entry_within g words a h.is v node).1
+  entry_is v node = entry_right_at g.table g.lexicon.entries (get_or a.entries v (record { 0 = 0 })).0 _ h.lexicon.entries (entry_within g words a h.is v node).1 refl
 
   record_is : (k v : ℕ) → v < length words → record_for g.table.used (entry_at g a v) k ≡ get_or (entry_at g a v) (used_place g.table k) []
   record_is k v node = record_same g.table.used (entry_at g a v) k (entry_is v node).count
 
   module _ (which : Which) (typing : Typing) (f : ℕ) (within : number_of which < length u.dims) (member : IsTypedMember g.table u h.right.shared sorts.Feature which typing f) where
-    abbrev there : Home g.table (dim_number which)
-    there = home (number_of which) within
-
-    feature_stands : slice_get (typed there.dim.fields) f ≡ Some (member.name, member.type)
-    feature_stands = sym (ap (λ (all : Typed). slice_get all f) (members-home g.table u sorts.Feature which within there)) ∙ member.stands
-
-    feature_there : slice_get (typed (dimension g (dim_number which)).fields) f ≡ Some (member.name, member.type)
-    feature_there = ap (λ (dim : DimType). slice_get (typed dim.fields) f) (dim_is (number_of which) within) ∙ feature_stands
-
     pub feature_type : IsType member.type
-    feature_type = feature_right (typed (dimension g (dim_number which)).fields) f member.name member.type (kept_dim (number_of which) within).features feature_there
+    feature_type = feature_right (typed (dimension g (dim_number which)).fields) f member.name member.type (kept_dim (number_of which) within).features (member_stands sorts.Feature which typing f within member)
 
     pub told : (v : ℕ) → v < length words → IsTold g a (dim_number which) v f member.type
-    told v node =
-        let k : ℕ = dim_number which in
-        let m : Record = get_or (entry_at g a v) (used_place g.table k) [] in
-        let whole : IsWhole there.dim m = (entry_is v node).each (used_place g.table k) there.dim (is_used_home g.table k there) in
-        let x : (x : Value) × (said_at m f ≡ Some x) × IsFilledIn member.type (out-Value x) =
-        reading.filled_at (typed there.dim.fields) 0 f f member.name member.type m (reading.zero_first f) feature_stands (reading.filled_of there.dim m whole) in
-        record {
-          value = x.0;
-          said = ap (λ (r : Record). said_at r f) (record_is k v node) ∙ x.1;
-          typed = ap (λ (one : List ℕ × Shape). one.1) (get_or_from_slice_get (typed (dimension g k).fields) f (member.name, member.type) ([], text) feature_there);
-          right = reading.field_in (typed there.dim.fields) f member.name member.type x.0 feature_stands (said_right (IsFieldOf (fields_of (typed there.dim.fields))) m f x.0 (reading.each_of there.dim m whole) x.1);
-          filled = x.2;
-        }
+    told v node = told_of g a (dim_number which) v f member.name member.type (has_dim (number_of which) within) (below (number_of which) within) (entry_is v node) (member_stands sorts.Feature which typing f within member)
 
   -- the rows of a feature of a node's entry, compiled
   pub row_is : (which : Which) (places : List ℕ) (f v j l : ℕ) (type : Shape) → feature_dim u.principle ≡ number_of which → flat_map features_in u.args ≡ places

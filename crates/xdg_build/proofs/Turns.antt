@@ -15,7 +15,7 @@ use Rattle.xdg_types.specs.declared.table.DimType.{DimType}
 use Rattle.xdg_types.specs.Table.{typed, AreAttributes, KeepDims}
 use Rattle.xdg_build.specs.Grammars.{Grammar}
 use Rattle.xdg_formula.specs.Tables.{no_dim}
-use Rattle.xdg_build.proofs.Planned.{kept_at}
+use Rattle.xdg_types.proofs.Kept.{at_place, keeps_at}
 use Rattle.xdg_build.specs.Plans.{shown_as, dim_plan, plan_at}
 
 -- ---- constants of a tuple
@@ -59,14 +59,12 @@ values_more s number values new one before is pushed =
     pushed ∙ ap₂ (λ (front : List Shown) (last : Shown). front ++ last ∷ []) before is ∙ sym (map-range_with_len_more (shown_as s) 0 number number (omega arith))
 
 pub small_at : (attrs : List (List ℕ × Ty)) (i : ℕ) (attr : List ℕ × Ty) → i < length attrs → attr ≡ get_or attrs i attr → AreAttributes (typed attrs) → IsSmall (shape attr.1)
-small_at [] i attr within is h = absurd (omega (arith, within))
-small_at (first ∷ attrs) zero attr within is h = subst (λ (one : List ℕ × Ty). IsSmall (shape one.1)) (sym is) h.0.0
-small_at (first ∷ attrs) (suc i) attr within is h = small_at attrs i attr (omega (arith, within)) is h.1
+small_at attrs i attr within is h = at_place (λ all. AreAttributes (typed all)) (λ one. IsSmall (shape one.1)) (λ _ _ are. (are.0.0, are.1)) attrs i attr h within is
 
 -- ---- dimensions
 
 pub attributes_at : (dims : List DimType) (k : ℕ) (dim : DimType) → KeepDims dims → k < length dims → dim ≡ get_or dims k dim → AreAttributes (typed dim.attrs)
-attributes_at dims k dim kept within is = subst (λ (one : DimType). AreAttributes (typed one.attrs)) (sym (is ∙ get_or_default dims k dim no_dim within)) (kept_at dims k kept within).attributes
+attributes_at dims k dim kept within is = (keeps_at dims k dim kept within is).attributes
 
 pub plans_more : (g : Grammar) (dims : List DimType) (used : List ℕ) (i k : ℕ) (dim : DimType) (made new : List DimPlan) (one : DimPlan) → i < length used → k ≡ get_or used i 0 → k < length dims → dim ≡ get_or dims k dim → one ≡ dim_plan g k dim
     → made ≡ map (plan_at g dims) (take i used) → new ≡ made ++ one ∷ [] → new ≡ map (plan_at g dims) (take (i + 1) used)

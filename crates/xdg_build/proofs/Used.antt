@@ -1,6 +1,6 @@
 -- The used dimensions of a grammar, by their places and their names, and the dimensions of a problem.
-use Rattle.std.proofs.Common.{◌≡◌, ℕ, ◌<◌, Bool, true, inl, inr, List, [], ◌∷◌, length, get_or, map, refl, sym, ap, ap₂, ◌∙◌, subst, arith}
-use Rattle.std.specs.Prelude.{◌==◌, Contains, cond, filter, slice_index_or}
+use Rattle.std.proofs.Common.{◌≡◌, ℕ, ◌<◌, true, inl, inr, List, [], ◌∷◌, length, get_or, map, sym, ap, ◌∙◌, subst, arith}
+use Rattle.std.specs.Prelude.{◌==◌, Contains, slice_index_or}
 use Rattle.std.proofs.lemmas.Bool.{cases_eq, eq-eqb, eqb-true, ne_eqb}
 use Rattle.std.proofs.lemmas.List.{get_or-map, length-map}
 use Rattle.std.proofs.lemmas.List.Elements.{All-contains, All-filter, filter_passes}
@@ -29,13 +29,10 @@ use Rattle.xdg_build.specs.Problems.{IsPlanOf, IsFor}
 use Rattle.xdg_build.proofs.Lists.{zip_at}
 use Rattle.xdg_build.proofs.Standing.{IsDimAt}
 use Rattle.xdg_build.specs.Truths.{IsCalled}
-use Rattle.xdg_facts.proofs.Lists.{contains_more, zip_length}
+use Rattle.xdg_facts.proofs.Keeping.{filter_on}
+use Rattle.xdg_facts.proofs.Lists.{zip_length}
 use Rattle.xdg_facts.specs.Membership.{In}
 use Rattle.xdg_terms.proofs.Meant.{one_place}
-
-filter_same : (p q : Edge → Bool) (es : List Edge) → ((e : Edge) → Contains es e → p e ≡ q e) → filter p es ≡ filter q es
-filter_same p q [] h = refl
-filter_same p q (e ∷ es) h = ap₂ (λ (b : Bool) (more : List Edge). cond b (e ∷ more) more) (h e (0, omega arith, refl)) (filter_same p q es (λ f is. h f (contains_more e es f is)))
 
 -- ---- places of used dimensions
 
@@ -112,7 +109,7 @@ module _ (table : Table) (lexicon : Lexicon) (parts : Parts) (is : IsTable table
     edge_dim e stands = (let l : e.dim.0 < length parts.dims = dim_within parts e (All-contains (IsPlace parts) a.edges e fits.places stands) in omega (arith, l, dims_long, used_long table lexicon is))
 
     pub edges_same : (d : ℕ) → d < length (used_dims table) → edges_on d a.edges ≡ edges_in h a (among_all table lexicon is d)
-    edges_same d l = filter_same (λ e. e.dim.0 == d) (λ e. get_or table.used e.dim.0 0 == among_all table lexicon is d) a.edges (λ e stands. elim (cases_eq e.dim.0 d) [
+    edges_same d l = filter_on (λ e. e.dim.0 == d) (λ e. get_or table.used e.dim.0 0 == among_all table lexicon is d) a.edges (λ e stands. elim (cases_eq e.dim.0 d) [
       | inl same ↦ eq-eqb e.dim.0 d same ∙ sym (eq-eqb (get_or table.used e.dim.0 0) (among_all table lexicon is d) (ap (λ i. get_or table.used i 0) same))
       | inr other ↦ ne_eqb e.dim.0 d other ∙ sym (ne_eqb (get_or table.used e.dim.0 0) (among_all table lexicon is d)
           (λ same. other (places_once (length table.dims) table.used e.dim.0 d is.used (edge_dim e stands) (used_within table lexicon is d l) same)))

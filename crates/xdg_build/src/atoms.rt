@@ -9,7 +9,7 @@ ghost use Rattle.xdg_build.specs.Problems.{IsFor};
 ghost use Rattle.xdg_build.specs.Right.{IsRight};
 
 use crate::feats::feat_table;
-use crate::lookups::{dim_number, dim_type, label_number, node_number, type_place};
+use crate::lookups::{dim_number, dim_type, node_number, type_place};
 use crate::values::value_number;
 use std::alloc::Global;
 use xdg_ast::{Name, Term};
@@ -17,7 +17,7 @@ use xdg_base::{AttrId, DimId, LabelId, OutOfMemory};
 use xdg_domain::Ty;
 use xdg_packed::Packed;
 use xdg_problem::{Formula, Problem};
-use xdg_types::TypeTable;
+use xdg_types::{TypeTable, label_number};
 
 /// An edge of a dimension, from a node, with a label, to a node.
 pub(crate) fn edge(

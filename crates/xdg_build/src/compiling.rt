@@ -52,6 +52,7 @@ pub fn compile(
     ensures keeps { IfOk result (KeepsEach types.now packed.now problem.now rules.now.rules) }
     ensures is { IfOk result (λ made. made ≡ formulas_of types.now packed.now problem.now rules.now.rules) }
 {
+    // For the proof alone: the first call tells that the types are those of a table, the second that the problem is one.
     let _ = types.dims();
     let _ = problem.parts();
     let mut made = List::new(alloc);

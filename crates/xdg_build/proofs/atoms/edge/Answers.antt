@@ -12,7 +12,7 @@ pub label_number-requires : goal.label_number-requires
 label_number-requires c =
     let within = (edge_dim c.args.types.now (map (λ text. text.now) c.args.bound.now) c.args.dim.now c.args.mother.now c.args.label.now c.args.daughter.now c.requires.right).0.within in
     let kept = type_kept c.args.types.now c.args.packed.now c.dim_number-place.ensures.keeps c.dim_number-place.result (omega (arith, within, c.dim_number-place.ensures.at)) in
-    rw (c.as_slice-labels.ensures, c.dim_type.ensures) kept.few_labels
+    record { few = rw (c.as_slice-labels.ensures, c.dim_type.ensures) kept.few_labels }
 
 pub returns : goal.returns
 returns c = cc

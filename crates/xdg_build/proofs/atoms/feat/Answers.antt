@@ -16,7 +16,7 @@ use Rattle.xdg_build.proofs.Atomic.{IsHere, here_is, member_here, members_found,
 use Rattle.xdg_build.proofs.Compiled.{feat_made, member_small, shape_at}
 use Rattle.xdg_build.proofs.Planned.{feature_right}
 use Rattle.xdg_build.proofs.Rightly.{feat_right, members_by}
-use Rattle.xdg_build.proofs.Said.{entry_at}
+use Rattle.xdg_packed.proofs.OfTable.{entry_at}
 use Rattle.xdg_build.proofs.atoms.feat.Goals.{After-type_place-own, After-member_type}
 use Rattle.xdg_build.proofs.atoms.feat.Goals as goal
 
@@ -62,7 +62,7 @@ feat_table-requires-clause-entries c =
 pub feat_table-requires-clause-dim : goal.feat_table-requires-clause-dim
 feat_table-requires-clause-dim c = λ e l.
     let within = (feat_right c.args.types.now (map (λ text. text.now) c.args.bound.now) c.args.node.now c.args.dim.now c.args.feature.now c.args.value.now c.requires.right).dim_at.within in
-    let long = (entry_at c.args.types.now c.args.packed.now.entries e c.requires.fits.entries l).count in
+    let long = (entry_at c.args.types.now c.args.packed.now.entries e _ c.requires.fits.entries l refl).count in
     let same : c.from.result ≡ c.dim_number-place.result = cc in
     omega (arith, within, long, same, c.dim_number-place.ensures.at, length-map c.args.types.now.used (λ k. get_or c.args.types.now.dims k no_dim))
 
