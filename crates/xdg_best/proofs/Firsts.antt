@@ -2,7 +2,7 @@
 use Rattle.std.proofs.Common.{◌≡◌, ◌∙◌, ℕ, suc, ◌+◌, ◌<◌, ◌≤◌, ◌||◌, ◌==◌, ◌⊎◌, inl, inr, Bool, true, false, List, [], ◌∷◌, ◌++◌, length, drop, get_or, arith, refl, sym, ap, subst, Some, None, Ok, Err, nat_lt, take}
 use Rattle.std.specs.Prelude.{Option, Result, if◌then◌else◌}
 use Rattle.std.specs.List.{list_any}
-use Rattle.std.proofs.lemmas.List.{drop_more, drop_all, take_more}
+use Rattle.std.proofs.lemmas.List.{drop_all, take_more}
 use Rattle.xdg_base.specs.Faults.{fault_at}
 use Rattle.xdg_base.specs.declared.faults.Fault.{Fault}
 use Rattle.xdg_base.specs.declared.faults.Cause.TheVariants as causes
@@ -20,6 +20,7 @@ use Rattle.xdg_best.specs.Naming.{Place, place_of, with_dim, with_label, dim_num
 use Rattle.xdg_reading.specs.Names.{label_number}
 use Rattle.xdg_best.specs.Statements.{Says, entry, edge, Derives}
 use Rattle.xdg_names.proofs.First.{itself}
+use Rattle.xdg_facts.proofs.Lists.{from_place}
 
 -- ---- places
 
@@ -135,19 +136,16 @@ first_told table entries from (s ∷ more) earlier rise = subst (first.Tells (Of
 -- ---- the loop that looks for it
 
 module _ (table : Table) (entries : ℕ) (said : List Statement) (i : ℕ) (s : Statement) (within : i < length said) (item : s ≡ get_or said i s) where
-  from_here : drop i said ≡ s ∷ drop (i + 1) said
-  from_here = drop_more said i s within ∙ ap (λ z. z ∷ drop (i + 1) said) (sym item)
-
   pub to_here : take (i + 1) said ≡ take i said ++ s ∷ []
   to_here = take_more said i s within ∙ ap (λ z. take i said ++ z ∷ []) (sym item)
 
   pub fault_found : (f : Fault) (all : Option Fault) → first_fault table entries (take i said) (drop i said) ≡ all → fault_in table entries (take i said) s ≡ Some f → all ≡ Some f
-  fault_found f all so_far is = sym so_far ∙ ap (first_fault table entries (take i said)) from_here ∙ first_cons table entries (take i said) s (drop (i + 1) said) ∙ ap (λ z. or_later z (first_fault table entries (take i said ++ s ∷ []) (drop (i + 1) said))) is
+  fault_found f all so_far is = sym so_far ∙ ap (first_fault table entries (take i said)) (from_place said i s within item) ∙ first_cons table entries (take i said) s (drop (i + 1) said) ∙ ap (λ z. or_later z (first_fault table entries (take i said ++ s ∷ []) (drop (i + 1) said))) is
 
   pub none_found : (all : Option Fault) → first_fault table entries (take i said) (drop i said) ≡ all → fault_in table entries (take i said) s ≡ None → first_fault table entries (take (i + 1) said) (drop (i + 1) said) ≡ all
   none_found all so_far is =
       ap (λ z. first_fault table entries z (drop (i + 1) said)) to_here
-      ∙ sym (sym so_far ∙ ap (first_fault table entries (take i said)) from_here ∙ first_cons table entries (take i said) s (drop (i + 1) said) ∙ ap (λ z. or_later z (first_fault table entries (take i said ++ s ∷ []) (drop (i + 1) said))) is)
+      ∙ sym (sym so_far ∙ ap (first_fault table entries (take i said)) (from_place said i s within item) ∙ first_cons table entries (take i said) s (drop (i + 1) said) ∙ ap (λ z. or_later z (first_fault table entries (take i said ++ s ∷ []) (drop (i + 1) said))) is)
 
 pub all_found : (table : Table) (entries : ℕ) (said : List Statement) (i : ℕ) (all : Option Fault) → length said ≤ i → first_fault table entries (take i said) (drop i said) ≡ all → all ≡ None
 all_found table entries said i all over so_far = sym so_far ∙ ap (first_fault table entries (take i said)) (drop_all i said over) ∙ first_nil table entries (take i said)

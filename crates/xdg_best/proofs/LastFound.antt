@@ -1,5 +1,5 @@
 -- What is found last is the cheapest, where the rounds aren't spent.
-use Rattle.std.proofs.Common.{◌≡◌, ◌∙◌, ℕ, ◌-◌, ◌<◌, inl, inr, Bool, true, false, List, [], ◌∷◌, ◌++◌, length, map, arith, sym, ap, subst, length-append, Some, None}
+use Rattle.std.proofs.Common.{◌≡◌, ◌∙◌, ℕ, ◌-◌, ◌<◌, ◌≤◌, ◌⊎◌, inl, inr, Bool, true, false, List, [], ◌∷◌, ◌++◌, length, map, arith, sym, ap, subst, length-append, Some, None}
 use Rattle.std.specs.Prelude.{Option}
 use Rattle.std.proofs.lemmas.List.{length-map}
 use Rattle.std.proofs.lemmas.Bool.{cases_lt}
@@ -54,6 +54,14 @@ module _ (parts : Parts) (costs : CostLists) (is : IsProblem parts) (laws : (bou
     λ other solution before. absurd (find_first parts is [] budget a k f other solution (vector_some other solution.fits) before),
   )
 
+  -- a solution costs no less than what was found last, or it comes later and is cheaper
+  no_cheaper_or : (last : Analysis) → Cheap (Some last) → (other : Analysis) → IsSolution parts other → (cost_of costs last ≤ cost_of costs other) ⊎ (Less (vector parts last) (vector parts other) × (cost_of costs other < cost_of costs last))
+  no_cheaper_or last cheap other solution = elim (less_total (vector parts other) (vector parts last)) [
+    | inl earlier ↦ let more = cheap.1 other solution earlier in inl (omega (arith, more))
+    | inr (inl same) ↦ let e = ap (cost_of costs) (same_analysis other last solution.fits cheap.0.fits same) in inl (omega (arith, e))
+    | inr (inr later) ↦ elim (cases_lt (cost_of costs other) (cost_of costs last)) [ inl less ↦ inr (later, less) | inr more ↦ inl more ]
+  ]
+
   -- a find behind another one costs less, and is the first behind it that does
   next_cheap : (last : Analysis) (budget : ℕ) (a : Analysis) (k : ℕ) → Cheap (Some last) → Finds (with_uses parts (bound_of parts costs (cost_of costs last))) (vector parts last) budget a k → Cheap (Some a)
   next_cheap last budget a k cheap f =
@@ -62,16 +70,10 @@ module _ (parts : Parts) (costs : CostLists) (is : IsProblem parts) (laws : (bou
       let solved = (law.solutions a).0 (find_solves bounded law.problem (vector parts last) budget a k f) in
       let below = solved.1 in (
         solved.0,
-        λ other solution before. elim (less_total (vector parts other) (vector parts last)) [
-          | inl earlier ↦ let more = cheap.1 other solution earlier in omega (arith, more, below)
-          | inr rest ↦ elim rest [
-            | inl same ↦ let e = ap (cost_of costs) (same_analysis other last solution.fits cheap.0.fits same) in omega (arith, e, below)
-            | inr later ↦ elim (cases_lt (cost_of costs other) (cost_of costs last)) [
-              | inl less ↦ absurd (find_first bounded law.problem (vector parts last) budget a k f other ((law.solutions other).1 (solution, less)) (subst (Less (vector parts last)) (sym (law.vectors other)) later)
-                  (subst (λ z. Less z (vector bounded a)) (sym (law.vectors other)) (subst (Less (vector parts other)) (sym (law.vectors a)) before)))
-              | inr more ↦ omega (arith, more, below)
-            ]
-          ]
+        λ other solution before. elim (no_cheaper_or last cheap other solution) [
+          | inl more ↦ omega (arith, more, below)
+          | inr (later, less) ↦ absurd (find_first bounded law.problem (vector parts last) budget a k f other ((law.solutions other).1 (solution, less)) (subst (Less (vector parts last)) (sym (law.vectors other)) later)
+              (subst (λ z. Less z (vector bounded a)) (sym (law.vectors other)) (subst (Less (vector parts other)) (sym (law.vectors a)) before)))
         ],
       )
 
@@ -87,15 +89,9 @@ module _ (parts : Parts) (costs : CostLists) (is : IsProblem parts) (laws : (bou
       let law = laws (cost_of costs last) in
       record {
         solution = cheap.0;
-        least = λ other solution. elim (less_total (vector parts other) (vector parts last)) [
-          | inl earlier ↦ let more = cheap.1 other solution earlier in omega (arith, more)
-          | inr rest ↦ elim rest [
-            | inl same ↦ let e = ap (cost_of costs) (same_analysis other last solution.fits cheap.0.fits same) in omega (arith, e)
-            | inr later ↦ elim (cases_lt (cost_of costs other) (cost_of costs last)) [
-              | inl less ↦ absurd (none_solves bounded law.problem (vector parts last) budget f other ((law.solutions other).1 (solution, less)) (subst (Less (vector parts last)) (sym (law.vectors other)) later))
-              | inr more ↦ more
-            ]
-          ]
+        least = λ other solution. elim (no_cheaper_or last cheap other solution) [
+          | inl more ↦ more
+          | inr (later, less) ↦ absurd (none_solves bounded law.problem (vector parts last) budget f other ((law.solutions other).1 (solution, less)) (subst (Less (vector parts last)) (sym (law.vectors other)) later))
         ];
         first = cheap.1;
       }

@@ -1,11 +1,12 @@
 -- Rising lists of which one is the last, or one is whole.
-use Rattle.std.proofs.Common.{◌≡◌, ◌∙◌, ℕ, suc, ◌≤◌, ◌⊎◌, inl, inr, Bool, true, cond, List, [], ◌∷◌, ◌++◌, length, arith, refl, sym, ap, subst, length-append}
+use Rattle.std.proofs.Common.{◌≡◌, ◌∙◌, ℕ, ◌≤◌, ◌⊎◌, inl, inr, Bool, true, cond, List, [], ◌∷◌, ◌++◌, length, arith, refl, sym, ap, subst}
 use Rattle.std.specs.Prelude.{filter}
 use Rattle.std.specs.List.{AllByRecursion}
 use Rattle.std.proofs.lemmas.List.Elements.{filter-append}
 use Rattle.xdg_facts.specs.Fits.{Fits}
 use Rattle.xdg_facts.specs.Listing.{IsListing, Member, RisesFrom}
 use Rattle.xdg_facts.specs.Order.{Less, AtMost}
+use Rattle.xdg_facts.proofs.Exists.{member_right}
 use Rattle.xdg_facts.proofs.Ordered.{at_most_less}
 use Rattle.xdg_facts.proofs.Wholes.{filter_member}
 use Rattle.xdg_facts.proofs.Unique.{rises_above, listing_tail}
@@ -36,10 +37,8 @@ filter_one test x e = ap (λ b. cond b (x ∷ []) []) e
 
 only_end : (xs : List (List ℕ)) (x y : List ℕ) → xs ++ x ∷ [] ≡ y ∷ [] → xs ≡ []
 only_end [] x y e = refl
-only_end (z ∷ xs) x y e =
-    let n = length-append xs (x ∷ []) in
-    let m : suc (length (xs ++ x ∷ [])) ≡ 1 = ap length e in
-    absurd (omega (arith, n, m))
+only_end (z ∷ []) x y e = absurd (cc)
+only_end (z ∷ w ∷ xs) x y e = absurd (cc)
 
 -- where the last alone passes, those before it don't
 pub none_before : (test : List ℕ → Bool) (xs : List (List ℕ)) (x y : List ℕ) → test x ≡ true → filter test (xs ++ x ∷ []) ≡ y ∷ [] → filter test xs ≡ []
@@ -63,14 +62,10 @@ pub behind_item : (a : List ℕ) (xs : List (List ℕ)) (x : List ℕ) (ys : Lis
 behind_item a [] x ys rises = rises.1
 behind_item a (z ∷ xs) x ys rises = behind_item z xs x ys rises.1
 
-pub middle : (us : List (List ℕ)) (u : List ℕ) (vs : List (List ℕ)) → Member (us ++ u ∷ vs) u
-middle [] u vs = inl refl
-middle (w ∷ us) u vs = inr (middle us u vs)
-
 -- what stands before it comes before it
 pub before_item : (a : List ℕ) (xs : List (List ℕ)) (x : List ℕ) (ys : List (List ℕ)) → RisesFrom a (xs ++ x ∷ ys) → AllByRecursion (λ y. AtMost y x) xs
 before_item a [] x ys rises = tt
-before_item a (z ∷ xs) x ys rises = (inr (rises_above z x (xs ++ x ∷ ys) rises.1 (middle xs x ys)), before_item z xs x ys rises.1)
+before_item a (z ∷ xs) x ys rises = (inr (rises_above z x (xs ++ x ∷ ys) rises.1 (member_right x xs (x ∷ ys) (inl refl))), before_item z xs x ys rises.1)
 
 -- ---- lists, one behind the other
 

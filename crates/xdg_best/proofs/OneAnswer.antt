@@ -1,9 +1,10 @@
 -- Rounds come to one thing.
-use Rattle.std.proofs.Common.{◌≡◌, ◌∙◌, ℕ, zero, suc, ◌-◌, ◌<◌, inl, inr, Bool, true, List, [], ◌∷◌, ◌++◌, length, take, arith, refl, sym, ap, subst, nat_lt, eq-eqb, Some, None}
+use Rattle.std.proofs.Common.{◌≡◌, ◌∙◌, ℕ, zero, suc, ◌-◌, ◌<◌, inl, inr, Bool, List, [], ◌∷◌, ◌++◌, length, take, arith, refl, sym, ap, subst, nat_lt, Some, None}
 use Rattle.std.specs.Prelude.{Option, filter}
 use Rattle.xdg_best.specs.declared.rounds.BestAnswer.{BestAnswer}
 use Rattle.xdg_best.specs.Best.{IsOneAnswer}
 use Rattle.xdg_best.specs.Rounds.{Finds, FindsNone, Rounds, used_up, ends, goes_on, round_parts, found_cost}
+use Rattle.xdg_best.proofs.Found.{vector_whole}
 use Rattle.xdg_best.proofs.Lists.{no_member}
 use Rattle.xdg_facts.specs.Listing.{Member}
 use Rattle.xdg_facts.specs.Whole.{is_whole}
@@ -41,9 +42,6 @@ same_front (z ∷ xs) (w ∷ us) x u more rest e same = same_front xs us x u mor
 -- ---- a round
 
 module _ (parts : Parts) (is : IsProblem parts) (start : List ℕ) (budget : ℕ) where
-  find_whole : (a : Analysis) (k : ℕ) → Finds parts start budget a k → is_whole (shape parts) (vector parts a) ≡ true
-  find_whole a k f = eq-eqb (length (vector parts a)) (length (shape parts)) ((one_to_one parts is).whole a f.fits)
-
   -- no round both finds something and doesn't
   not_both : (spent : Bool) (a : Analysis) (k : ℕ) → FindsNone parts start budget spent → Finds parts start budget a k → ⊥
   not_both spent a k none f =
@@ -51,7 +49,7 @@ module _ (parts : Parts) (is : IsProblem parts) (start : List ℕ) (budget : ℕ
       let place = f.place_is in
       let within = f.within in
       no_member (is_whole (shape parts)) (take budget (f.before ++ vector parts a ∷ f.behind)) (vector parts a) (ap (λ z. filter (is_whole (shape parts)) (take budget z)) (sym same) ∙ none.none)
-      (in_front budget f.before (vector parts a) f.behind (omega (arith, place, within))) (find_whole a k f)
+      (in_front budget f.before (vector parts a) f.behind (omega (arith, place, within))) (vector_whole parts is a f.fits)
 
   -- it ends in one way
   one_end : (spent other : Bool) → FindsNone parts start budget spent → FindsNone parts start budget other → spent ≡ other
@@ -60,7 +58,7 @@ module _ (parts : Parts) (is : IsProblem parts) (start : List ℕ) (budget : ℕ
   not_later : (a b : Analysis) (k n : ℕ) → (f : Finds parts start budget a k) (g : Finds parts start budget b n) → length f.before < length g.before → ⊥
   not_later a b k n f g less =
       let same = listing_unique (shape parts) (Boxed parts) start (f.before ++ vector parts a ∷ f.behind) (g.before ++ vector parts b ∷ g.behind) f.counted g.counted in
-      no_member (is_whole (shape parts)) g.before (vector parts a) g.first (in_middle f.before (vector parts b ∷ g.behind) (vector parts a) f.behind g.before same less) (find_whole a k f)
+      no_member (is_whole (shape parts)) g.before (vector parts a) g.first (in_middle f.before (vector parts b ∷ g.behind) (vector parts a) f.behind g.before same less) (vector_whole parts is a f.fits)
 
   -- it finds one thing, at one place
   one_find : (a b : Analysis) (k n : ℕ) → Finds parts start budget a k → Finds parts start budget b n → (a ≡ b) × (k ≡ n)
