@@ -22,8 +22,6 @@ use Rattle.xdg_inputs.specs.declared.status.Status.TheVariants as statuses
 use Rattle.xdg_inputs.proofs.Leaving.{accepted_front, leaves_front}
 use Rattle.xdg_inputs.proofs.Meaning.{Only, meaning_accepted, meaning_refused}
 
--- ---- the statuses of arrangements
-
 -- ---- no text is empty
 
 list_said : (options : ArrangeOptions) (content : List ℕ) (m : Meaning) → IsSaid (ListThen options content m)

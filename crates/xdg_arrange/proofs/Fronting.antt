@@ -1,5 +1,5 @@
 -- What a run leaves that may have written a front of its text where memory is wanting, from what its steps left.
-use Rattle.std.proofs.Common.{◌≡◌, ◌<◌, ◌++◌, ℕ, List, length, refl, sym, subst, arith, length-append}
+use Rattle.std.proofs.Common.{◌<◌, ℕ, List, length, refl, arith}
 use Rattle.std.specs.Prelude.{Option, codes}
 use Rattle.xdg_base.specs.declared.faults.Fault.{Fault}
 use Rattle.xdg_inputs.specs.Refusals.{Refuses, Stops}
@@ -9,10 +9,7 @@ use Rattle.xdg_inputs.specs.declared.refusals.Refusal.{Refusal}
 use Rattle.xdg_inputs.specs.declared.status.Status.{Status}
 use Rattle.xdg_inputs.specs.declared.status.Status.TheVariants as statuses
 use Rattle.xdg_inputs.proofs.Leaving.{leaves_front, stopped_leaves}
-
--- what begins with a word is not empty
-pub front_said : (text first rest : List ℕ) → text ≡ first ++ rest → 0 < length first → 0 < length text
-front_said text first rest is some = subst (λ z. 0 < length z) (sym is) (let l = length-append first rest in omega (arith, l, some))
+use Rattle.xdg_facts.proofs.Fronts.{front_said}
 
 -- no outcome has an empty text
 abbrev pub IsSaid : (Status → List ℕ → Type 0) → Type 0

@@ -4,7 +4,7 @@ use Rattle.std.specs.Prelude.{Option, codes}
 use Rattle.xdg_arrange.specs.Found.{Adds, Finds, IsOneFind, arrangement_line, led_blocks}
 use Rattle.xdg_arrange.specs.Lists.{Listed}
 use Rattle.xdg_arrange.specs.Texts.{AreArranged, Arranges, FirstArranged, Follows, with_printed}
-use Rattle.xdg_arrange.proofs.Fronting.{IsSaid, front_said}
+use Rattle.xdg_arrange.proofs.Fronting.{IsSaid}
 use Rattle.xdg_build.specs.Compiled.{compiled}
 use Rattle.xdg_build.specs.Solutions.{KeepsSolutions}
 use Rattle.xdg_build.specs.Grammars.{Grammar}
@@ -17,6 +17,7 @@ use Rattle.xdg_inputs.specs.Runs.{Ends}
 use Rattle.xdg_inputs.specs.declared.status.Status.{Status}
 use Rattle.xdg_problem.specs.declared.analysis.Analysis.{Analysis}
 use Rattle.xdg_problem.specs.declared.parts.SentenceWord.{SentenceWord}
+use Rattle.xdg_facts.proofs.Fronts.{front_said}
 
 -- What was added is the front of each outcome's text, and what is left of it is an outcome of the second kind.
 pub record Passed (Whole Left : Status → List ℕ → Type 0) (old now : Option (List ℕ)) : Type 0 where

@@ -1,7 +1,6 @@
 -- The trees without places, where a tree holds trees of its own kind.
 use Rattle.std.proofs.Common.{◌≡◌, true, false, List, map, sym, ◌∙◌, ap}
 use Rattle.std.specs.Prelude.{◌↔◌, IsTrue, Bool}
-use Rattle.xdg_ast.proofs.Built.{built, both_then, both_else}
 use Rattle.xdg_ast.proofs.Mapped.{parts_of_kinds}
 use Rattle.xdg_ast.specs.Same.{bare, bare_name, bare_pair, bare_part, bare_gen, bare_gen_step, bare_elem, bare_elem_step, bare_term, bare_term_step, bare_expr, bare_expr_step, bare_type, bare_type_step}
 use Rattle.xdg_ast.specs.declared.names.Name.{Name}
@@ -30,6 +29,7 @@ use Rattle.xdg_ast.specs.declared.types.TypeKind.TheViews.{out-TypeKind}
 use Rattle.xdg_ast.specs.declared.types.TypeKind.TheOpen.{TypeKind-F}
 use Rattle.xdg_ast.specs.declared.types.TypeKind.TheFolds.{fold-roll-TypeKind}
 use Rattle.xdg_facts.proofs.Lists.{fused}
+use Rattle.xdg_facts.proofs.Built.{built, both_then, both_else}
 
 pub bare_gen_and : (xs : List (Spanned GenKind)) → bare_gen (g.And xs) ≡ g.And (map (bare_part bare_gen) xs)
 bare_gen_and xs = ap bare_gen (sym (g.rolls-And xs)) ∙ fold-roll-GenKind GenKind bare_gen_step (GenKind-F.And xs) ∙ ap g.And (fused (bare) _ xs)

@@ -1,4 +1,3 @@
 pub mod Bared
-pub mod Built
 pub mod Keywords
 pub mod Mapped

@@ -1,32 +1,10 @@
 -- Two lists with the same images have the same image at each place.
-use Rattle.std.proofs.Common.{◌≡◌, ℕ, zero, suc, ◌<◌, false, List, [], ◌∷◌, length, map, ap, subst, arith}
+use Rattle.std.proofs.Common.{◌≡◌, ℕ, ◌<◌, false, List, length, map, ap}
 use Rattle.std.specs.Prelude.{◌↔◌, IsTrue, Bool, slice_index_or}
 use Rattle.xdg_ast.specs.declared.names.Pair.{Pair}
 use Rattle.xdg_ast.specs.declared.names.Spanned.{Spanned}
 use Rattle.xdg_ast.specs.Same.{bare_part, bare_name, bare_pair, nowhere}
-use Rattle.xdg_facts.proofs.Lists.{head_of, tail_of}
-
--- lists with the same images, read at one place
-same_at : {A B : Type 0} (f : A → B) (xs ys : List A) (at : ℕ) (d e : A) → at < length xs → map f xs ≡ map f ys → f (slice_index_or xs at d) ≡ f (slice_index_or ys at e)
-same_at f [] ys at d e less h = absurd (omega arith)
-same_at f (a ∷ xs) [] at d e less h = absurd cc
-same_at f (a ∷ xs) (b ∷ ys) zero d e less h = head_of (f a) (f b) (map f xs) (map f ys) h
-same_at f (a ∷ xs) (b ∷ ys) (suc at) d e less h = same_at f xs ys at d e (omega arith) (tail_of (f a) (f b) (map f xs) (map f ys) h)
-
--- lists that differ at a place, seen in a part of the images, have other images
-differ_by : {A B C : Type 0} (f : A → B) (part : B → C) (xs ys : List A) (at : ℕ) (d e : A) (same : Bool) → at < length xs
-    → (IsTrue same ↔ (part (f (slice_index_or xs at d)) ≡ part (f (slice_index_or ys at e)))) → same ≡ false → IsTrue false ↔ (map f xs ≡ map f ys)
-differ_by f part xs ys at d e same less told is = (λ t. absurd cc, λ h. rw is at (told.1 (ap part (same_at f xs ys at d e less h))))
-
--- lists that differ at a place
-pub differ_at : {A B : Type 0} (f : A → B) (xs ys : List A) (at : ℕ) (d e : A) (same : Bool) → at < length xs
-    → (IsTrue same ↔ (f (slice_index_or xs at d) ≡ f (slice_index_or ys at e))) → same ≡ false → IsTrue false ↔ (map f xs ≡ map f ys)
-differ_at f = differ_by f (λ y. y)
-
--- the same of elements that were read
-pub differ_read : {A B : Type 0} (f : A → B) (xs ys : List A) (at : ℕ) (x y : A) (same : Bool) → at < length xs → x ≡ slice_index_or xs at x → y ≡ slice_index_or ys at y
-    → (IsTrue same ↔ (f x ≡ f y)) → same ≡ false → IsTrue false ↔ (map f xs ≡ map f ys)
-differ_read f xs ys at x y same less is_x is_y told = differ_at f xs ys at x y same less (subst (λ u. IsTrue same ↔ (f u ≡ f (slice_index_or ys at y))) is_x (subst (λ u. IsTrue same ↔ (f x ≡ f u)) is_y told))
+use Rattle.xdg_facts.proofs.Mapped.{differ_by}
 
 -- a part without a place, by its kind
 abbrev part_of : {A : Type 0} → A → Spanned A

@@ -3,9 +3,9 @@ use Rattle.std.proofs.Common.{◌≡◌, ◌≢◌, ◌∙◌, ℕ, ◌+◌, ◌
 use Rattle.std.specs.Prelude.{Option, Result, if◌then◌else◌}
 use Rattle.std.specs.List.{list_any}
 use Rattle.std.proofs.lemmas.List.{length-set}
-use Rattle.std.proofs.lemmas.List.Folds.{list_any-append, list_any_at}
+use Rattle.std.proofs.lemmas.List.Folds.{list_any-append}
 use Rattle.std.proofs.lemmas.List.Quantifiers.{all_pairs_push}
-use Rattle.std.proofs.lemmas.Bool.{eqb-true, eqb-false, eq-eqb, ltb-false, cases_eq, false_from_ne_true, ne_eqb, le-ltb, true≢false}
+use Rattle.std.proofs.lemmas.Bool.{eqb-true, eqb-false, eq-eqb, ltb-false, cases_eq, false_from_ne_true, ne_eqb, le-ltb}
 use Rattle.xdg_base.specs.Faults.{fault_at}
 use Rattle.xdg_base.specs.declared.faults.Fault.{Fault}
 use Rattle.xdg_base.specs.declared.faults.Stop.TheVariants as stops
@@ -22,6 +22,7 @@ use Rattle.xdg_best.specs.Building.{has_entry, has_place, IsFreshPlace, Built, A
 use Rattle.xdg_best.specs.Meaning.{entry_costs, label_costs, placed, is_of_entry, is_at, is_of_place, entry_fault, edge_fault}
 use Rattle.xdg_best.specs.Naming.{Place, place_of}
 use Rattle.xdg_facts.proofs.Truths.{or_false, or_true}
+use Rattle.xdg_facts.proofs.Contained.{none_passes}
 
 -- ---- lists
 
@@ -35,10 +36,6 @@ labels_more table [] s = refl
 labels_more table (statements.Entry number cost ∷ earlier) s = labels_more table earlier s
 labels_more table (statements.Edge dim label cost ∷ earlier) s =
     ap (λ z. placed (place_of table dim label) cost ++ z) (labels_more table earlier s) ∙ sym (append_assoc (placed (place_of table dim label) cost) (label_costs table earlier) (label_costs table (s ∷ [])))
-
--- none of them passes a test
-none_passes : {X : Type 0} (p : X → Bool) (xs : List X) → list_any p xs ≡ false → (k : ℕ) (d : X) → k < length xs → p (get_or xs k d) ≡ true → ⊥
-none_passes p xs e k d within h = true≢false (sym (list_any_at p xs k d within h) ∙ e)
 
 placed_or : (table : Table) (place : Place) (found : Result Place Fault) (cost : ℕ) (costs : List (DimId × LabelId × ℕ)) (before : Bool) → has_place costs place ≡ before → has_place (placed found cost ++ costs) place ≡ (is_at place found || before)
 placed_or table place (Ok other) cost costs before same = ap (λ z. ((other.0.0 == place.0.0) && (other.1.0 == place.1.0)) || z) same

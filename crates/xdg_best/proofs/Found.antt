@@ -4,13 +4,11 @@ use Rattle.std.specs.Prelude.{filter}
 use Rattle.std.proofs.lemmas.Bool.{ltb-false}
 use Rattle.std.proofs.lemmas.List.{take_all}
 use Rattle.xdg_best.specs.Rounds.{Finds, FindsNone}
-use Rattle.xdg_best.proofs.Lists.{behind_item, each_member, member_parts, no_member}
 use Rattle.xdg_facts.specs.Fits.{Fits}
 use Rattle.xdg_facts.specs.Order.{Less}
 use Rattle.xdg_facts.specs.Whole.{is_whole}
-use Rattle.xdg_facts.proofs.Exists.{member_right}
 use Rattle.xdg_facts.proofs.Ordered.{less_irreflexive, less_transitive}
-use Rattle.xdg_facts.proofs.Unique.{rises_above}
+use Rattle.xdg_facts.proofs.Unique.{rises_above, behind_item}
 use Rattle.xdg_problem.specs.declared.analysis.Analysis.{Analysis}
 use Rattle.xdg_problem.specs.declared.parts.Parts.{Parts}
 use Rattle.xdg_problem.specs.Analyses.{IsAnalysis}
@@ -20,6 +18,9 @@ use Rattle.xdg_problem.specs.Vectors.{shape, vector}
 use Rattle.xdg_problem.proofs.OneToOne.{one_to_one}
 use Rattle.xdg_rules.specs.Boxed.{Boxed}
 use Rattle.xdg_rules.proofs.RuleLaws.{boxed_laws}
+use Rattle.xdg_facts.proofs.In.{in_right, in_around}
+use Rattle.xdg_facts.proofs.Each.{each_in}
+use Rattle.xdg_facts.proofs.Filters.{no_member}
 
 -- the vector of an analysis is whole
 pub vector_whole : (parts : Parts) → IsProblem parts → (a : Analysis) → IsAnalysis parts a → is_whole (shape parts) (vector parts a) ≡ true
@@ -29,7 +30,7 @@ module _ (parts : Parts) (is : IsProblem parts) (start : List ℕ) (budget : ℕ
   pub find_solves : (a : Analysis) (k : ℕ) → Finds parts start budget a k → IsSolution parts a
   find_solves a k f =
       let one = one_to_one parts is in
-      let stands = each_member (λ x. Fits (shape parts) x × Boxed parts x) _ (vector parts a) f.counted.each (member_right (vector parts a) f.before (vector parts a ∷ f.behind) (inl refl)) in
+      let stands = each_in (λ x. Fits (shape parts) x × Boxed parts x) _ (vector parts a) f.counted.each (in_right f.before (vector parts a ∷ f.behind) (vector parts a) (inl refl)) in
       subst (IsSolution parts) (one.forth a f.fits) (((boxed_laws parts is).whole (vector parts a) stands.0 (one.whole a f.fits)).0 stands.1)
 
   -- no solution stands between the start and the find
@@ -37,10 +38,10 @@ module _ (parts : Parts) (is : IsProblem parts) (start : List ℕ) (budget : ℕ
   find_first a k f other solution after before =
       let one = one_to_one parts is in
       let stands = f.counted.all (vector parts other) (one.fits other solution.fits) ((boxed_laws parts is).solutions other solution) after in
-      elim (member_parts f.before (vector parts a) f.behind (vector parts other) stands) [
+      elim (in_around f.before (vector parts a) f.behind (vector parts other) stands) [
         | inl m ↦ no_member (is_whole (shape parts)) f.before (vector parts other) f.first m (vector_whole parts is other solution.fits)
         | inr m ↦ elim m [
-          | inl e ↦ less_irreflexive (vector parts a) (subst (λ z. Less z (vector parts a)) e before)
+          | inl e ↦ less_irreflexive (vector parts a) (subst (λ z. Less z (vector parts a)) (sym e) before)
           | inr n ↦ less_irreflexive (vector parts a) (less_transitive (vector parts a) (vector parts other) (vector parts a) (rises_above (vector parts a) (vector parts other) f.behind (behind_item start f.before (vector parts a) f.behind f.counted.rises) n) before)
         ]
       ]

@@ -1,5 +1,5 @@
 -- What is found last is the cheapest, where the rounds aren't spent.
-use Rattle.std.proofs.Common.{◌≡◌, ◌∙◌, ℕ, ◌-◌, ◌<◌, ◌≤◌, ◌⊎◌, inl, inr, Bool, true, false, List, [], ◌∷◌, ◌++◌, length, map, arith, sym, ap, subst, length-append, Some, None}
+use Rattle.std.proofs.Common.{◌≡◌, ◌∙◌, ℕ, ◌-◌, ◌<◌, ◌≤◌, ◌⊎◌, inl, inr, Bool, true, false, List, [], ◌++◌, length, map, arith, sym, ap, subst, length-append, Some, None}
 use Rattle.std.specs.Prelude.{Option}
 use Rattle.std.proofs.lemmas.List.{length-map}
 use Rattle.std.proofs.lemmas.Bool.{cases_lt}
@@ -7,7 +7,7 @@ use Rattle.xdg_best.specs.Best.{IsBest, Solves}
 use Rattle.xdg_best.specs.Rounds.{Finds, FindsNone, Rounds, used_up, ends, goes_on, round_parts}
 use Rattle.xdg_best.proofs.Found.{find_first, find_solves, none_solves}
 use Rattle.xdg_facts.specs.Order.{Less}
-use Rattle.xdg_facts.proofs.Ordered.{less_total}
+use Rattle.xdg_facts.proofs.Ordered.{less_total, after_none}
 use Rattle.xdg_base.specs.declared.ids.EntryNo.{EntryNo}
 use Rattle.xdg_problem.specs.declared.analysis.Analysis.{Analysis}
 use Rattle.xdg_problem.specs.declared.parts.Parts.{Parts}
@@ -20,11 +20,6 @@ use Rattle.xdg_problem.specs.Places.{nodes, places}
 use Rattle.xdg_problem.specs.Vectors.{analysis_of, attr_sizes, vector}
 use Rattle.xdg_problem.proofs.OneToOne.{one_to_one}
 use Rattle.xdg_stream.specs.Streamed.{start_vector}
-
--- a list with an item comes after the empty one
-after_none : (x : List ℕ) → 0 < length x → Less [] x
-after_none [] some = omega (arith, some)
-after_none (a ∷ x) some = tt
 
 module _ (parts : Parts) (costs : CostLists) (is : IsProblem parts) (laws : (bound : ℕ) → FurtherLaws parts (bound_of parts costs bound) (λ analysis. cost_of costs analysis < bound)) where
   -- a vector has an item

@@ -5,7 +5,6 @@ pub mod Added
 pub mod Firsts
 pub mod Comes
 pub mod OneText
-pub mod Lists
 pub mod Searched
 pub mod Found
 pub mod LastFound

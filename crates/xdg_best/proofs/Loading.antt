@@ -12,10 +12,11 @@ use Rattle.xdg_io.specs.Files.{HasFile}
 use Rattle.xdg_inputs.specs.Refusals.{RejectsAt, Stops, refusal_of}
 use Rattle.xdg_inputs.specs.Stages.{Accepts, Rejects}
 use Rattle.xdg_inputs.specs.declared.refusals.Refusal.{Refusal}
-use Rattle.xdg_inputs.proofs.Trees.{first_byte, same_text, told_file}
+use Rattle.xdg_inputs.proofs.Trees.{first_byte, told_file}
 use Rattle.xdg_problem.specs.Costs.{CostLists}
 use Rattle.xdg_types.specs.Table.{Table}
 use Rattle.xdg_build.specs.Refusals.{fault}
+use Rattle.xdg_facts.proofs.Options.{one_value}
 
 module _ (table : Table) (entries : ℕ) where
   abbrev Only : List ℕ → Result CostLists Stop → Type 0
@@ -34,8 +35,8 @@ module _ (table : Table) (entries : ℕ) where
     costs_accepted : (costs : CostLists) → length text ≤ costs_limit → Says text table entries costs → Only text (Ok costs) → Accepts CostLists (HasBadCosts files name table entries) (HasCosts files name table entries) costs
     costs_accepted costs within says only = record {
       has = record { text = text; file = file; within = within; says = says };
-      one = λ other h. same_costs costs other only (subst (λ z. Says z table entries other) (same_text files name h.text text h.file file) h.says);
-      never = λ t f q. never_bad costs f within only (subst (λ z. IsBadCosts table entries z f) (same_text files name t text q.file file) q.because);
+      one = λ other h. same_costs costs other only (subst (λ z. Says z table entries other) (one_value (files name) h.text text h.file file) h.says);
+      never = λ t f q. never_bad costs f within only (subst (λ z. IsBadCosts table entries z f) (one_value (files name) t text q.file file) q.because);
     }
 
     -- ---- a text that doesn't
@@ -47,9 +48,9 @@ module _ (table : Table) (entries : ℕ) where
     costs_rejected : (f : Fault) → length text ≤ costs_limit → IsRefused text table entries f → Only text (Err (stops.Fault f)) → Rejects CostLists (HasBadCosts files name table entries) (HasCosts files name table entries) text f
     costs_rejected f within u only = record {
       is = record { file = file; because = wrong within u };
-      one = λ t g q. let e = same_text files name t text q.file file in (e, one_bad f g within only (subst (λ z. IsBadCosts table entries z g) e q.because));
+      one = λ t g q. let e = one_value (files name) t text q.file file in (e, one_bad f g within only (subst (λ z. IsBadCosts table entries z g) e q.because));
       never = λ costs h.
-          let e : ◌≡◌ {A = Result CostLists Fault} (Ok costs) (Err f) = only (Ok costs) (subst (λ z. Says z table entries costs) (same_text files name h.text text h.file file) h.says) in cc;
+          let e : ◌≡◌ {A = Result CostLists Fault} (Ok costs) (Err f) = only (Ok costs) (subst (λ z. Says z table entries costs) (one_value (files name) h.text text h.file file) h.says) in cc;
     }
 
     long_one : (g : Fault) → costs_limit < length text → IsBadCosts table entries text g → g ≡ fault causes.TooLong 0 (costs_limit + 1)
@@ -61,8 +62,8 @@ module _ (table : Table) (entries : ℕ) where
       text = text;
       rejects = record {
         is = record { file = file; because = too_long long refl };
-        one = λ t g q. let e = same_text files name t text q.file file in (e, long_one g long (subst (λ z. IsBadCosts table entries z g) e q.because));
-        never = λ costs h. let e = ap length (same_text files name h.text text h.file file) in let w = h.within in omega (arith, e, w, long);
+        one = λ t g q. let e = one_value (files name) t text q.file file in (e, long_one g long (subst (λ z. IsBadCosts table entries z g) e q.because));
+        never = λ costs h. let e = ap length (one_value (files name) h.text text h.file file) in let w = h.within in omega (arith, e, w, long);
       };
       place_is = first_byte text (fault causes.TooLong 0 (costs_limit + 1)) refl;
     }

@@ -1,12 +1,10 @@
 -- Rounds come to one thing.
-use Rattle.std.proofs.Common.{◌≡◌, ◌∙◌, ℕ, zero, suc, ◌-◌, ◌<◌, inl, inr, Bool, List, [], ◌∷◌, ◌++◌, length, take, arith, refl, sym, ap, subst, nat_lt, Some, None}
+use Rattle.std.proofs.Common.{◌≡◌, ◌∙◌, ℕ, ◌-◌, ◌<◌, inl, inr, Bool, List, ◌∷◌, ◌++◌, length, take, arith, sym, ap, subst, nat_lt, Some, None}
 use Rattle.std.specs.Prelude.{Option, filter}
 use Rattle.xdg_best.specs.declared.rounds.BestAnswer.{BestAnswer}
 use Rattle.xdg_best.specs.Best.{IsOneAnswer}
 use Rattle.xdg_best.specs.Rounds.{Finds, FindsNone, Rounds, used_up, ends, goes_on, round_parts, found_cost}
 use Rattle.xdg_best.proofs.Found.{vector_whole}
-use Rattle.xdg_best.proofs.Lists.{no_member}
-use Rattle.xdg_facts.specs.Listing.{Member}
 use Rattle.xdg_facts.specs.Whole.{is_whole}
 use Rattle.xdg_facts.proofs.Ordered.{three_cases}
 use Rattle.xdg_facts.proofs.Unique.{listing_unique}
@@ -19,25 +17,8 @@ use Rattle.xdg_problem.specs.Vectors.{analysis_of, shape, vector}
 use Rattle.xdg_problem.proofs.OneToOne.{one_to_one}
 use Rattle.xdg_rules.specs.Boxed.{Boxed}
 use Rattle.xdg_stream.specs.Streamed.{start_vector}
-
--- ---- lists: the first that passes a test stands at one place
-
-in_middle : (xs ys : List (List ℕ)) (x : List ℕ) (more : List (List ℕ)) (us : List (List ℕ)) → xs ++ x ∷ more ≡ us ++ ys → length xs < length us → Member us x
-in_middle [] ys x more [] e within = absurd (omega (arith, within))
-in_middle [] ys x more (u ∷ us) e within = inl (let same : x ≡ u = cc in same)
-in_middle (z ∷ xs) ys x more [] e within = absurd (omega (arith, within))
-in_middle (z ∷ xs) ys x more (u ∷ us) e within = inr (in_middle xs ys x more us (let rest : xs ++ x ∷ more ≡ us ++ ys = cc in rest) (omega (arith, within)))
-
-in_front : (n : ℕ) (xs : List (List ℕ)) (x : List ℕ) (more : List (List ℕ)) → length xs < n → Member (take n (xs ++ x ∷ more)) x
-in_front zero xs x more within = absurd (omega (arith, within))
-in_front (suc n) [] x more within = inl refl
-in_front (suc n) (z ∷ xs) x more within = inr (in_front n xs x more (omega (arith, within)))
-
-same_front : (xs us : List (List ℕ)) (x u : List ℕ) (more rest : List (List ℕ)) → xs ++ x ∷ more ≡ us ++ u ∷ rest → length xs ≡ length us → x ≡ u
-same_front [] [] x u more rest e same = cc
-same_front [] (w ∷ us) x u more rest e same = absurd (omega (arith, same))
-same_front (z ∷ xs) [] x u more rest e same = absurd (omega (arith, same))
-same_front (z ∷ xs) (w ∷ us) x u more rest e same = same_front xs us x u more rest (let tails : xs ++ x ∷ more ≡ us ++ u ∷ rest = cc in tails) (omega (arith, same))
+use Rattle.xdg_facts.proofs.Filters.{no_member}
+use Rattle.xdg_facts.proofs.In.{in_front, in_middle, same_front}
 
 -- ---- a round
 

@@ -4,28 +4,22 @@ use Rattle.std.specs.Prelude.{Option}
 use Rattle.std.specs.List.{AllByRecursion}
 use Rattle.std.proofs.lemmas.Bool.{ltb-true}
 use Rattle.xdg_best.specs.Rounds.{Finds, FindsNone, Rounds, used_up, ends, goes_on, round_parts}
-use Rattle.xdg_best.proofs.Lists.{before_item, no_longer}
 use Rattle.xdg_best.proofs.Unbounded.{unbounded}
 use Rattle.xdg_facts.specs.Fits.{Fits}
 use Rattle.xdg_facts.specs.Listing.{IsListing, RisesFrom}
 use Rattle.xdg_facts.specs.Order.{AtMost}
-use Rattle.xdg_facts.proofs.Exists.{each_weaker, member_right}
-use Rattle.xdg_facts.proofs.Ordered.{at_most_transitive}
-use Rattle.xdg_facts.proofs.Unique.{rises_above}
+use Rattle.xdg_facts.proofs.Ordered.{at_most_transitive, least_start}
+use Rattle.xdg_facts.proofs.Unique.{rises_above, before_item, no_longer, from_left}
 use Rattle.xdg_problem.specs.declared.analysis.Analysis.{Analysis}
 use Rattle.xdg_problem.specs.declared.parts.Parts.{Parts}
 use Rattle.xdg_problem.specs.Costs.{CostLists, cost_of}
 use Rattle.xdg_problem.specs.Further.{bound_of, with_uses}
 use Rattle.xdg_problem.specs.Vectors.{shape, vector}
 use Rattle.xdg_rules.specs.Boxed.{Boxed}
-use Rattle.xdg_facts.proofs.Lists.{each_left, each_append}
 use Rattle.xdg_facts.proofs.Joined.{joined_rises}
 use Rattle.xdg_stream.specs.Streamed.{start_vector}
-use Rattle.xdg_linear.proofs.Fronts.{from_left}
-
-least_start : (x : List ℕ) → AtMost [] x
-least_start [] = inl refl
-least_start (a ∷ x) = inr tt
+use Rattle.xdg_facts.proofs.Each.{each_weaker, each_append, each_left}
+use Rattle.xdg_facts.proofs.In.{in_right}
 
 module _ (parts : Parts) (costs : CostLists) where
   -- boxed prefixes of the problem up to a start, each once, and how many
@@ -74,7 +68,7 @@ module _ (parts : Parts) (costs : CostLists) where
       (subst (AllByRecursion (λ x. Fits (shape (round_parts parts costs last)) x × Boxed (round_parts parts costs last) x)) split f.counted.each)) in
       let l = length-append f.before (v ∷ []) in
       let place = f.place_is in
-      let below : AtMost start v = inr (rises_above start v (f.before ++ v ∷ f.behind) f.counted.rises (member_right v f.before (v ∷ f.behind) (inl refl))) in
+      let below : AtMost start v = inr (rises_above start v (f.before ++ v ∷ f.behind) f.counted.rises (in_right f.before (v ∷ f.behind) v (inl refl))) in
       let all : AllByRecursion (λ y. AtMost y v) (f.before ++ v ∷ []) = each_append (λ y. AtMost y v) f.before (v ∷ []) (before_item start f.before v f.behind f.counted.rises) (inl refl, tt) in
       let done = passed_on start v n p (f.before ++ v ∷ []) rises each below all in
       subst (λ m. Passed (vector parts a) m) (let same : n + length (f.before ++ v ∷ []) ≡ n + k = omega (arith, l, place) in same)

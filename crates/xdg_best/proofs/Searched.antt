@@ -4,11 +4,10 @@ use Rattle.std.specs.Prelude.{filter}
 use Rattle.std.proofs.lemmas.Bool.{lt-ltb, le-ltb}
 use Rattle.std.proofs.lemmas.List.{take_all, take-append-le}
 use Rattle.xdg_best.specs.Rounds.{Finds, FindsNone}
-use Rattle.xdg_best.proofs.Lists.{each_member, ends_with, none_before}
 use Rattle.xdg_facts.specs.Answered.{Drawn}
 use Rattle.xdg_facts.specs.Closed.{NoneAfter, SomeAfter}
 use Rattle.xdg_facts.specs.Fits.{Fits}
-use Rattle.xdg_facts.specs.Listing.{IsListing, Member, SoFar}
+use Rattle.xdg_facts.specs.Listing.{IsListing, SoFar}
 use Rattle.xdg_facts.specs.Order.{Less}
 use Rattle.xdg_facts.specs.Whole.{is_whole}
 use Rattle.xdg_facts.proofs.Joined.{so_far_split}
@@ -24,6 +23,11 @@ use Rattle.xdg_stream.specs.declared.search.Step.{Step}
 use Rattle.xdg_stream.specs.declared.search.Step.TheVariants as steps
 use Rattle.xdg_stream.specs.Streamed.{Advances, IsCharged, Leaves, Streamed}
 use Rattle.xdg_stream.proofs.Streaming.{end_found, spent_found}
+use Rattle.xdg_facts.specs.Membership.{In}
+use Rattle.xdg_facts.proofs.Each.{each_in}
+use Rattle.xdg_facts.proofs.In.{in_length}
+use Rattle.xdg_facts.proofs.Filters.{none_before}
+use Rattle.xdg_facts.proofs.Unique.{ends_with}
 
 -- ---- lists alone
 
@@ -38,8 +42,8 @@ module _ (shape : List ℕ) (P : List ℕ → Type 0) (start : List ℕ) (counte
 
   pub until : (to : List ℕ) (n : ℕ) → Drawn shape P start to n (to ∷ []) → Fits shape to → P to → Less start to → length to ≡ length shape → Until to n
   until to n d fits holds after whole =
-      let in_passed : Member d.passed to = d.listing.all to fits (holds, less_irreflexive to) after in
-      let last = ends_with start to d.passed d.listing.rises in_passed (λ y m less. (each_member (λ x. Fits shape x × SoFar P to x) d.passed y d.listing.each m).1.1 less) in
+      let in_passed : In d.passed to = d.listing.all to fits (holds, less_irreflexive to) after in
+      let last = ends_with start to d.passed d.listing.rises in_passed (λ y m less. (each_in (λ x. Fits shape x × SoFar P to x) d.passed y d.listing.each m).1.1 less) in
       let rest = so_far_split shape P start to d.passed counted d.forward d.listing listing in
       let passes : is_whole shape to ≡ true = eq-eqb (length to) (length shape) whole in
       let count = length-append last.before (to ∷ []) in
@@ -72,7 +76,7 @@ module _ (shape : List ℕ) (P : List ℕ → Type 0) (start : List ℕ) (counte
   pub none_spent : (to : List ℕ) (budget : ℕ) → Drawn shape P start to budget [] → SomeAfter shape P to → (filter (is_whole shape) (take budget counted) ≡ []) × (true ≡ nat_lt budget (length counted))
   none_spent to budget d some =
       let rest = so_far_split shape P start to d.passed counted d.forward d.listing listing in
-      let one : 0 < length rest.0 = something rest.0 some.0 (rest.2.all some.0 some.1 some.2 some.3) in
+      let one : 0 < length rest.0 = in_length rest.0 some.0 (rest.2.all some.0 some.1 some.2 some.3) in
       let l = length-append d.passed rest.0 in
       let c : length counted ≡ length (d.passed ++ rest.0) = ap length rest.1 in
       let n = d.count in
@@ -80,10 +84,6 @@ module _ (shape : List ℕ) (P : List ℕ → Type 0) (start : List ℕ) (counte
         ap (filter (is_whole shape)) front ∙ sym d.drawn,
         sym (lt-ltb budget (length counted) (omega (arith, one, l, c, n))),
       )
-    where
-      something : (xs : List (List ℕ)) (x : List ℕ) → Member xs x → 0 < length xs
-      something [] x m = absurd m
-      something (y ∷ xs) x m = omega arith
 
 -- ---- a call
 

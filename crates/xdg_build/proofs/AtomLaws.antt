@@ -31,10 +31,9 @@ use Rattle.xdg_build.specs.Truths.{Binding, IsCalled, IsTrue, constants_of}
 use Rattle.xdg_build.proofs.Standing.{IsDimAt}
 use Rattle.xdg_build.proofs.Used.{among_all, is_called, one_called, dims_long, labels_are, edges_same, edges_within, dim_kept}
 use Rattle.xdg_build.proofs.Valued.{number_same, number_below, attr_inside, type_is, value_count_is}
-use Rattle.xdg_facts.proofs.Facts.{both_steps}
-use Rattle.xdg_facts.proofs.In.{differ_once}
+use Rattle.xdg_facts.proofs.Facts.{both_steps, alike}
+use Rattle.xdg_facts.proofs.In.{differ_once, one_place}
 use Rattle.xdg_facts.specs.Membership.{Differ}
-use Rattle.xdg_terms.proofs.Meant.{one_place}
 
 -- ---- what the table keeps
 
@@ -43,9 +42,6 @@ typed_at all i name type h = slice_get-map (λ (one : List ℕ × Ty). (one.0, s
 
 pub first_at : (all : List (List ℕ × Ty)) (i : ℕ) (name : List ℕ) (type : Ty) → slice_get all i ≡ Some (name, type) → slice_get (firsts all) i ≡ Some name
 first_at all i name type h = slice_get-map (λ (one : List ℕ × Ty). one.0) all i ∙ ap (option_map (λ (one : List ℕ × Ty). one.0)) h
-
-pub alike : {P : Type 0} → P ↔ P
-alike = (λ p. p, λ p. p)
 
 -- ---- atoms by what they say of two nodes
 

@@ -38,9 +38,10 @@ use Rattle.xdg_build.proofs.FeatLaws.{says_feat}
 use Rattle.xdg_build.proofs.FormulaLaws.{SaysEach, says_none, says_then, says_conjunction, says_disjunction, says_signed, says_every, says_any}
 use Rattle.xdg_build.proofs.Numbers.{number_right}
 use Rattle.xdg_build.proofs.Planned.{attribute_right, feature_right}
-use Rattle.xdg_build.proofs.Rightly.{attr_right, binding_right, each_right, edge_dim, dim_right, feat_right, first_none, members_by, node_at, second_none}
+use Rattle.xdg_build.proofs.Rightly.{attr_right, binding_right, each_right, edge_dim, dim_right, feat_right, members_by, node_at}
 use Rattle.xdg_build.proofs.Standing.{IsDimAt, dim_of, text_at}
 use Rattle.xdg_build.proofs.Used.{used_is, dim_kept}
+use Rattle.xdg_facts.proofs.Fronts.{first_none, second_none}
 
 -- ---- what code makes
 

@@ -1,8 +1,7 @@
 -- The dimensions of a principle use, and their places among the used ones.
-use Rattle.std.proofs.Common.{◌≡◌, ℕ, suc, ◌<◌, true, cond, List, [], ◌∷◌, length, get_or, sym, ap, ◌∙◌, inl, inr, eq-eqb, eqb-true}
-use Rattle.std.specs.Prelude.{Some, slice_get, ◌==◌, ◌||◌}
-use Rattle.std.specs.List.{list_any}
-use Rattle.std.proofs.lemmas.Bool.{cases_eq, cases_Bool, ne_eqb}
+use Rattle.std.proofs.Common.{◌≡◌, ℕ, suc, ◌<◌, true, cond, List, [], ◌∷◌, length, get_or, ap, ◌∙◌, inl, inr, eq-eqb}
+use Rattle.std.specs.Prelude.{Some, slice_get}
+use Rattle.std.proofs.lemmas.Bool.{cases_eq, ne_eqb}
 use Rattle.std.proofs.lemmas.Option.{slice_get-get_or, slice_get_within}
 use Rattle.xdg_types.specs.declared.table.DimType.{DimType}
 use Rattle.xdg_types.specs.Table.{Table, typed}
@@ -15,7 +14,7 @@ use Rattle.xdg_principles.specs.Typed.{IsTypedUse, number_of, labels_at, members
 use Rattle.xdg_build.specs.Grammars.{is_used, used_place, place_of_used}
 use Rattle.xdg_formula.specs.Tables.{no_dim}
 use Rattle.xdg_facts.specs.Membership.{In}
-use Rattle.xdg_facts.proofs.In.{in_get}
+use Rattle.xdg_facts.proofs.In.{in_get, in_of_any}
 
 -- ---- places among the used ones
 
@@ -32,13 +31,6 @@ used_at (j ∷ used) k h = elim (cases_eq j k) [
 pub used_below : (used : List ℕ) (k : ℕ) → In used k → place_of_used used k < length used
 used_below used k h = slice_get_within used (place_of_used used k) k (used_at used k h)
 
-pub has_place : (used : List ℕ) (k : ℕ) → list_any (λ one. one == k) used ≡ true → In used k
-has_place [] k h = absurd cc
-has_place (j ∷ used) k h = elim (cases_Bool (j == k)) [
-  | inl t ↦ inl (eqb-true j k t)
-  | inr f ↦ inr (has_place used k (sym (ap (λ b. b || list_any (λ one. one == k) used) f) ∙ h))
-]
-
 -- ---- a dimension of a use
 
 -- the dimension with that place among all, which is used
@@ -51,11 +43,11 @@ pub home_at : (table : Table) (u : PrincipleUse) → IsTypedUse table u → is_u
 home_at table u t used k stands = record {
   dim = get_or table.dims k no_dim;
   stands = slice_get-get_or table.dims k no_dim (t.dims k stands);
-  used = used_at table.used k (t.used (has_place table.used u.home used) k stands);
+  used = used_at table.used k (t.used (in_of_any table.used u.home used) k stands);
 }
 
 pub below_at : (table : Table) (u : PrincipleUse) → IsTypedUse table u → is_used table u.home ≡ true → (k : ℕ) → In u.dims k → used_place table k < length table.used
-below_at table u t used k stands = used_below table.used k (t.used (has_place table.used u.home used) k stands)
+below_at table u t used k stands = used_below table.used k (t.used (in_of_any table.used u.home used) k stands)
 
 pub is_used_home : (table : Table) (k : ℕ) (h : Home table k) → IsUsed table (used_place table k) h.dim
 is_used_home table k h = (k, (h.used, h.stands))

@@ -38,9 +38,9 @@ use Rattle.xdg_build.specs.Tables.{entry_says, says_in, table_of}
 use Rattle.xdg_build.specs.Truths.{IsOrHas, constants_of}
 use Rattle.xdg_build.proofs.Standing.{IsDimAt}
 use Rattle.xdg_build.proofs.Used.{among_all, used_within, dim_kept, among_below}
-use Rattle.xdg_build.proofs.AtomLaws.{alike, member_only, pair_says, typed_at}
+use Rattle.xdg_build.proofs.AtomLaws.{member_only, pair_says, typed_at}
 use Rattle.xdg_build.proofs.Featured.{value_says}
-use Rattle.xdg_facts.proofs.Facts.{both_steps}
+use Rattle.xdg_facts.proofs.Facts.{both_steps, alike}
 use Rattle.xdg_facts.proofs.In.{in_get}
 
 -- ---- the candidate of a node

@@ -14,14 +14,14 @@ use Rattle.xdg_domain.proofs.Keyed.{at_head, after_head, said_right}
 use Rattle.xdg_terms.specs.Means.{chosen}
 use Rattle.xdg_principles.specs.Wanted.{IsSame, IsSetOf}
 use Rattle.xdg_build.specs.Features.{members_in, rows_in}
-use Rattle.xdg_build.proofs.TypeRows.{sizes_again, all_below, first_key, sets, is_said}
+use Rattle.xdg_build.proofs.TypeRows.{sizes_again, all_below, first_key, sets}
 use Rattle.xdg_build.specs.Readings.{value_texts, IsMember, IsMemberAt, IsAllowedAt}
 use Rattle.xdg_build.proofs.Different.{same_tuple}
 use Rattle.xdg_facts.proofs.Facts.{both_steps}
 use Rattle.xdg_facts.proofs.Lists.{any_default, head_of}
-use Rattle.xdg_facts.proofs.Options.{some_same}
+use Rattle.xdg_facts.proofs.Options.{some_same, is_said}
 use Rattle.xdg_facts.specs.Membership.{Differ}
-use Rattle.xdg_terms.proofs.Meant.{one_place}
+use Rattle.xdg_facts.proofs.In.{one_place}
 
 -- ---- values by their constants
 

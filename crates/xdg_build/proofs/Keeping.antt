@@ -1,9 +1,7 @@
 -- A compiled sentence keeps the solutions of the grammar.
-use Rattle.std.proofs.Common.{◌≡◌, ◌<◌, None, List, map, sym, subst, All}
-use Rattle.std.specs.Prelude.{◌↔◌, get_or}
+use Rattle.std.proofs.Common.{◌≡◌, None, List, sym, subst, All}
+use Rattle.std.specs.Prelude.{◌↔◌}
 use Rattle.std.specs.List.{AllZip}
-use Rattle.std.proofs.lemmas.List.{get_or-map, length-map}
-use Rattle.std.proofs.lemmas.List.Elements.{All-map}
 use Rattle.xdg_problem.specs.declared.analysis.Analysis.{Analysis}
 use Rattle.xdg_problem.specs.declared.parts.Group.{Group}
 use Rattle.xdg_problem.specs.declared.parts.Parts.{Parts}
@@ -13,7 +11,6 @@ use Rattle.xdg_problem.specs.Relations.{Relation}
 use Rattle.xdg_problem.specs.Solutions as compiled
 use Rattle.xdg_types.specs.Table.{IsTable}
 use Rattle.xdg_packed.specs.Entries.{IsRightLexicon}
-use Rattle.xdg_principles.proofs.Sides.{zip_map}
 use Rattle.xdg_principles.specs.declared.building.PrincipleUse.{PrincipleUse}
 use Rattle.xdg_principles.specs.Typed.{AreTypedUses}
 use Rattle.xdg_check.specs.Checked.{IsChecked}
@@ -27,20 +24,11 @@ use Rattle.xdg_build.specs.Refusals.{refusal}
 use Rattle.xdg_build.specs.Solutions.{IsSolutionOf, KeepsSolutions}
 use Rattle.xdg_build.proofs.Admitted.{IsAdmitted, is_admitted}
 use Rattle.xdg_build.proofs.Fitting.{same_analyses}
-use Rattle.xdg_build.proofs.Lists.{in_filter}
 use Rattle.xdg_build.proofs.Satisfied.{satisfied_same}
 use Rattle.xdg_build.proofs.Told.{Given}
 use Rattle.xdg_facts.specs.Membership.{In}
-use Rattle.xdg_facts.proofs.In.{in_get}
-
--- ---- lists
-
--- what holds of each of what is made of a list, where it holds of an element just if it holds of what is made of it
-mapped_on : {A B : Type 0} (Q : A → Type 0) (P : B → Type 0) (f : A → B) (xs : List A) → ((x : A) → In xs x → Q x ↔ P (f x)) → All Q xs ↔ All P (map f xs)
-mapped_on Q P f xs same = (
-  λ all. All-map P f xs (λ k d within. (same (get_or xs k d) (in_get xs k d within)).0 (all k d within)),
-  λ all k d within. (same (get_or xs k d) (in_get xs k d within)).1 (subst P (get_or-map f xs k d (f d) within) (all k (f d) (subst (λ n. k < n) (sym (length-map xs f)) within))),
-)
+use Rattle.xdg_facts.proofs.In.{in_filter, mapped_on}
+use Rattle.xdg_facts.proofs.Zips.{zip_map}
 
 -- ---- solutions
 

@@ -1,7 +1,6 @@
 mod ListTurns
 mod Cardinalities
 pub mod Forms
-pub mod Lists
 mod Kept
 mod Noded
 mod Recorded

@@ -10,10 +10,10 @@ use Rattle.std.proofs.lemmas.Slice.Eq.{bytes_eq-Decides}
 use Rattle.xdg_base.specs.declared.ids.EntryNo.{EntryNo}
 use Rattle.xdg_packed.specs.Lexicon.{number, places_of, numbers_of}
 use Rattle.xdg_problem.specs.Problems.{AreCandidates}
-use Rattle.xdg_domain.proofs.Numbers.{numbers_increase}
 use Rattle.xdg_facts.specs.Rises.{numbers_below}
 use Rattle.xdg_facts.proofs.Contained.{contains_map}
 use Rattle.xdg_facts.proofs.Rising.{contains_of_has, has_between}
+use Rattle.xdg_facts.proofs.Merging.{numbers_increase}
 
 -- a number stands among numbers of entries
 contains_numbers : (xs : List ℕ) (entry : EntryNo) → Contains (map number xs) entry → Contains xs entry.0

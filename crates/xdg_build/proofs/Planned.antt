@@ -16,13 +16,14 @@ use Rattle.xdg_types.specs.Table.{Typed, typed, firsts, AreAttributes, KeepsDim,
 use Rattle.xdg_build.specs.Grammars.{Grammar}
 use Rattle.xdg_formula.specs.Tables.{no_dim}
 use Rattle.xdg_build.specs.Plans.{shown_as, attr_plan, attr_plans, dim_plan, plan_at, plans}
-use Rattle.xdg_build.proofs.Different.{differ_by, differ_all, same_tuple, some_text}
+use Rattle.xdg_build.proofs.Different.{same_tuple, some_text}
 use Rattle.xdg_facts.specs.Membership.{Differ}
 use Rattle.xdg_facts.proofs.Lists.{any_default}
-use Rattle.xdg_types.proofs.Kept.{at_place, keeps_at}
+use Rattle.xdg_types.proofs.Kept.{keeps_at}
 use Rattle.xdg_types.proofs.Places as placed
-use Rattle.xdg_terms.proofs.Meant.{one_place}
 use Rattle.xdg_formula.proofs.Turns.{place_within}
+use Rattle.xdg_facts.proofs.Each.{at_place}
+use Rattle.xdg_facts.proofs.In.{differ_by, differ_all, one_place}
 
 -- ---- attributes
 

@@ -9,22 +9,16 @@ use Rattle.xdg_build.specs.Grammars.{Grammar, place_of_used}
 use Rattle.xdg_build.specs.Groups.{features_in}
 use Rattle.xdg_build.specs.Known.{features_dim, IsKnownFor}
 use Rattle.xdg_build.specs.Rows.{AreKept}
-use Rattle.xdg_build.proofs.ListTurns.{zip_more}
 use Rattle.xdg_facts.proofs.Lists.{some_at}
 use Rattle.xdg_problem.specs.Principles.{feature_dim}
+use Rattle.xdg_facts.proofs.Zips.{zip_turn as zip_next}
 
 -- ---- two lists, place by place
-
-pub zip_set : {A B : Type 0} (R : A → B → Type 0) (xs : List A) (ys : List B) (k : ℕ) (x : A) (y : B) → k < length xs → x ≡ get_or xs k x → R x y → AllZip R xs ys → AllZip R xs (slice_set ys k y)
-zip_set R [] ys k x y within is one zip = absurd (omega (arith, within))
-zip_set R (z ∷ xs) [] k x y within is one zip = absurd zip
-zip_set R (z ∷ xs) (w ∷ ys) zero x y within is one zip = (subst (λ a. R a y) is one, zip.1)
-zip_set R (z ∷ xs) (w ∷ ys) (suc k) x y within is one zip = (zip.0, zip_set R xs ys k x y (omega (arith, within)) is one zip.1)
 
 pub zip_turn : {A B : Type 0} (R : A → B → Type 0) (xs : List A) (ys more : List B) (k : ℕ) (y : B) → ((x : A) → R x y) → k < length xs → AllZip R (take k xs) ys → more ≡ ys ++ y ∷ [] → AllZip R (take (k + 1) xs) more
 zip_turn R xs ys more k y one within zip grown =
     let at = some_at xs k within in
-    zip_more R xs k ys more at.0 y within (sym (get_or_from_slice_get xs k at.0 at.0 at.1)) grown zip (one at.0)
+    zip_next R xs ys more k at.0 y within (sym (get_or_from_slice_get xs k at.0 at.0 at.1)) zip (one at.0) grown
 
 -- ---- one principle use
 

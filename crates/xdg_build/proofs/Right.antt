@@ -23,11 +23,10 @@ use Rattle.xdg_build.specs.Rows.{features_by_number}
 use Rattle.xdg_build.specs.Suits.{Suits}
 use Rattle.xdg_build.proofs.Dimensions.{below_at}
 use Rattle.xdg_build.proofs.Forms.{which_within}
-use Rattle.xdg_build.proofs.Lists.{in_filter}
 use Rattle.xdg_packed.proofs.OfTable.{entry_at}
 use Rattle.xdg_build.proofs.Taken.{dim_id, group_right}
 use Rattle.xdg_facts.specs.Membership.{In}
-use Rattle.xdg_facts.proofs.In.{in_get}
+use Rattle.xdg_facts.proofs.In.{in_get, in_filter}
 use Rattle.xdg_problem.specs.Principles.{feature_dim}
 
 pub groups_right : (g : Grammar) (candidates : List (List EntryNo)) (parts : Parts) (uses : List PrincipleUse) → ((u : PrincipleUse) → In uses u → IsTypedUse g.table u) → IsRightLexicon g.table g.lexicon.entries → All (All (λ entry. entry.0 < length g.lexicon.entries)) candidates

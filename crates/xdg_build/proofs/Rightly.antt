@@ -28,16 +28,9 @@ use Rattle.xdg_build.specs.Right.{IsRight}
 use Rattle.xdg_build.proofs.Standing.{IsDimAt, dim_found, dim_of, text_at, type_found}
 use Rattle.xdg_facts.specs.Membership.{In}
 use Rattle.xdg_names.specs.Texts.{has_text}
+use Rattle.xdg_facts.proofs.Fronts.{first_none, second_none}
 
 -- ---- lists without a fault
-
-pub first_none : {A : Type 0} (xs ys : List A) → xs ++ ys ≡ [] → xs ≡ []
-first_none [] ys h = refl
-first_none (x ∷ xs) ys h = absurd (cc)
-
-pub second_none : {A : Type 0} (xs ys : List A) → xs ++ ys ≡ [] → ys ≡ []
-second_none [] ys h = h
-second_none (x ∷ xs) ys h = absurd (cc)
 
 if_none : (b : Bool) (f : Fault) → (if b then [] else f ∷ []) ≡ [] → b ≡ true
 if_none true f h = refl

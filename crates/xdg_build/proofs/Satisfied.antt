@@ -58,8 +58,8 @@ use Rattle.xdg_build.proofs.Told.{Given, IsTold, on_feature}
 use Rattle.xdg_build.proofs.FeatureRows.{same_number, Names, names_number, names_some, same_texts, element, element_right, element_small, member_names, members_below, valency_allows, IsMapRow, map_row_is}
 use Rattle.xdg_facts.proofs.Facts.{both_steps}
 use Rattle.xdg_facts.specs.Membership.{In}
-use Rattle.xdg_terms.proofs.Meant.{one_place}
 use Rattle.xdg_problem.specs.Principles.{feature_dim, conditions_for}
+use Rattle.xdg_facts.proofs.In.{one_place}
 
 -- ---- members
 

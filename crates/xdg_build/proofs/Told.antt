@@ -35,7 +35,7 @@ use Rattle.xdg_build.specs.Features.{rows_in, rows_of, feature}
 use Rattle.xdg_build.specs.Grammars.{Grammar, is_used, used_place}
 use Rattle.xdg_formula.specs.Tables.{no_dim, used_dims}
 use Rattle.xdg_build.specs.Groups.{features_in, features_at, group_of, dims_of}
-use Rattle.xdg_build.proofs.Dimensions.{used_at, used_below, Home, home_of, has_place, labels-home, members-home}
+use Rattle.xdg_build.proofs.Dimensions.{used_at, used_below, Home, home_of, labels-home, members-home}
 use Rattle.xdg_build.proofs.Said.{said_of}
 use Rattle.xdg_packed.proofs.OfTable.{entry_at as entry_right_at}
 use Rattle.xdg_build.specs.Compiled.{candidates_of, compiled}
@@ -51,7 +51,7 @@ use Rattle.xdg_problem.specs.Arguments.{label_count, attr_place}
 use Rattle.xdg_problem.specs.Paths.{edges_on}
 use Rattle.xdg_build.proofs.EntryRows.{of_entries}
 use Rattle.xdg_facts.specs.Membership.{In}
-use Rattle.xdg_facts.proofs.In.{in_get}
+use Rattle.xdg_facts.proofs.In.{in_get, in_of_any}
 use Rattle.xdg_problem.specs.Principles.{feature_dim}
 
 abbrev dim_id : ℕ → DimId
@@ -99,7 +99,7 @@ module _ (g : Grammar) (words : List SentenceWord) (a : Analysis) (u : Principle
   dim_number which = get_or u.dims (number_of which) 0
 
   pub has_dim : (m : ℕ) → m < length u.dims → In g.table.used (get_or u.dims m 0)
-  has_dim m within = h.right.used (has_place g.table.used u.home h.used) (get_or u.dims m 0) (in_get u.dims m 0 within)
+  has_dim m within = h.right.used (in_of_any g.table.used u.home h.used) (get_or u.dims m 0) (in_get u.dims m 0 within)
 
   for_it : IsFor g.table g.lexicon (compiled g words)
   for_it = compiled_for g words h.lexicon.entries

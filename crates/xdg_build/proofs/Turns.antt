@@ -15,8 +15,9 @@ use Rattle.xdg_types.specs.declared.table.DimType.{DimType}
 use Rattle.xdg_types.specs.Table.{typed, AreAttributes, KeepDims}
 use Rattle.xdg_build.specs.Grammars.{Grammar}
 use Rattle.xdg_formula.specs.Tables.{no_dim}
-use Rattle.xdg_types.proofs.Kept.{at_place, keeps_at}
+use Rattle.xdg_types.proofs.Kept.{keeps_at}
 use Rattle.xdg_build.specs.Plans.{shown_as, dim_plan, plan_at}
+use Rattle.xdg_facts.proofs.Each.{at_place}
 
 -- ---- constants of a tuple
 

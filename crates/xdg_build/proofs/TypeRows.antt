@@ -1,6 +1,6 @@
 -- The rows of the values of a type.
 use Rattle.std.proofs.Common.{◌≡◌, ℕ, ◌<◌, ◌≤◌, ◌+◌, List, [], ◌∷◌, length, map, refl, sym, ap, ◌∙◌, subst, inl, inr, arith}
-use Rattle.std.specs.Prelude.{All, Option, None, Some, MatchOption}
+use Rattle.std.specs.Prelude.{All, None}
 use Rattle.std.specs.List.Sorted.{IsStrictlyIncreasing}
 use Rattle.std.proofs.lemmas.Bool.{cases_eq}
 use Rattle.std.proofs.lemmas.List.{length-map}
@@ -21,9 +21,10 @@ use Rattle.xdg_principles.specs.Typed.{IsElementOf, IsTypedAs}
 use Rattle.xdg_principles.specs.Wanted.{IsSame, IsSetOf}
 use Rattle.xdg_build.specs.Features.{members_in, rows_in}
 use Rattle.xdg_build.proofs.Cardinalities.{increases}
-use Rattle.xdg_facts.proofs.Lists.{all_none, all_cons, all_one}
-use Rattle.xdg_facts.specs.Rises.{Rises}
+use Rattle.xdg_facts.proofs.Lists.{all_none, all_cons, all_one, some_numbers}
 use Rattle.xdg_problem.specs.Principles.{IsCardinality, IsSet}
+use Rattle.xdg_facts.proofs.Options.{is_said}
+use Rattle.xdg_facts.proofs.Rising.{rises_small}
 
 -- ---- how many elements
 
@@ -47,14 +48,6 @@ element_size labels shared e.Shared s h = same_count shared s h
 
 -- ---- cardinalities and sets
 
-some_numbers : (ns : List ℕ) → (ns ≡ [] → ⊥) → 0 < length ns
-some_numbers [] h = absurd (h refl)
-some_numbers (n ∷ ns) h = omega arith
-
-rises_small : (low bound most : ℕ) (ns : List ℕ) → bound ≤ most + 1 → Rises low bound ns → All (λ number. number ≤ most) ns
-rises_small low bound most [] same h = all_none (λ number. number ≤ most)
-rises_small low bound most (n ∷ ns) same (a, b, c) = all_cons (λ number. number ≤ most) n ns (omega (arith, b, same)) (rises_small (n + 1) bound most ns same c)
-
 cardinality : (ns : List ℕ) → IsCards ns → IsCardinality ns
 cardinality ns h = record { some = some_numbers ns h.some; rising = increases ns h; small = rises_small 0 128 127 ns (omega arith) h.rises }
 
@@ -69,10 +62,6 @@ set_right : (bound : ℕ) (ns : List ℕ) → IsStrictlyIncreasing ns → AllBel
 set_right bound ns rising h = record { rising = rising; small = all_below bound ns h }
 
 -- ---- what is said of each key
-
-pub is_said : {V : Type 0} (Q : V → Type 0) (o : Option V) → MatchOption o ⊥ Q → o ≡ None → ⊥
-is_said Q None h is = h
-is_said Q (Some x) h is = absurd (cc is)
 
 -- the first key is the least
 pub first_key : {V : Type 0} (low bound : ℕ) (x : ℕ × V) (m : List (ℕ × V)) → KeysRise low (x ∷ m) → ((k : ℕ) → low ≤ k → k < bound → said_at (x ∷ m) k ≡ None → ⊥) → low < bound → x.0 ≡ low

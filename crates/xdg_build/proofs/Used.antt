@@ -22,17 +22,16 @@ use Rattle.xdg_build.specs.Plans.{attr_plan}
 use Rattle.xdg_build.specs.Readings.{dimension, edges_in}
 use Rattle.xdg_build.proofs.Conditions.{AreWithin}
 use Rattle.xdg_build.proofs.Planned.{kept_at, places_once}
-use Rattle.xdg_facts.proofs.In.{in_get}
+use Rattle.xdg_facts.proofs.In.{in_get, one_place}
 use Rattle.xdg_formula.specs.Tables.{no_dim, used_dims}
 use Rattle.xdg_packed.specs.Lexicon.{Lexicon}
 use Rattle.xdg_build.specs.Problems.{IsPlanOf, IsFor}
-use Rattle.xdg_build.proofs.Lists.{zip_at}
 use Rattle.xdg_build.proofs.Standing.{IsDimAt}
 use Rattle.xdg_build.specs.Truths.{IsCalled}
 use Rattle.xdg_facts.proofs.Keeping.{filter_on}
 use Rattle.xdg_facts.proofs.Lists.{zip_length}
 use Rattle.xdg_facts.specs.Membership.{In}
-use Rattle.xdg_terms.proofs.Meant.{one_place}
+use Rattle.xdg_facts.proofs.Zips.{zip_at}
 
 -- ---- places of used dimensions
 

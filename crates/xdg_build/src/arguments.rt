@@ -19,7 +19,7 @@ fn add_feature(arg: &Arg, made: &mut List<usize>) -> Result<(), OutOfMemory>
 }
 
 /// The places of the features that the arguments name.
-#[tactic(auto, using(crate::proofs::ListTurns::flat_turn))]
+#[tactic(auto, using(xdg_facts::proofs::Turns::flat_turn))]
 pub(crate) fn feature_places(alloc: Global, args: &[Arg]) -> Result<List<usize>, OutOfMemory>
     ensures { IfOk result (λ made. made ≡ flat_map groups.features_in args.now) }
 {
@@ -41,7 +41,7 @@ fn add_attr(arg: &Arg, made: &mut List<AttrId>) -> Result<(), OutOfMemory>
 }
 
 /// The attributes that the arguments name.
-#[tactic(auto, using(crate::proofs::ListTurns::flat_turn))]
+#[tactic(auto, using(xdg_facts::proofs::Turns::flat_turn))]
 pub(crate) fn attrs(alloc: Global, args: &[Arg]) -> Result<List<AttrId>, OutOfMemory>
     requires { All IsSmallArg args.now }
     ensures { IfOk result (λ made. made ≡ flat_map groups.attrs_in args.now) }
@@ -72,7 +72,7 @@ fn add_labels(arg: &Arg, made: &mut List<LabelId>) -> Result<(), OutOfMemory>
 }
 
 /// The labels that the arguments list.
-#[tactic(auto, using(crate::proofs::ListTurns::flat_turn))]
+#[tactic(auto, using(xdg_facts::proofs::Turns::flat_turn))]
 pub(crate) fn labels(alloc: Global, args: &[Arg]) -> Result<List<LabelId>, OutOfMemory>
     ensures { IfOk result (λ made. made ≡ flat_map groups.labels_in args.now) }
 {
@@ -93,7 +93,7 @@ fn add_truth(arg: &Arg, made: &mut List<bool>) -> Result<(), OutOfMemory>
 }
 
 /// The truth values among the arguments.
-#[tactic(auto, using(crate::proofs::ListTurns::flat_turn))]
+#[tactic(auto, using(xdg_facts::proofs::Turns::flat_turn))]
 pub(crate) fn truths(alloc: Global, args: &[Arg]) -> Result<List<bool>, OutOfMemory>
     ensures { IfOk result (λ made. made ≡ flat_map groups.truths_in args.now) }
 {

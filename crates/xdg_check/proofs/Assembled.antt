@@ -30,10 +30,10 @@ use Rattle.xdg_check.proofs.Filled.{same_texts}
 use Rattle.xdg_check.proofs.Keeping.{RightBodies, right_body}
 use Rattle.xdg_check.proofs.Placing.{bare_classes, is_order}
 use Rattle.xdg_check.proofs.Sound.{right_bodies}
-use Rattle.xdg_principles.proofs.Sides.{zip_second}
 use Rattle.xdg_check.proofs.Sources.{same_names, class_scoped, class_body, entry_scoped, entry_body}
 use Rattle.xdg_facts.specs.Membership.{In, Differ}
 use Rattle.xdg_ast.specs.Texts.{texts}
+use Rattle.xdg_facts.proofs.Zips.{zip_second}
 
 -- ---- the classes
 

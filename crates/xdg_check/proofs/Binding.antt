@@ -12,7 +12,7 @@ use Rattle.xdg_names.specs.Texts.{has_text}
 use Rattle.xdg_types.specs.Answers.{None_of}
 use Rattle.xdg_types.specs.Parts.{Statement, keys}
 use Rattle.xdg_types.specs.Table.{Table}
-use Rattle.xdg_types.proofs.Elements.{among_or_not, among_name, differ_append, in_texts}
+use Rattle.xdg_types.proofs.Elements.{among_or_not, among_name, in_texts}
 use Rattle.xdg_classes.specs.Bodies.{Term, Called}
 use Rattle.xdg_classes.specs.Definitions.{ClassDef, classes, class_names, class_named, param_names}
 use Rattle.xdg_classes.specs.Names.{NameOffends, all_calls, used_classes, once}
@@ -24,11 +24,11 @@ use Rattle.xdg_check.specs.Completed.{left_out, preset_pair, bound_by}
 use Rattle.xdg_check.specs.Answers.{IsClassOf, AreClassesOf}
 use Rattle.xdg_check.specs.Checked.{IsBound}
 use Rattle.xdg_classes.proofs.Known.{named_in, named_some}
-use Rattle.xdg_principles.proofs.Sides.{zip_first}
 use Rattle.xdg_check.proofs.Sources.{completed_call}
 use Rattle.xdg_facts.specs.Membership.{In, Differ}
-use Rattle.xdg_facts.proofs.In.{in_append, in_left, in_right, in_map, map_in}
+use Rattle.xdg_facts.proofs.In.{in_append, in_left, in_right, in_map, map_in, differ_append}
 use Rattle.xdg_ast.specs.Texts.{texts}
+use Rattle.xdg_facts.proofs.Zips.{zip_first}
 
 -- ---- pairs that are left out
 

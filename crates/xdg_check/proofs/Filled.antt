@@ -11,11 +11,10 @@ use Rattle.xdg_check.specs.Checked.{IsOrder}
 use Rattle.xdg_check.specs.Filled.{AreFilled}
 use Rattle.xdg_check.proofs.SameCounts.{same_uses, same_combos, uses_stop, combos_stop}
 use Rattle.xdg_check.proofs.Naming.{name_of_place, names, names_agree, one_naming, in_order}
-use Rattle.xdg_facts.proofs.Lists.{some_at}
+use Rattle.xdg_facts.proofs.Lists.{some_at, set_same, set_other}
 use Rattle.xdg_facts.proofs.Options.{some_same}
-use Rattle.xdg_classes.proofs.Settling.{set_same, set_other}
 use Rattle.xdg_facts.specs.Membership.{In, Differ}
-use Rattle.xdg_facts.proofs.In.{in_index, in_got}
+use Rattle.xdg_facts.proofs.In.{in_index, in_got, at_once}
 
 -- ---- a list with one element changed
 
@@ -29,9 +28,6 @@ set_bare (d ∷ cs) (suc k) c new h e = ap (λ xs. bare d ∷ xs) (set_bare cs k
 bare_texts : (cs : List Class) → class_texts (map bare cs) ≡ class_texts cs
 bare_texts [] = refl
 bare_texts (c ∷ cs) = ap (λ ts. c.name ∷ ts) (bare_texts cs)
-
-pub at_once : {A : Type 0} (xs : List A) (x : A) → In xs x → (k : ℕ) × (slice_get xs k ≡ Some x)
-at_once xs x h = let i = in_index xs x x h in (i.0, slice_get-get_or xs i.0 x i.1.0 ∙ ap Some i.1.1)
 
 module _ (now old : List Class) (bares : map bare now ≡ map bare old) where
   pub same_texts : class_texts now ≡ class_texts old

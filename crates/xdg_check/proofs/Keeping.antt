@@ -25,13 +25,13 @@ use Rattle.xdg_check.specs.Checked.{named_body, named_bodies, IsRight, IsScoped,
 use Rattle.xdg_check.proofs.Binding.{class_of, is_bound, left_pair}
 use Rattle.xdg_check.proofs.Opened.{less_open, wants_stand}
 use Rattle.xdg_classes.proofs.Known.{named_in}
-use Rattle.xdg_principles.proofs.Sides.{zip_second}
 use Rattle.xdg_check.proofs.Sources.{same_records, completed_calls, completed_call, class_scoped, class_body}
 use Rattle.xdg_facts.proofs.Options.{some_same}
 use Rattle.xdg_facts.proofs.Texts.{same_text, is_same}
 use Rattle.xdg_facts.specs.Membership.{In, Differ}
 use Rattle.xdg_facts.proofs.In.{in_append, flat_map_in, in_map as map_in, map_in as in_map}
 use Rattle.xdg_ast.specs.Texts.{texts}
+use Rattle.xdg_facts.proofs.Zips.{zip_second}
 
 -- ---- what is right in the text
 

@@ -1,6 +1,5 @@
 pub mod Assembled
 pub mod Binding
-mod Capped
 pub mod Completed
 pub mod Filled
 pub mod Gathered

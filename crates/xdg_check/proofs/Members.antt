@@ -5,9 +5,9 @@ use Rattle.xdg_ast.specs.declared.expressions.ExprKind.{ExprKind}
 use Rattle.xdg_classes.specs.Bodies.{Expr, Body, Bodies, no_body, body}
 use Rattle.xdg_classes.proofs.Bodied.{trees}
 use Rattle.xdg_check.specs.Counts.{Counting, combos, product_of_combos, capped}
-use Rattle.xdg_check.proofs.Capped.{factor_more}
 use Rattle.xdg_facts.proofs.Lists.{from_place}
 use Rattle.xdg_facts.proofs.Numbers.{alone as alone_too}
+use Rattle.xdg_facts.proofs.Capped.{factor_more}
 
 alone : (so_far most : ℕ) → so_far ≤ most → so_far ≡ min (so_far + 0) most
 alone so_far most within = omega (arith, within)

@@ -15,7 +15,6 @@ use Rattle.xdg_classes.specs.Definitions.{ClassDef, param_names}
 use Rattle.xdg_classes.specs.Graph.{CycleOffends}
 use Rattle.xdg_classes.specs.Wants.{NamedBody}
 use Rattle.xdg_principles.proofs.OneUse.{one_list}
-use Rattle.xdg_principles.proofs.Sides.{zip_seen}
 use Rattle.xdg_check.specs.declared.checked.Class.{Class}
 use Rattle.xdg_check.specs.declared.checked.EntryDef.{EntryDef}
 use Rattle.xdg_check.specs.Answers.{NameOffends, ValueOffends, IsRight, Refuses, IsClassOf, AreClassesOf, IsEntryOf, AreEntriesOf, IsCheckedOf, Tells, IsAnswer}
@@ -24,6 +23,7 @@ use Rattle.xdg_check.specs.Completed.{completed}
 use Rattle.xdg_check.specs.Lex.{LexOffends}
 use Rattle.xdg_check.specs.Only.{placed_body, SameMeaning, Gives}
 use Rattle.xdg_ast.specs.Texts.{texts}
+use Rattle.xdg_facts.proofs.Zips.{zip_seen}
 
 -- ---- classes and entries
 

@@ -24,11 +24,11 @@ use Rattle.xdg_check.specs.Checked.{IsOrder}
 use Rattle.xdg_check.proofs.Binding.{class_of}
 use Rattle.xdg_classes.proofs.Known.{named_in}
 use Rattle.xdg_facts.proofs.Lists.{zip_length}
-use Rattle.xdg_principles.proofs.Sides.{zip_place}
 use Rattle.xdg_check.proofs.Sources.{completed_calls, completed_call, same_names, class_scoped, class_body}
 use Rattle.xdg_facts.specs.Membership.{In}
 use Rattle.xdg_facts.proofs.In.{flat_map_in, in_map as map_in, map_in as in_map, in_got}
 use Rattle.xdg_ast.specs.Texts.{texts}
+use Rattle.xdg_facts.proofs.Zips.{zip_place}
 
 -- ---- classes by place
 

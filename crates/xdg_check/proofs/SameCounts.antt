@@ -1,11 +1,10 @@
 -- The counts of a body turn on the classes that it uses alone.
-use Rattle.std.proofs.Common.{◌≡◌, ℕ, ◌+◌, ◌*◌, ◌-◌, ◌^◌, min, List, refl, sym, ap, ap₂, ◌∙◌, arith, inl}
+use Rattle.std.proofs.Common.{◌≡◌, ℕ, ◌+◌, ◌*◌, ◌-◌, ◌^◌, List, refl, ap₂, inl}
 use Rattle.xdg_classes.specs.Bodies.{Body, either, both, saying, calling, Bodies, no_body, body_then, Called, calls, calls_in}
 use Rattle.xdg_check.specs.Counts.{Counting, uses, sum_of_uses, combos, sum_of_combos, product_of_combos, capped}
-use Rattle.xdg_check.proofs.Capped.{capped_mul_right}
 use Rattle.xdg_facts.specs.Membership.{In}
 use Rattle.xdg_facts.proofs.In.{in_left, in_right}
-use Rattle.xdg_domain.proofs.Capped.{capped_mul}
+use Rattle.xdg_facts.proofs.Capped.{capped_again, product_stops, sum_stops}
 
 -- counts that go with one another stay so under sums and products
 module _ (Go : ℕ → ℕ → Type 0) (own : (a : ℕ) → Go a a) (sum : (a b c d : ℕ) → Go a c → Go b d → Go (a + b) (c + d)) (product : (a b c d : ℕ) → Go a c → Go b d → Go (a * b) (c * d)) (p q : Counting) where
@@ -61,16 +60,6 @@ same_product a b c d h k = ap₂ (λ m n. m * n) h k
 abbrev Stop : ℕ → ℕ → Type 0
 Stop a b = capped a ≡ capped b
 
-sum_stops : (a b c d most : ℕ) → min a most ≡ min c most → min b most ≡ min d most → min (a + b) most ≡ min (c + d) most
-sum_stops a b c d most h k = omega (arith, h, k)
-
-product_stops : (a b c d most : ℕ) → min a most ≡ min c most → min b most ≡ min d most → min (a * b) most ≡ min (c * d) most
-product_stops a b c d most h k =
-    sym (capped_mul a b most) ∙ ap (λ m. min (m * b) most) h ∙ capped_mul c b most ∙ sym (capped_mul_right c b most) ∙ ap (λ m. min (c * m) most) k ∙ capped_mul_right c d most
-
-again : (a b most : ℕ) → a ≡ min b most → min a most ≡ min b most
-again a b most h = omega (arith, h)
-
 module _ (p q : Counting) where
   -- the two say the same of each class that is used
   abbrev pub Alike : List Called → Type 0
@@ -87,7 +76,7 @@ module _ (p q : Counting) where
   Stops cs = (call : Called) → In cs call → p call.name.text ≡ capped (q call.name.text)
 
   stop : (cs : List Called) → Stops cs → (call : Called) → In cs call → Stop (p call.name.text) (q call.name.text)
-  stop cs h call i = again (p call.name.text) (q call.name.text) (2 ^ 64 - 1) (h call i)
+  stop cs h call i = capped_again (p call.name.text) (q call.name.text) (2 ^ 64 - 1) (h call i)
 
   pub uses_stop : (b : Body) → Stops (calls b) → capped (uses p b) ≡ capped (uses q b)
   uses_stop b h = uses_go Stop (λ a. refl) (λ a b c d. sum_stops a b c d (2 ^ 64 - 1)) (λ a b c d. product_stops a b c d (2 ^ 64 - 1)) p q b (stop (calls b) h)

@@ -10,11 +10,11 @@ use Rattle.xdg_check.specs.declared.checked.Class.{Class}
 use Rattle.xdg_check.specs.Completed.{completed, all_completed, bound_by}
 use Rattle.xdg_check.specs.Answers.{IsClassOf, AreClassesOf}
 use Rattle.xdg_check.specs.Counts.{class_texts}
-use Rattle.xdg_principles.proofs.Sides.{zip_seen}
 use Rattle.xdg_facts.specs.Membership.{In}
 use Rattle.xdg_facts.proofs.Lists.{fused}
 use Rattle.xdg_facts.proofs.In.{in_left, in_right, in_flat_map, flat_map_in, map_in}
 use Rattle.xdg_ast.specs.Texts.{texts}
+use Rattle.xdg_facts.proofs.Zips.{zip_seen}
 
 -- ---- what stands in a completed body
 

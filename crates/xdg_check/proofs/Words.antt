@@ -7,9 +7,8 @@ use Rattle.xdg_names.specs.First.{IsFirstOf, Tells}
 use Rattle.xdg_types.specs.Table.{Table, typed}
 use Rattle.xdg_packed.specs.Entries.{IsWordPlace}
 use Rattle.xdg_check.specs.Lex.{HasLex, LexOffends}
-use Rattle.xdg_facts.proofs.In.{in_got}
+use Rattle.xdg_facts.proofs.In.{in_got, at_once}
 use Rattle.xdg_names.proofs.First.{itself}
-use Rattle.xdg_check.proofs.Filled.{at_once}
 
 -- ---- from places to what stands there
 

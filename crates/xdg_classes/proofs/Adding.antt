@@ -12,16 +12,13 @@ use Rattle.xdg_domain.specs.declared.types.Ty.{Ty}
 use Rattle.xdg_domain.specs.Shapes.{Shape, shape}
 use Rattle.xdg_terms.specs.Wanted.{Want}
 use Rattle.xdg_classes.specs.Given.{shapes, shapes_at, Adds}
-use Rattle.xdg_facts.proofs.Options.{same_mark}
+use Rattle.xdg_facts.proofs.Options.{same_mark, none_some}
 use Rattle.xdg_facts.specs.Membership.{In}
 use Rattle.xdg_facts.proofs.In.{in_append, in_left, in_right}
 
 -- the types of each parameter, where these are the parameters
 abbrev pub on : List (List ℕ) → List (List (Bor Ty)) → List ℕ → List Shape
 on ps ts q = shapes_at ts (place_of ps q)
-
-some_apart : {A : Type 0} (x : A) → Some x ≡ None → ⊥
-some_apart {A = A} x e = true≢false (ap (λ (o : Option A). elim o [ None ↦ false | Some y ↦ true ]) e)
 
 -- a type that is known already
 pub adds_known : (f : List ℕ → List Shape) (p : List ℕ) (u : Shape) → In (f p) u → Adds f f ((p, u) ∷ [])
@@ -92,7 +89,7 @@ module _ (ps : List (List ℕ)) (ts : List (List (Bor Ty))) (p : List ℕ) (ty :
         )
 
     pushed_by : (q : List ℕ) (s : Shape) (o : Option ℕ) → place_of ps q ≡ o → More (on ps pushed) q s
-    pushed_by q s None at = away (on ps pushed) q s (ap (shapes_at pushed) at ∙ sym (ap (shapes_at ts) at)) (λ e. some_apart k (sym is ∙ ap (place_of ps) e ∙ at))
+    pushed_by q s None at = away (on ps pushed) q s (ap (shapes_at pushed) at ∙ sym (ap (shapes_at ts) at)) (λ e. none_some k (sym (sym is ∙ ap (place_of ps) e ∙ at)))
     pushed_by q s (Some j) at = elim (cases_eq j k) [
       | inl e ↦ here q s j at e
       | inr ne ↦ away (on ps pushed) q s (ap (shapes_at pushed) at ∙ ap shapes (get_or-set_other ts k j (types ++ ty ∷ []) [] ne) ∙ sym (ap (shapes_at ts) at)) (λ e. ne (same_mark j k (sym at ∙ sym (ap (place_of ps) e) ∙ is)))

@@ -18,10 +18,11 @@ use Rattle.xdg_terms.specs.Wanted.{Want}
 use Rattle.xdg_classes.specs.declared.wanted.WantedTypes.{WantedTypes}
 use Rattle.xdg_classes.specs.Given.{given, given_in, shapes_at, IsEven, Grows}
 use Rattle.xdg_classes.specs.Collected.{arg_wants, record_wants, call_wants, body_wants}
-use Rattle.xdg_classes.proofs.Sameness.{taken}
 use Rattle.xdg_facts.specs.Membership.{In}
 use Rattle.xdg_facts.proofs.In.{in_append, in_left, in_right}
 use Rattle.xdg_ast.specs.Texts.{texts}
+use Rattle.xdg_facts.proofs.Lists.{nothing_each}
+use Rattle.xdg_facts.proofs.Fronts.{taken}
 
 pub grows_none : (w : WantedTypes) → Grows w w []
 grows_none w even = (even, (λ q s. ((λ h. inl h), (λ h. elim h [ inl a ↦ a | inr b ↦ absurd b ]))))
@@ -70,11 +71,6 @@ grows_each f xs i first now over so_far = grows_as first now (flat_map (λ x. f 
     single : {A B : Type 0} (f : A → B) (xs : List A) → flat_map (λ x. f x ∷ []) xs ≡ map f xs
     single f [] = refl
     single f (x ∷ xs) = ap (λ l. f x ∷ l) (single f xs)
-
--- nothing comes of types that are none
-pub nothing_each : {A B : Type 0} (g : A → List B) → ((x : A) → g x ≡ []) → (xs : List A) → flat_map g xs ≡ []
-nothing_each g none [] = refl
-nothing_each g none (x ∷ xs) = ap (λ l. l ++ flat_map g xs) (none x) ∙ nothing_each g none xs
 
 -- the names of the parameters
 pub names_of_params : (params : List ClassParam) → params_of params ≡ texts (param_names params)

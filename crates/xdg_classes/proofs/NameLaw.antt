@@ -17,7 +17,6 @@ use Rattle.xdg_types.specs.Parts.{Statement, keys}
 use Rattle.xdg_types.specs.Table.{Table}
 use Rattle.xdg_names.proofs.Listing.{lists_tell}
 use Rattle.xdg_types.proofs.Listings.{joined_each, mapped, swapped}
-use Rattle.xdg_types.proofs.Optional.{lists_one, lists_option}
 use Rattle.xdg_types.proofs.Distinct.{same_known, of_different, to_different}
 use Rattle.xdg_types.proofs.Elements.{in_texts}
 use Rattle.xdg_types.proofs.NamesAgain.{all_twice, all_of_one, more_lists}
@@ -32,7 +31,7 @@ use Rattle.xdg_facts.proofs.Options.{none_some}
 use Rattle.xdg_facts.specs.Membership.{In}
 use Rattle.xdg_facts.proofs.In.{in_flat_map, flat_map_in, in_map, map_in}
 use Rattle.xdg_ast.specs.Texts.{texts}
-use Rattle.xdg_facts.proofs.Parts.{Lists, lists_as, lists_both, lists_each, lists_when}
+use Rattle.xdg_facts.proofs.Parts.{Lists, lists_as, lists_both, lists_each, lists_when, lists_one, lists_option}
 
 -- ---- parameters without default
 

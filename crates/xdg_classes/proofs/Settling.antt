@@ -1,5 +1,5 @@
 -- What is collected of a class is what is wanted of its parameters.
-use Rattle.std.proofs.Common.{◌≡◌, inl, inr, ℕ, zero, suc, ◌+◌, ◌<◌, Bool, true, false, List, [], ◌∷◌, length, map, slice_set, Option, Some, None, refl, sym, ap, ◌∙◌, subst, arith}
+use Rattle.std.proofs.Common.{◌≡◌, inl, inr, ℕ, suc, ◌+◌, ◌<◌, Bool, true, false, List, [], ◌∷◌, length, map, slice_set, Option, Some, None, refl, sym, ap, ◌∙◌, subst, arith}
 use Rattle.std.specs.Prelude.{◌↔◌, bytes_eq, if◌then◌else◌, option_map, slice_get, slice_index_or}
 use Rattle.std.specs.List.{flat_map}
 use Rattle.std.proofs.lemmas.Bool.{true≢false, cases_eq}
@@ -37,6 +37,7 @@ use Rattle.xdg_classes.specs.KnownWants.{Fits, IsRightAt, AreRightUpTo, IsKnown}
 use Rattle.xdg_facts.specs.Membership.{In, Differ}
 use Rattle.xdg_facts.proofs.In.{in_append, in_left, in_right, in_at, in_index, in_flat_map, flat_map_in, in_map, map_in}
 use Rattle.xdg_ast.specs.Texts.{texts}
+use Rattle.xdg_facts.proofs.Lists.{set_same, set_other}
 
 -- ---- features
 
@@ -71,20 +72,6 @@ one_class (x ∷ xs) differ c d h k e = elim h [
 
 pub unique : (statements : List Statement) → None_of (IsTwice (once statements)) → (c d : ClassDef) → In (classes statements) c → In (classes statements) d → c.name.text ≡ d.name.text → c ≡ d
 unique statements none = one_class (classes statements) (once_differ (once statements) none (class_names (classes statements)) (inl refl))
-
--- ---- a list with one element changed
-
-pub set_same : {A : Type 0} (xs : List A) (k : ℕ) (x : A) → k < length xs → slice_get (slice_set xs k x) k ≡ Some x
-set_same [] k x h = absurd (omega (arith, h))
-set_same (y ∷ xs) zero x h = refl
-set_same (y ∷ xs) (suc k) x h = set_same xs k x (omega (arith, h))
-
-pub set_other : {A : Type 0} (xs : List A) (k j : ℕ) (x : A) → (j ≡ k → ⊥) → slice_get (slice_set xs k x) j ≡ slice_get xs j
-set_other [] k j x ne = refl
-set_other (y ∷ xs) zero zero x ne = absurd (ne refl)
-set_other (y ∷ xs) zero (suc j) x ne = refl
-set_other (y ∷ xs) (suc k) zero x ne = refl
-set_other (y ∷ xs) (suc k) (suc j) x ne = set_other xs k j x (λ e. ne (ap suc e))
 
 -- ---- one class
 

@@ -5,8 +5,8 @@ use Rattle.xdg_base.specs.declared.faults.Fault.{Fault}
 use Rattle.xdg_names.specs.First.{Tells, earlier}
 use Rattle.xdg_names.proofs.First.{tells_as, tells_both}
 use Rattle.xdg_classes.specs.Wrong.{SomeOf}
-use Rattle.xdg_classes.proofs.Sameness.{taken}
 use Rattle.xdg_facts.proofs.In.{in_append, in_left, in_right, in_map, map_in}
+use Rattle.xdg_facts.proofs.Fronts.{taken}
 
 pub tells_sum : (P Q : Fault → Type 0) (a b whole : Option Fault) → Tells P a → Tells Q b → whole ≡ earlier a b → Tells (λ f. P f ⊎ Q f) whole
 tells_sum P Q a b whole h k is = subst (Tells (λ f. P f ⊎ Q f)) (sym is) (tells_both P Q a b h k)

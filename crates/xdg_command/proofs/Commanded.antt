@@ -1,5 +1,5 @@
 -- What is found is what the words after a name say, whatever the command.
-use Rattle.std.proofs.Common.{◌≡◌, ◌∙◌, ◌≤◌, ℕ, Bool, true, false, List, [], ◌∷◌, length, Option, Some, None, sym, ap, ap₂, subst, arith}
+use Rattle.std.proofs.Common.{◌≡◌, ◌∙◌, ℕ, Bool, true, false, List, length, Option, Some, None, sym, ap, subst, arith}
 use Rattle.std.specs.Prelude.{codes, slice_get, if◌then◌else◌}
 use Rattle.clap.specs.Matches.{first_value, found_of, one_text}
 use Rattle.clap.specs.Simple.{App}
@@ -87,15 +87,3 @@ module _ {t : Table} {words : List (List ℕ)} {found : ArgMatches} (m : Matches
       go : (x : Bool) → one_text (found_of found) name ≡ Some (if x then codes "true" else codes "false") → b ≡ x
       go true e = set e
       go false e = unset e
-
--- one operand, and two
-pub single : (xs : List (List ℕ)) (x : List ℕ) → slice_get xs 0 ≡ Some x → length xs ≤ 1 → xs ≡ x ∷ []
-single [] x e few = absurd cc
-single (y ∷ []) x e few = let is : y ≡ x = cc in ap (λ z. z ∷ []) is
-single (y ∷ z ∷ xs) x e few = absurd (omega (arith, few))
-
-pub double : (xs : List (List ℕ)) (x y : List ℕ) → slice_get xs 0 ≡ Some x → slice_get xs 1 ≡ Some y → length xs ≤ 2 → xs ≡ x ∷ y ∷ []
-double [] x y e f few = absurd cc
-double (a ∷ []) x y e f few = absurd cc
-double (a ∷ b ∷ []) x y e f few = let first : a ≡ x = cc in let second : b ≡ y = cc in ap₂ (λ p q. p ∷ q ∷ []) first second
-double (a ∷ b ∷ c ∷ xs) x y e f few = absurd (omega (arith, few))

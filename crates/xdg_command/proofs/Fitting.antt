@@ -7,11 +7,11 @@ use Rattle.clap.specs.Walk.{Row, Rule, has_row}
 use Rattle.xdg_command.specs.Items.{Item, operand, valued, flagged, one_if, operands_of, uses_of}
 use Rattle.xdg_command.specs.Syntax.{Table}
 use Rattle.xdg_command.proofs.Placed.{put, put_operand}
-use Rattle.xdg_facts.specs.Onward.{onward}
 use Rattle.xdg_command.proofs.Rules.{added, flag_rule, operand_rule, row, value_rule}
 use Rattle.xdg_facts.proofs.Texts.{same_text}
 use Rattle.xdg_facts.proofs.Truths.{or_assoc, or_false}
 use Rattle.std.proofs.lemmas.Option.{slice_get_within}
+use Rattle.xdg_facts.proofs.Options.{onward_is}
 
 -- ---- rows
 
@@ -33,10 +33,6 @@ added_is a values rows more e = elim (cases_Bool (has_row a.id rows)) [
   | inl is ↦ let bad : None ≡ Some more = rw is at e in absurd cc
   | inr is ↦ let same : Some (rows ++ row a values ∷ []) ≡ Some more = rw is at e in let rows_are : rows ++ row a values ∷ [] ≡ more = cc in (is, sym rows_are)
 ]
-
-pub onward_is : {A B : Type 0} (o : Option A) (f : A → Option B) (b : B) → onward o f ≡ Some b → (a : A) × (o ≡ Some a) × (f a ≡ Some b)
-onward_is None f b e = absurd cc
-onward_is (Some a) f b e = (a, refl, e)
 
 -- one row more
 pub has_more : (name : List ℕ) (rows : List Row) (r : Row) → has_row name (rows ++ r ∷ []) ≡ (has_row name rows || bytes_eq r.id name)

@@ -21,7 +21,7 @@ use Rattle.xdg_command.specs.Syntax.{Table, app_in}
 use Rattle.xdg_command.proofs.Built.{app_is, built_is, no_rule, numbered, rules_in, shape_in}
 use Rattle.xdg_command.proofs.Filling.{Formed, filled, formed}
 use Rattle.xdg_command.proofs.Finding.{finds_flag, finds_operand, finds_value, first_kept, flag_kept, found_in}
-use Rattle.xdg_command.proofs.Fitting.{onward_is, put_few, put_once, put_rows, rows_of_items}
+use Rattle.xdg_command.proofs.Fitting.{put_few, put_once, put_rows, rows_of_items}
 use Rattle.xdg_command.proofs.Lookups.{Right, among_at, apart_at, finds_in}
 use Rattle.xdg_command.proofs.Placed.{put}
 use Rattle.xdg_command.proofs.Reader.{read}
@@ -31,6 +31,7 @@ use Rattle.xdg_command.proofs.Rules.{flag_rule, nothing, operand_rule, value_rul
 use Rattle.xdg_command.proofs.Spelled.{flag_form, items_read, read_items, value_form}
 use Rattle.xdg_command.proofs.Turns.{between, held}
 use Rattle.xdg_command.proofs.Walked.{AreTexts, total, walked_all}
+use Rattle.xdg_facts.proofs.Options.{onward_is}
 
 -- ---- after the walk
 

@@ -21,43 +21,19 @@ use Rattle.xdg_command.proofs.Turns.{awaited_end, awaited_letter, awaited_long, 
 use Rattle.xdg_command.proofs.Uses.{empty_refused, flag_used, operand_used, using_as, value_used}
 use Rattle.std.proofs.lemmas.Option.{slice_get_within}
 use Rattle.xdg_facts.proofs.Texts.{same_text}
+use Rattle.xdg_facts.proofs.Options.{onward_none, onward_same, onward_some, onward_swap, gate, closed}
 
 -- ---- options of values
-
-onward_some : {A : Type 0} (o : Option A) → onward o (λ a. Some a) ≡ o
-onward_some None = refl
-onward_some (Some a) = refl
-
-onward_none : {A B : Type 0} (o : Option A) (f : A → Option B) → ((a : A) → f a ≡ None) → onward o f ≡ None
-onward_none None f e = refl
-onward_none (Some a) f e = e a
-
-onward_same : {A B : Type 0} (o : Option A) (f g : A → Option B) → ((a : A) → f a ≡ g a) → onward o f ≡ onward o g
-onward_same None f g e = refl
-onward_same (Some a) f g e = e a
-
-onward_swap : {A B C : Type 0} (o : Option A) (p : Option B) (f : A → B → Option C) → onward o (λ a. onward p (λ b. f a b)) ≡ onward p (λ b. onward o (λ a. f a b))
-onward_swap None None f = refl
-onward_swap None (Some b) f = refl
-onward_swap (Some a) None f = refl
-onward_swap (Some a) (Some b) f = refl
 
 -- one more item
 behind_onward : {B : Type 0} (item : Item) (o : Option (List Item)) (f : List Item → Option B) → onward o (λ items. f (item ∷ items)) ≡ onward (behind item o) f
 behind_onward item None f = refl
 behind_onward item (Some items) f = refl
 
-gate : {A B : Type 0} (b : Bool) (a : A) (f : A → Option B) → (if b then f a else None) ≡ onward (if b then Some a else None) f
-gate true a f = refl
-gate false a f = refl
-
 gates : {A B : Type 0} (x : Kinds) (y : A → Kinds) (a : A) (c : A → A) (f : A → Option B)
     → (if nothing (or_else x (y a)) then f (c a) else None) ≡ onward (if nothing x then Some a else None) (λ b. onward (if nothing (y b) then Some (c b) else None) f)
 gates [] y a c f = gate (nothing (y a)) (c a) f
 gates (k ∷ ks) y a c f = refl
-
-closed : {B : Type 0} (b : Bool) (o : Option B) → b ≡ false → (if b then o else None) ≡ None
-closed b o e = rw e refl
 
 -- ---- walks
 

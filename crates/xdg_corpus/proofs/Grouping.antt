@@ -1,6 +1,6 @@
 -- A group that takes one line after the other.
-use Rattle.std.proofs.Common.{◌≡◌, ◌⊎◌, inl, inr, ℕ, zero, suc, ◌<◌, ◌≤◌, List, [], ◌∷◌, ◌++◌, length, refl, sym, ◌∙◌, ap, subst, arith}
-use Rattle.std.specs.Prelude.{OnOk, None, Some, Result, Ok, Err, slice_get}
+use Rattle.std.proofs.Common.{◌≡◌, ◌⊎◌, inl, inr, ℕ, ◌<◌, ◌≤◌, List, [], ◌∷◌, ◌++◌, length, refl, sym, ◌∙◌, ap, subst, arith}
+use Rattle.std.specs.Prelude.{OnOk, Result, Ok, Err}
 use Rattle.std.specs.List.{AllZip}
 use Rattle.std.proofs.lemmas.List.{append_assoc, length-append}
 use Rattle.std.proofs.lemmas.Slice.Zip.{AllZip-long}
@@ -24,28 +24,12 @@ use Rattle.xdg_inputs.specs.declared.refusals.Refusal.TheVariants as refusals
 use Rattle.xdg_problem.specs.declared.parts.Parts.{Parts}
 use Rattle.xdg_propcore.specs.Uses.{AllStandIn}
 use Rattle.xdg_split.specs.Asked.{Asked, IsJob, asked}
-use Rattle.xdg_facts.proofs.Lists.{zip_more}
+use Rattle.xdg_facts.proofs.Lists.{zip_more, get_last, get_more}
+use Rattle.xdg_facts.proofs.Zips.{zip_weaker}
 
 -- ---- lists
 
 -- what follows from each place
-zip_each : {A B : Type 0} (R S : A → B → Type 0) (xs : List A) (ys : List B) → ((x : A) (y : B) → R x y → S x y) → AllZip R xs ys → AllZip S xs ys
-zip_each R S [] [] turn all = tt
-zip_each R S [] (b ∷ ys) turn all = absurd all
-zip_each R S (a ∷ xs) [] turn all = absurd all
-zip_each R S (a ∷ xs) (b ∷ ys) turn all = (turn a b all.0, zip_each R S xs ys turn all.1)
-
--- what stands at a place stands there still where more is added at the end
-get_more : {X : Type 0} (xs ys : List X) (i : ℕ) (x : X) → slice_get xs i ≡ Some x → slice_get (xs ++ ys) i ≡ Some x
-get_more [] ys i x e = absurd (let bad : None ≡ Some x = e in cc)
-get_more (a ∷ xs) ys zero x e = e
-get_more (a ∷ xs) ys (suc i) x e = get_more xs ys i x e
-
--- what is added at the end stands behind the others
-get_last : {X : Type 0} (xs : List X) (x : X) → slice_get (xs ++ x ∷ []) (length xs) ≡ Some x
-get_last [] x = refl
-get_last (a ∷ xs) x = get_last xs x
-
 -- what holds after each fault holds where a fault was told
 pub stays_at_text : {T E : Type 0} (P : Type 0) (result : Result T E) (line : List ℕ) (stop : Stop) (refusal : Refusal) (f : Fault) (place : LineColumn) → ((g : Fault) → stop ≡ stops.Fault g → P) → refusal ≡ refusal_of line stop → refusal ≡ refusals.Text f place → OnOk result P
 stays_at_text P (Ok done) line (stops.Fault g) refusal f place told is text = told g refl
@@ -72,7 +56,7 @@ module _ (m : Meaning) (options : CorpusOptions) where
       → new.sentences.items ≡ old.sentences.items ++ sentences.Job (length old.jobs.items) ∷ [] → new.jobs.items ≡ old.jobs.items ++ job ∷ [] → HasLines m options taken old → HasLines m options (taken ++ line ∷ []) new
   line_asked taken line old new job asks said jobs has =
       let jobs_old = old.jobs.items in
-      let grown = zip_each (StandsFor m options jobs_old) (StandsFor m options (jobs_old ++ job ∷ [])) taken old.sentences.items (stands_still jobs_old job) has in
+      let grown = zip_weaker (StandsFor m options jobs_old) (StandsFor m options (jobs_old ++ job ∷ [])) taken old.sentences.items (λ x among. stands_still jobs_old job x) has in
       let more = zip_more (StandsFor m options (jobs_old ++ job ∷ [])) taken old.sentences.items line (sentences.Job (length jobs_old)) grown (job, get_last jobs_old job, asks) in
       subst (λ js. AllZip (StandsFor m options js) (taken ++ line ∷ []) new.sentences.items) (sym jobs) (subst (AllZip (StandsFor m options (jobs_old ++ job ∷ [])) (taken ++ line ∷ [])) (sym said) more)
 

@@ -11,16 +11,14 @@ use Rattle.xdg_domain.specs.Defaults.{default, defaults, for_each_key, map_of_de
 use Rattle.xdg_domain.specs.declared.values.Value.{Value, out-Value}
 use Rattle.xdg_domain.specs.declared.values.Value.TheOpen.{Value-F}
 use Rattle.xdg_domain.specs.declared.values.Value.TheVariants as v
-use Rattle.xdg_domain.proofs.Masks.{members_are_cards, all_bits, one_bits, one_within}
-use Rattle.xdg_domain.proofs.Sorting.{range_rises}
+use Rattle.xdg_domain.proofs.Masks.{members_are_cards, all_bits}
 use Rattle.xdg_domain.proofs.Each.{each_rises, each_holds, each_said, all_below}
 use Rattle.xdg_domain.proofs.Made.{none_and}
-use Rattle.xdg_facts.proofs.Options.{some_same}
+use Rattle.xdg_facts.proofs.Options.{some_same, not_both_ways}
+use Rattle.xdg_facts.proofs.BitMembers.{one_bits, one_within}
+use Rattle.xdg_facts.proofs.Sorting.{range_rises}
 
 -- ---- whether there is one
-
-pub differ : {A : Type 0} (o : Option A) (x : A) → o ≡ None → o ≡ Some x → ⊥
-differ o x e f = cc
 
 pub mapped_plain : (s : Shape) → IsMapped s → HasPlain s → ⊥
 mapped_plain (set s) h p = p
@@ -136,7 +134,7 @@ mutual
         )
   ]
   right (fields fs) h x e = elim (all_decided 0 fs h.1) [
-    | inl none ↦ absurd (differ (record_of_defaults (defaults 0 fs)) x (ap record_of_defaults none.0) e)
+    | inl none ↦ absurd (not_both_ways (record_of_defaults (defaults 0 fs)) x (ap record_of_defaults none.0) e)
     | inr some ↦
         let all = some.1.0 in
         let are = fields_right fs h.1 0 all some.1.1 in

@@ -7,16 +7,13 @@ use Rattle.xdg_domain.specs.Valencies.{said_at, KeysRise}
 use Rattle.xdg_domain.specs.Values.{AllBelow, EachSaid}
 use Rattle.xdg_domain.specs.Defaults.{for_each_key}
 use Rattle.xdg_domain.proofs.Keyed.{at_head, after_head}
-use Rattle.xdg_domain.proofs.Sorting.{range_more}
 use Rattle.xdg_facts.proofs.Options.{some_same}
+use Rattle.xdg_facts.proofs.Each.{keyed}
+use Rattle.xdg_facts.proofs.Sorting.{range_more}
 
 -- one key more
 pub each_more : {V : Type 0} (n : ℕ) (x : V) → for_each_key n x ++ (n, x) ∷ [] ≡ for_each_key (n + 1) x
 each_more {V} n x = let said : ℕ → ℕ × V = λ key. (key, x) in sym (map-append said (range_with_len 0 n) (n ∷ [])) ∙ ap (map said) (range_more n)
-
--- of each key from the first on something is said
-abbrev pub keyed : {V : Type 0} → (ℕ → V) → ℕ → ℕ → List (ℕ × V)
-keyed g first count = map (λ key. (key, g key)) (range_with_len first count)
 
 pub keyed_rises : {V : Type 0} (g : ℕ → V) (first count : ℕ) → KeysRise first (keyed g first count)
 keyed_rises g first zero = tt

@@ -5,8 +5,6 @@ pub mod JoinLaws
 pub mod Keyed
 pub mod Merged
 pub mod Merging
-pub mod Sorting
-pub mod Capped
 pub mod TupleNumbers
 pub mod Sizing
 pub mod KeyAfterKey

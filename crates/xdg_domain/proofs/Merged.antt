@@ -7,8 +7,8 @@ use Rattle.xdg_domain.specs.Valencies.{said_at, KeysRise}
 use Rattle.xdg_domain.specs.Values.{EachSaid}
 use Rattle.xdg_domain.specs.Joins.{Both, SaysBoth, OnBoth, OnSome}
 use Rattle.xdg_domain.specs.Joined.{behind, behind_joined, merged}
-use Rattle.xdg_domain.proofs.Merging.{by_order}
 use Rattle.xdg_domain.proofs.Keyed.{at_head, after_head, unsaid, both_along, on_along, on_none, both_none}
+use Rattle.xdg_facts.proofs.Merging.{by_order}
 
 -- ---- behind what is made
 

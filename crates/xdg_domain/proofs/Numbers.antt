@@ -1,9 +1,9 @@
 -- Sets and cardinalities of which the same is said are the same, and what two of them say together.
 use Rattle.std.proofs.Common.{◌≡◌, ◌↔◌, ℕ, ◌<◌, ◌≤◌, ◌+◌, List, [], ◌∷◌, refl, ap, ap₂, sym, ◌∙◌, arith, inl, inr, subst}
 use lib.Pointwise.{pointwise}
-use Rattle.std.specs.Prelude.{eqb, Bool, true, false, ◌&&◌, ◌||◌, ◌==◌, Option, None, Some, MatchOption, Result, Ok, Err, IfOk, filter}
+use Rattle.std.specs.Prelude.{eqb, true, false, ◌&&◌, ◌||◌, ◌==◌, Option, None, Some, MatchOption, Result, Ok, Err, IfOk}
 use Rattle.std.specs.List.Sorted.{IsStrictlyIncreasing}
-use Rattle.std.proofs.lemmas.Bool.{cases_eq, cases_lt, eq-eqb, ne_eqb, or_cases, true≢false, cond_both}
+use Rattle.std.proofs.lemmas.Bool.{cases_eq, or_cases, true≢false}
 use Rattle.std.proofs.Math.Bool.{and_assoc}
 use Rattle.std.proofs.lemmas.Slice.Eq.{bytes_eq-Decides}
 use Rattle.xdg_domain.specs.Cards.{cards, IsCards, common}
@@ -11,45 +11,13 @@ use Rattle.xdg_domain.specs.Valencies.{said_at, KeysRise, both_say, Clash}
 use Rattle.xdg_domain.specs.Values.{AllBelow, EachSaid}
 use Rattle.xdg_domain.specs.Joins.{Both, SaysBoth, OnBoth, OnSome, IsUnion, IsMeet, AllowsBoth, IsApart}
 use Rattle.xdg_domain.specs.Joined.{above, either, both, where_some, allowed, merged, same_list}
-use Rattle.xdg_domain.proofs.Merging.{swapped, RisesFrom, rises_of_increasing, increasing_of_rises, absent}
 use Rattle.xdg_domain.proofs.Keyed.{says_exclusive, says_unique}
 use Rattle.xdg_domain.proofs.Merged.{merged_tells}
 use Rattle.xdg_facts.proofs.Truths.{and_false, or_true, and_swap, and_first, or_assoc}
-use Rattle.xdg_facts.specs.Rises.{has, numbers_below, Rises}
-use Rattle.xdg_facts.proofs.Rising.{numbers_agree, has_exact, rises_of, rises_sooner}
-
--- ---- rising lists
-
-has_head : (x : ℕ) (s : List ℕ) (n : ℕ) → x ≡ n → has (x ∷ s) n ≡ true
-has_head x s n is = ap (λ t. t || has s n) (eq-eqb x n is)
-
-has_after : (x : ℕ) (s : List ℕ) (n : ℕ) → (x ≡ n → ⊥) → has (x ∷ s) n ≡ has s n
-has_after x s n other = ap (λ t. t || has s n) (ne_eqb x n other)
-
-pub members_same : (low : ℕ) (a b : List ℕ) → RisesFrom low a → RisesFrom low b → ((n : ℕ) → has a n ≡ has b n) → a ≡ b
-members_same low [] [] h k same = refl
-members_same low [] (y ∷ b) h k same = absurd (true≢false (sym (has_head y b y refl) ∙ sym (same y)))
-members_same low (x ∷ a) [] h k same = absurd (true≢false (sym (has_head x a x refl) ∙ same x))
-members_same low (x ∷ a) (y ∷ b) h k same = elim (cases_eq x y) [
-  | inl i ↦ ap₂ (λ n s. n ∷ s) i (members_same (x + 1) a b h.1 (subst (λ n. RisesFrom (n + 1) b) (sym i) k.1) (λ n. elim (cases_eq x n) [
-    | inl j ↦ absent (x + 1) n a (omega (arith, j)) h.1 ∙ sym (absent (y + 1) n b (omega (arith, i, j)) k.1)
-    | inr other ↦ sym (has_after x a n other) ∙ same n ∙ has_after y b n (λ j. other (i ∙ j))
-  ]))
-  | inr other ↦ elim (cases_lt x y) [
-    | inl less ↦ absurd (true≢false (sym (has_head x a x refl) ∙ same x ∙ absent y x (y ∷ b) less (omega arith, k.1)))
-    | inr more ↦ absurd (true≢false (sym (has_head y b y refl) ∙ sym (same y) ∙ absent x y (x ∷ a) (omega (arith, more, other)) (omega arith, h.1)))
-  ]
-]
-
-pub increasing_same : (a b : List ℕ) → IsStrictlyIncreasing a → IsStrictlyIncreasing b → ((n : ℕ) → has a n ≡ has b n) → a ≡ b
-increasing_same a b h k same = members_same 0 a b (rises_of_increasing a h) (rises_of_increasing b k) same
-
-pub from_rises : (low bound : ℕ) (s : List ℕ) → Rises low bound s → RisesFrom low s
-from_rises low bound [] r = tt
-from_rises low bound (n ∷ s) r = (r.0, from_rises (n + 1) bound s r.2)
-
-pub numbers_increase : (bound : ℕ) (p : ℕ → Bool) → IsStrictlyIncreasing (numbers_below bound p)
-numbers_increase bound p = increasing_of_rises 0 (numbers_below bound p) (from_rises 0 bound (numbers_below bound p) (rises_of bound p))
+use Rattle.xdg_facts.specs.Rises.{has, Rises}
+use Rattle.xdg_facts.proofs.Rising.{numbers_agree, has_exact, rises_of}
+use Rattle.xdg_facts.proofs.Merging.{swapped, has_head, has_after, members_same, increasing_same, from_rises, numbers_increase, filter_rises, has_filter}
+use Rattle.xdg_facts.proofs.Sets.{meets}
 
 -- ---- bounds
 
@@ -100,9 +68,6 @@ meet_commutes a b c h = (h.0, λ n. h.1 n ∙ and_swap (has a n) (has b n))
 pub union_regroups : (a b c u v w : List ℕ) → IsUnion a b u → IsUnion u c w → IsUnion b c v → IsUnion a v w
 union_regroups a b c u v w h k l = (k.0, λ n. k.1 n ∙ ap (λ t. t || has c n) (h.1 n) ∙ or_assoc (has a n) (has b n) (has c n) ∙ ap (λ t. has a n || t) (sym (l.1 n)))
 
-meets : (a b c u v w : List ℕ) → ((n : ℕ) → has u n ≡ (has a n && has b n)) → ((n : ℕ) → has w n ≡ (has u n && has c n)) → ((n : ℕ) → has v n ≡ (has b n && has c n)) → (n : ℕ) → has w n ≡ (has a n && has v n)
-meets a b c u v w h k l n = k n ∙ ap (λ t. t && has c n) (h n) ∙ and_assoc (has a n) (has b n) (has c n) ∙ ap (λ t. has a n && t) (sym (l n))
-
 pub meet_regroups : (a b c u v w : List ℕ) → IsMeet a b u → IsMeet u c w → IsMeet b c v → IsMeet a v w
 meet_regroups a b c u v w h k l = (k.0, meets a b c u v w h.1 k.1 l.1)
 
@@ -130,26 +95,8 @@ member (x ∷ s) some = (x, has_head x s x refl)
 pub allows_exclusive : (a b c : List ℕ) → AllowsBoth a b c → IsApart a b → ⊥
 allows_exclusive a b c h k = let m = member c (h.0).some in true≢false (sym m.1 ∙ h.1 m.0 ∙ k m.0)
 
--- what stands in a list and passes the test
-has_filter : (p : ℕ → Bool) (s : List ℕ) (n : ℕ) → has (filter p s) n ≡ (has s n && p n)
-has_filter p [] n = refl
-has_filter p (x ∷ s) n = elim (cases_eq x n) [
-  | inl i ↦ cond_both (p x) (x ∷ filter p s) (filter p s) (λ l. has l n ≡ (has (x ∷ s) n && p n))
-      (λ t. has_head x (filter p s) n i ∙ sym (ap₂ (λ y z. y && z) (has_head x s n i) (ap p (sym i) ∙ t)))
-      (λ t. has_filter p s n ∙ ap (λ y. has s n && y) (ap p (sym i) ∙ t) ∙ and_false (has s n) ∙ sym (ap₂ (λ y z. y && z) (has_head x s n i) (ap p (sym i) ∙ t)))
-  | inr other ↦ cond_both (p x) (x ∷ filter p s) (filter p s) (λ l. has l n ≡ (has (x ∷ s) n && p n))
-      (λ t. has_after x (filter p s) n other ∙ has_filter p s n ∙ ap (λ y. y && p n) (sym (has_after x s n other)))
-      (λ t. has_filter p s n ∙ ap (λ y. y && p n) (sym (has_after x s n other)))
-]
-
 pub has_common : (a b : List ℕ) (n : ℕ) → has (common a b) n ≡ (has a n && has b n)
 has_common a b n = has_filter (has b) a n
-
-filter_rises : (p : ℕ → Bool) (low bound : ℕ) (s : List ℕ) → Rises low bound s → Rises low bound (filter p s)
-filter_rises p low bound [] r = tt
-filter_rises p low bound (x ∷ s) r =
-    let rest = filter_rises p (x + 1) bound s r.2 in
-    cond_both (p x) (x ∷ filter p s) (filter p s) (λ l. Rises low bound l) (λ t. (r.0, r.1, rest)) (λ t. rises_sooner low (x + 1) bound (filter p s) (omega (arith, r.0)) rest)
 
 rising_whole : (s : List ℕ) → Rises 0 128 s → s ≡ cards (has s)
 rising_whole s r = members_same 0 s (cards (has s)) (from_rises 0 128 s r) (from_rises 0 128 (cards (has s)) (rises_of 128 (has s))) (λ n. sym (has_exact 128 (has s) (λ k beyond. beyond_rises 0 128 s k beyond r) n))

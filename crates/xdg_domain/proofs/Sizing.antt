@@ -4,12 +4,12 @@ use Rattle.std.proofs.Math.Nat.{min-eq_left, mod-lt, mul_assoc}
 use Rattle.std.proofs.lemmas.List.{drop_more, drop_all, at_drop_more, at_drop_all}
 use Rattle.xdg_domain.specs.Tuples.{index, places, InRange}
 use Rattle.xdg_domain.proofs.TupleNumbers.{index_below, later_sizes, place_at}
-use Rattle.xdg_domain.proofs.Capped.{capped_mul}
 use Rattle.xdg_domain.specs.declared.types.Ty.{Ty}
 use Rattle.xdg_domain.specs.Shapes.{domain, Shapes, no_shape, shape_then, AreDomains, shape, sizes, constants, product}
 use Rattle.xdg_domain.specs.Values.{AllBelow}
 use Rattle.xdg_domain.specs.Sized.{sizes_of}
-use Rattle.xdg_facts.proofs.Numbers.{alone}
+use Rattle.xdg_facts.proofs.Numbers.{alone, all_some, digits_more}
+use Rattle.xdg_facts.proofs.Capped.{capped_mul}
 
 pub length_sizes : (types : List Ty) → length (sizes_of types) ≡ length types
 length_sizes [] = refl
@@ -57,10 +57,6 @@ in_step types numbers k within range =
     let same = in_range_length (sizes_of (drop k types)) (drop k numbers) range in
     omega (arith, within, same, length_sizes (drop k types), length-drop k types, length-drop k numbers)
 
-digits : (a s n p r t : ℕ) → 0 < p → a * (s * p) + (n * p + r) ≡ t → (a * s + n ≤ t) × ((a * s + n) * p + r ≡ t)
-digits a s n zero r t some is = absurd (omega (arith, some))
-digits a s n (suc p) r t some is = (omega (arith, is), omega (arith, is))
-
 -- one field more: the number so far stays small, and what is left stays in range
 pub record Turned (types : List Ty) (numbers : List ℕ) (k a size n whole : ℕ) : Type 0 where
   pub scaled : a * size ≤ whole
@@ -80,7 +76,7 @@ turn types numbers k t a size n whole within is sized said small range before =
     let range_now : InRange (s ∷ ss) (n ∷ ns) = subst (λ l. InRange (s ∷ ss) l) cut (subst (λ l. InRange l (drop k numbers)) (sym both) range) in
     let before_now : a * product (s ∷ ss) + index (s ∷ ss) (n ∷ ns) ≡ whole = ap₂ (λ l m. a * product l + index l m) both (sym cut) ∙ before in
     let below = index_below ss ns range_now.1 in
-    let got = digits a s n (product ss) (index ss ns) whole (omega (arith, below)) before_now in
+    let got = digits_more a s n (product ss) (index ss ns) whole (omega (arith, below)) before_now in
     let exact : a * size ≡ a * s = ap (λ m. a * m) sized in
     record {
       scaled = rw exact (omega (arith, got.0));
@@ -107,10 +103,6 @@ below_at : (bound : ℕ) (ns : List ℕ) (k : ℕ) → k < length ns → AllBelo
 below_at bound [] k within h = absurd (omega (arith, within))
 below_at bound (n ∷ ns) zero within h = h.0
 below_at bound (n ∷ ns) (suc k) within h = below_at bound ns k (omega (arith, within)) h.1
-
-all_some : (a s r n : ℕ) → n < a * (s * r) → (0 < s) × (0 < r) × (r ≤ a * (s * r))
-all_some (suc a) (suc s) (suc r) n below = (omega arith, omega arith, omega arith)
-all_some a s r n below = absurd (omega (arith, below))
 
 pub record OnePlace (types : List Ty) (n k many size : ℕ) : Type 0 where
   pub later : 0 < many

@@ -1,10 +1,10 @@
 -- The number of a tuple and the numbers of its constants tell each other.
 use Rattle.std.proofs.Common.{◌≡◌, ℕ, ◌<◌, ◌+◌, ◌*◌, ◌/◌, ◌%◌, zero, suc, List, [], ◌∷◌, length, get_or, take, drop, refl, ap, ap₂, sym, ◌∙◌, arith, subst}
-use Rattle.std.proofs.Math.Nat.{mul_comm, mul_assoc, mod-lt, div-lt_iff_lt-mul, mul-add-div_right, mul-add-mod_self_right, mod-eq_of_lt}
+use Rattle.std.proofs.Math.Nat.{mul_comm, mul_assoc, mod-lt, div-lt_iff_lt-mul, mod-eq_of_lt}
 use Rattle.std.proofs.lemmas.Nat.{mul-add-lt, div-mul-add, mod-mul-add, div-add-mod'}
 use Rattle.xdg_domain.specs.Shapes.{product}
 use Rattle.xdg_domain.specs.Tuples.{index, places, InRange, TupleLaws}
-use Rattle.xdg_facts.proofs.Numbers.{some_after}
+use Rattle.xdg_facts.proofs.Numbers.{some_after, some_factor, lowest}
 
 -- ---- both ways
 
@@ -63,19 +63,6 @@ unfolding product
 later_sizes [] k within = absurd (omega (arith, within))
 later_sizes (s ∷ ss) zero within = omega arith
 later_sizes (s ∷ ss) (suc k) within = ap (λ m. s * m) (later_sizes ss k (omega (arith, within))) ∙ sym (mul_assoc s (product (take k ss)) (get_or ss k 0 * product (drop (suc k) ss)))
-
-regroup : (q a t r : ℕ) → q * (a * (t * r)) ≡ q * a * t * r
-regroup q a t r = grind arith
-
-some_factor : (a t r : ℕ) → 0 < a * (t * r) → 0 < r
-some_factor a t zero some = absurd (omega (arith, some))
-some_factor a t (suc r) some = omega arith
-
-lowest : (n p a t r : ℕ) → 0 < r → p ≡ a * (t * r) → n % p / r % t ≡ n / r % t
-lowest n p a t r some is =
-    let e : n ≡ n / p * a * t * r + n % p = sym (div-add-mod' n p) ∙ ap (λ m. n / p * m + n % p) is ∙ ap (λ m. m + n % p) (regroup (n / p) a t r) in
-    let f : n / r ≡ n / p * a * t + n % p / r = ap (λ m. m / r) e ∙ mul-add-div_right {m = r} some (n / p * a * t) (n % p) in
-    sym (ap (λ m. m % t) f ∙ mul-add-mod_self_right (n / p * a) t (n % p / r))
 
 -- the place of one field
 pub place_at : (sizes : List ℕ) (n k : ℕ) → n < product sizes → k < length sizes → get_or (places sizes n) k 0 ≡ n / product (drop (suc k) sizes) % get_or sizes k 0

@@ -16,6 +16,7 @@ use Rattle.xdg_rules.specs.Bounds.{sum_below, must_places}
 use Rattle.xdg_rules.specs.Rules.{has, must_edges}
 use Rattle.xdg_rules.proofs.Summing.{below_same}
 use Rattle.xdg_facts.proofs.Lists.{contains_more}
+use Rattle.xdg_facts.proofs.Truths.{and_turned}
 
 times_none : (w : ℕ) → w * 0 ≡ 0
 times_none w = grind arith
@@ -111,12 +112,6 @@ module _ (weight : ℕ → ℕ → ℕ) (dims size : ℕ) (labels : ℕ → ℕ)
       omega (arith, rest, head, more)
 
 -- ---- the edges of a box that must be
-
-and_turned : (a b c : Bool) → ((a && b) && c) ≡ (b && (a && c))
-and_turned true true c = refl
-and_turned true false c = refl
-and_turned false true c = refl
-and_turned false false c = refl
 
 -- those of a dimension out of a node with a label
 pub counted_out : (parts : Parts) (box : List (List Bool)) (d m l : ℕ) → count_by (λ (e : Edge). (e.dim.0 == d) && ((e.mother.0 == m) && (e.label.0 == l))) (must_places parts box) ≡ edges_out_of (must_edges parts box d) m l

@@ -1,5 +1,5 @@
 -- What a whole sweep of a bound does.
-use Rattle.std.proofs.Common.{◌≡◌, ℕ, ◌-◌, ◌<◌, ◌≤◌, inl, inr, Bool, true, false, cond, List, [], length, refl, sym, ap, ◌∙◌, arith, subst}
+use Rattle.std.proofs.Common.{◌≡◌, ℕ, ◌-◌, ◌<◌, ◌≤◌, inl, inr, true, List, [], length, refl, sym, ap, ◌∙◌, arith, subst}
 use Rattle.std.specs.Prelude.{slice_index_or}
 use Rattle.std.proofs.lemmas.Bool.{cases_lt, false≢true}
 use Rattle.std.proofs.lemmas.List.{get_or_past}
@@ -22,10 +22,7 @@ use Rattle.xdg_engine.specs.Bounding.{HoldsBound, IsBound}
 use Rattle.xdg_engine.specs.CostRows.{entry_rows, AreLabelCosts}
 use Rattle.xdg_engine.specs.Freeing.{Dear, TakesFree, OfDims}
 use Rattle.xdg_engine.proofs.Bounded.{bound_takes, dear_taken, none_dear}
-
-cond_most : (b : Bool) (n : ℕ) → n ≤ 32 → cond b n 0 ≤ 32
-cond_most true n few = few
-cond_most false n few = omega arith
+use Rattle.xdg_facts.proofs.Numbers.{cond_most}
 
 -- edges have at most 32 labels
 pub labels_most : (parts : Parts) (dim : ℕ) → IsProblem parts → edge_labels parts dim ≤ 32

@@ -1,10 +1,12 @@
 -- What a list contains, and what some element of it is.
-use Rattle.std.proofs.Common.{◌≡◌, ◌<◌, ◌⊎◌, inl, inr, List, [], ◌∷◌, length, refl, ap, sym, ◌∙◌, arith, subst, zero, suc, Bool, true, map, cond}
+use Rattle.std.proofs.Common.{◌≡◌, ◌<◌, ◌⊎◌, inl, inr, List, [], ◌∷◌, length, refl, ap, sym, ◌∙◌, arith, subst, zero, suc, Bool, true, map, cond, ℕ, get_or, false}
 use Rattle.std.specs.Prelude.{filter, Contains}
 use Rattle.std.proofs.lemmas.List.{get_or-map, length-map}
-use Rattle.xdg_facts.proofs.Lists.{kept}
-use Rattle.std.specs.List.{Any, list_any}
-use Rattle.std.proofs.lemmas.List.Folds.{Any-from_list_any, list_any-from_Any}
+use Rattle.xdg_facts.proofs.Lists.{kept, contains_more}
+use Rattle.std.specs.List.{Any, list_any, flat_map}
+use Rattle.std.proofs.lemmas.List.Folds.{Any-from_list_any, list_any-from_Any, list_any_at}
+use Rattle.std.proofs.lemmas.Bool.{true≢false}
+use Rattle.std.proofs.lemmas.List.Elements.{Contains-append_right, Contains-append_left}
 
 pub contains_head : {X : Type 0} (x : X) (xs : List X) → Contains (x ∷ xs) x
 contains_head x xs = (0, (omega arith), refl)
@@ -43,3 +45,25 @@ list_any_of test xs x c passes = list_any-from_Any test xs (any_of (λ y. test y
 
 pub any_passes : {X : Type 0} (test : X → Bool) (xs : List X) → list_any test xs ≡ true → (x : X) × Contains xs x × (test x ≡ true)
 any_passes test xs e = contained (λ x. test x ≡ true) xs (Any-from_list_any test xs e)
+
+pub map_contained : {X : Type 0} (f : X → ℕ) (xs : List X) (n : ℕ) → Contains (map f xs) n → (x : X) × Contains xs x × (f x ≡ n)
+map_contained f [] n c = absurd (contains_none n c)
+map_contained f (x ∷ xs) n c = elim (contains_cases (f x) (map f xs) n c) [
+  | inl here ↦ (x, contains_head x xs, here)
+  | inr there ↦ (let more = map_contained f xs n there in (more.0, contains_more x xs more.0 more.1, more.2))
+]
+
+pub contains_one : (label l : ℕ) → Contains (label ∷ []) l → l ≡ label
+contains_one label l (zero, m, e) = sym e
+contains_one label l (suc k, m, e) = absurd (omega (arith, m))
+
+pub contains_flat : {X Y : Type 0} (f : X → List Y) (xs : List X) (x : X) (y : Y) → Contains xs x → Contains (f x) y → Contains (flat_map f xs) y
+contains_flat f [] x y c d = absurd (contains_none x c)
+contains_flat f (z ∷ xs) x y c d = elim (contains_cases z xs x c) [
+  | inl e ↦ Contains-append_left (f z) (flat_map f xs) y (subst (λ k. Contains (f k) y) (sym e) d)
+  | inr later ↦ Contains-append_right (f z) (flat_map f xs) y (contains_flat f xs x y later d)
+]
+
+-- none of them passes a test
+pub none_passes : {X : Type 0} (p : X → Bool) (xs : List X) → list_any p xs ≡ false → (k : ℕ) (d : X) → k < length xs → p (get_or xs k d) ≡ true → ⊥
+none_passes p xs e k d within h = true≢false (sym (list_any_at p xs k d within h) ∙ e)

@@ -7,6 +7,8 @@ use Rattle.xdg_facts.proofs.Contained.{contains_head, contains_cases, contains_n
 use Rattle.xdg_facts.proofs.InOrder.{Ordered, ordered_pairs, ordered_from_pairs}
 use Rattle.xdg_facts.proofs.Lists.{contains_more}
 use Rattle.std.specs.List.{Any, AllByRecursion}
+use Rattle.xdg_facts.proofs.Ordered.{less_irreflexive, less_total}
+use Rattle.xdg_facts.specs.Order.{Less}
 
 -- P holds, or it does not
 abbrev pub Decided : Type 0 → Type 0
@@ -110,3 +112,35 @@ module _ {X : Type 0} where
 
 pub triple_decided : (P Q R : Type 0) → Decided P → Decided Q → Decided R → Decided (P × Q × R)
 triple_decided P Q R p q r = decided_like (P × (Q × R)) (P × Q × R) (λ x. (x.0, x.1.0, x.1.1)) (λ x. (x.0, (x.1, x.2))) (decided_both P (Q × R) p (decided_both Q R q r))
+
+-- that something holds of a number below a bound
+pub decided_some_below : (P : ℕ → Type 0) (n : ℕ) → ((k : ℕ) → Decided (P k)) → Decided ((k : ℕ) × (k < n) × P k)
+decided_some_below P n each = elim (first_below P each n) [
+  | inl never ↦ inr (λ found. never found.0 found.1 found.2)
+  | inr found ↦ inl (found.0, found.1, found.2)
+]
+
+-- some element of a list
+pub decided_in : {X : Type 0} (xs : List X) (P : X → Type 0) → ((x : X) → Decided (P x)) → Decided ((x : X) × Contains xs x × P x)
+decided_in {X} xs P each = decided_like (Any P xs) ((x : X) × Contains xs x × P x) (contained P xs) (λ some. any_of P xs some.0 some.1 some.2) (decided_any P xs each)
+
+pub decided_as : (P Q : Type 0) → Decided P → (P → Q) → (Q → P) → Decided Q
+decided_as P Q decided to from = decided_like P Q to from decided
+
+pub decided_lists : (xs ys : List ℕ) → Decided (xs ≡ ys)
+decided_lists xs ys = elim (less_total xs ys) [
+  | inl less ↦ inr (λ e. less_irreflexive ys (subst (λ zs. Less zs ys) e less))
+  | inr (inl same) ↦ inl same
+  | inr (inr more) ↦ inr (λ e. less_irreflexive ys (subst (Less ys) e more))
+]
+
+-- of each number below n one of two things holds: the first of all of them, or the second of one
+pub each_or_some : (P Q : ℕ → Type 0) (n : ℕ) → ((k : ℕ) → k < n → P k ⊎ Q k) → ((k : ℕ) → k < n → P k) ⊎ ((k : ℕ) × (k < n) × Q k)
+each_or_some P Q zero either = inl (λ k l. absurd (omega (arith, l)))
+each_or_some P Q (suc n) either = elim (each_or_some P Q n (λ k l. either k (omega (arith, l)))) [
+  | inl all ↦ elim (either n (omega arith)) [
+    | inl last ↦ inl (λ k l. elim (cases_eq k n) [ inl e ↦ subst P (sym e) last | inr other ↦ all k (omega (arith, l, other)) ])
+    | inr last ↦ inr (n, (omega arith), last)
+  ]
+  | inr found ↦ inr (found.0, (let l = found.1 in omega (arith, l)), found.2)
+]

@@ -1,10 +1,10 @@
 -- The answers of a run grow by what each step of a search finds, and say how the run ended.
-use Rattle.std.proofs.Common.{◌≡◌, ℕ, ◌<◌, ◌≤◌, ◌+◌, ◌-◌, inl, List, [], ◌∷◌, ◌++◌, length, take, refl, ap, sym, ◌∙◌, arith, subst, length-append, append-nil}
+use Rattle.std.proofs.Common.{◌≡◌, ℕ, ◌≤◌, ◌+◌, ◌-◌, inl, List, [], ◌∷◌, ◌++◌, length, take, refl, ap, sym, ◌∙◌, arith, subst, length-append, append-nil}
 use Rattle.std.specs.Prelude.{filter, Option}
 use Rattle.std.proofs.lemmas.List.Elements.{filter-append}
 use Rattle.std.proofs.Math.Seq.{take-append_seam, take-append-add, take-length}
 use Rattle.xdg_facts.specs.Order.{AtMost}
-use Rattle.xdg_facts.specs.Listing.{Member, IsListing}
+use Rattle.xdg_facts.specs.Listing.{IsListing}
 use Rattle.xdg_facts.specs.Whole.{Whole, is_whole, reach}
 use Rattle.xdg_facts.specs.Passed.{Charges, Finds}
 use Rattle.xdg_facts.specs.Answered.{Drawn, Answered}
@@ -15,6 +15,7 @@ use Rattle.xdg_facts.proofs.Ordered.{at_most_transitive}
 use Rattle.xdg_facts.proofs.Unique.{listing_unique}
 use Rattle.xdg_facts.proofs.Wholes.{whole_unique, filter_whole}
 use Rattle.xdg_facts.proofs.Joined.{so_far_none, so_far_split, so_far_end, listings_join}
+use Rattle.xdg_facts.proofs.In.{in_length}
 
 pub drawn_none : (shape : List ℕ) (P : List ℕ → Type 0) (start : List ℕ) (n : ℕ) → n ≡ 0 → Drawn shape P start start n []
 drawn_none shape P start n z = record { passed = []; forward = inl refl; listing = so_far_none shape P start; count = sym z; drawn = refl }
@@ -58,10 +59,6 @@ at_reach : (shape : List ℕ) (counted passed rest answers : List (List ℕ)) (b
 at_reach shape counted passed rest answers b e d h =
     ap length d ∙ sym (ap (λ z. length (filter (is_whole shape) z)) (ap (take b) e ∙ subst (λ i. take i (passed ++ rest) ≡ passed) h (take-append_seam passed rest)))
 
-not_empty : (x : List ℕ) (xs : List (List ℕ)) → Member xs x → 0 < length xs
-not_empty x [] m = absurd m
-not_empty x (y ∷ ys) m = omega arith
-
 -- against any listing of the counted prefixes and any of the solutions
 pub ending_of : (ending : Ending) (shape : List ℕ) (P : List ℕ → Type 0) (start : List ℕ) (b : ℕ) (wanted : Option ℕ) (answers : List (List ℕ)) → Answered ending shape P start b wanted answers → (counted solutions : List (List ℕ)) → IsListing shape P start counted → IsListing shape (Whole shape P) start solutions → (answers ≡ take (length answers) solutions) × IsEnding ending shape b wanted counted solutions (length answers)
 ending_of endings.Complete shape P start b wanted answers a counted solutions i j =
@@ -83,7 +80,7 @@ ending_of endings.Spent shape P start b wanted answers a counted solutions i j =
     let s = so_far_split shape P start a.0 d.passed counted d.forward d.listing i in
     let u = whole_unique shape P start counted solutions i j in
     let c : length d.passed ≡ b = d.count in
-    let m = not_empty a.2.0 s.0 (s.2.all a.2.0 a.2.1 a.2.2 a.2.3) in
+    let m = in_length s.0 a.2.0 (s.2.all a.2.0 a.2.1 a.2.2 a.2.3) in
     let l = ap length s.1 in
     let k = length-append d.passed s.0 in
     (subst (λ z. answers ≡ take (length answers) z) u (front_of shape counted d.passed s.0 answers s.1 d.drawn), (at_reach shape counted d.passed s.0 answers b s.1 d.drawn c, omega (arith, l, k, c, m), a.3))

@@ -1,15 +1,25 @@
 -- What holds of each element of a list.
-use Rattle.std.proofs.Common.{◌≡◌, ◌↔◌, ℕ, ◌<◌, ◌+◌, List, [], ◌∷◌, ◌++◌, length, get_or, refl, ap₂, subst, Bool, true, false, map, cond}
+use Rattle.std.proofs.Common.{◌≡◌, ◌↔◌, ℕ, ◌<◌, ◌+◌, List, [], ◌∷◌, ◌++◌, length, get_or, refl, ap₂, subst, inl, inr, Bool, true, false, map, cond, zero, arith, suc, sym, slice_set, ◌≢◌, reverse, set, slice_index_or, ap, ◌≤◌}
 use Rattle.std.specs.Prelude.{filter, All, Contains}
-use Rattle.std.specs.List.{AllByRecursion}
+use Rattle.std.specs.List.{AllByRecursion, range_with_len}
 use Rattle.std.proofs.lemmas.List.Elements.{All-append, All-cons, All-filter, All-from_recursion, All-head, All-map, All-nil, All-tail, All-weaker, filter_passes, recursion_from_All}
-use Rattle.std.proofs.lemmas.Bool.{false≢true}
+use Rattle.std.proofs.lemmas.Bool.{false≢true, cases_lt, cases_eq}
+use Rattle.xdg_facts.specs.Membership.{In}
+use Rattle.std.proofs.Math.ListN.{get_or-append}
+use Rattle.std.proofs.Math.Seq.{get_or-append_seam}
+use Rattle.std.proofs.lemmas.List.{length-append, get_or-set_same, get_or-set_other, reverse-append}
 
 pub each_at : {X : Type 0} (P : X → Type 0) (xs : List X) (k : ℕ) (d : X) → k < length xs → AllByRecursion P xs → P (get_or xs k d)
 each_at P xs k d l a = All-from_recursion P xs a k d l
 
 pub each_contained : {X : Type 0} (P : X → Type 0) (xs : List X) (x : X) → AllByRecursion P xs → Contains xs x → P x
 each_contained P xs x a c = subst P c.2 (each_at P xs c.0 x c.1 a)
+
+-- of each that stands in the list
+pub each_in : {X : Type 0} (P : X → Type 0) (xs : List X) (x : X) → AllByRecursion P xs → In xs x → P x
+each_in P [] x a i = absurd i
+each_in P (y ∷ xs) x a (inl e) = subst P e a.0
+each_in P (y ∷ xs) x a (inr i) = each_in P xs x a.1 i
 
 pub each_weaker : {X : Type 0} (P Q : X → Type 0) (xs : List X) → ((x : X) → P x → Q x) → AllByRecursion P xs → AllByRecursion Q xs
 each_weaker P Q xs h a = recursion_from_All Q xs (All-weaker P Q h xs (All-from_recursion P xs a))
@@ -89,3 +99,87 @@ module _ {X : Type 0} (P : X → Type 0) where
     λ p. (one_kept a).0 p.0,
     λ all. ((one_kept a).1 all, λ e. absurd (false≢true e), λ e. absurd (false≢true e)),
   )
+
+-- what holds of each element holds of the one at a place
+pub at_place : {X : Type 0} (All : List X → Type 0) (One : X → Type 0) → ((x : X) (xs : List X) → All (x ∷ xs) → One x × All xs) → (xs : List X) (i : ℕ) (x : X) → All xs → i < length xs → x ≡ get_or xs i x → One x
+at_place All One parts [] i x h within is = absurd (omega (arith, within))
+at_place All One parts (y ∷ xs) zero x h within is = subst One (sym is) (parts y xs h).0
+at_place All One parts (y ∷ xs) (suc i) x h within is = at_place All One parts xs i x (parts y xs h).1 (omega (arith, within)) is
+
+-- of each key from the first on something is said
+abbrev pub keyed : {V : Type 0} → (ℕ → V) → ℕ → ℕ → List (ℕ × V)
+keyed g first count = map (λ key. (key, g key)) (range_with_len first count)
+
+-- what holds of what stands at each place of a list, and of what is pushed, holds of what stands at each place then
+pub each_pushed : {A : Type 0} (P : ℕ → A → Type 0) (xs : List A) (x d : A) → ((k : ℕ) → k < length xs → P k (get_or xs k d)) → P (length xs) x → (k : ℕ) → k < length (xs ++ x ∷ []) → P k (get_or (xs ++ x ∷ []) k d)
+each_pushed P xs x d below here k within = elim (cases_lt k (length xs)) [
+  | inl inside ↦ subst (P k) (sym (get_or-append xs (x ∷ []) d k inside)) (below k inside)
+  | inr past ↦
+      let last : length xs ≡ k = (let size = length-append xs (x ∷ []) in omega (arith, size, within, past)) in
+      subst (λ n. P n (get_or (xs ++ x ∷ []) n d)) last (subst (P (length xs)) (sym (get_or-append_seam xs x [] d)) here)
+]
+
+-- what holds of each place of a list in which one is set
+pub set_each : {A : Type 0} (P : ℕ → A → Type 0) (xs : List A) (i : ℕ) (x d : A) → i < length xs → P i x → ((j : ℕ) → j ≢ i → P j (get_or xs j d)) → (j : ℕ) → P j (get_or (slice_set xs i x) j d)
+set_each P xs i x d within here others j = elim (cases_eq j i) [
+  | inl e ↦ subst (λ k. P k (get_or (slice_set xs i x) k d)) (sym e) (subst (P i) (sym (get_or-set_same xs i x d within)) here)
+  | inr n ↦ subst (P j) (sym (get_or-set_other xs i j x d n)) (others j n)
+]
+
+pub each_push : {X : Type 0} (P : X → Type 0) (xs : List X) (x : X) → AllByRecursion P xs → P x → AllByRecursion P (xs ++ x ∷ [])
+each_push P [] x each p = (p, tt)
+each_push P (y ∷ ys) x each p = (each.0, each_push P ys x each.1 p)
+
+pub reverse-cons : {X : Type 0} (x : X) (xs : List X) → reverse (x ∷ xs) ≡ reverse xs ++ x ∷ []
+reverse-cons x xs = reverse-append (x ∷ []) xs
+
+pub each_reverse : {X : Type 0} (P : X → Type 0) (xs : List X) → AllByRecursion P xs → AllByRecursion P (reverse xs)
+each_reverse P [] each = tt
+each_reverse P (x ∷ xs) each = subst (AllByRecursion P) (sym (reverse-cons x xs)) (each_push P (reverse xs) x (each_reverse P xs each.1) each.0)
+
+pub each_from : (P : ℕ → Type 0) (xs : List ℕ) → ((k : ℕ) → k < length xs → P (get_or xs k 0)) → AllByRecursion P xs
+each_from P [] each = tt
+each_from P (x ∷ xs) each = (each 0 (omega arith), each_from P xs (λ k lt. each (suc k) (omega arith)))
+
+pub each_left : {X : Type 0} (P : X → Type 0) (xs ys : List X) → AllByRecursion P (xs ++ ys) → AllByRecursion P xs
+each_left P [] ys h = tt
+each_left P (x ∷ xs) ys h = (h.0, each_left P xs ys h.1)
+
+pub each_right : {X : Type 0} (P : X → Type 0) (xs ys : List X) → AllByRecursion P (xs ++ ys) → AllByRecursion P ys
+each_right P [] ys p = p
+each_right P (x ∷ xs) ys p = each_right P xs ys p.1
+
+pub each_set : (P : ℕ → Type 0) (xs : List ℕ) (q a : ℕ) → AllByRecursion P xs → P a → AllByRecursion P (set xs q a)
+each_set P [] q a each p = tt
+each_set P (x ∷ xs) zero a each p = (p, each.1)
+each_set P (x ∷ xs) (suc q) a each p = (each.0, each_set P xs q a each.1 p)
+
+-- what is set next holds at its place, and what held before still holds
+pub set_next : {A : Type 0} (P : ℕ → A → Type 0) (order : List ℕ) (values : List A) (i : ℕ) (next default : A) → slice_index_or order i 0 < length values
+    → ((j : ℕ) → j < i → P (slice_index_or order j 0) (get_or values (slice_index_or order j 0) default)) → P (slice_index_or order i 0) next
+    → (j : ℕ) → j < i + 1 → P (slice_index_or order j 0) (get_or (set values (slice_index_or order i 0) next) (slice_index_or order j 0) default)
+set_next P order values i next default small before right j below =
+    let a = slice_index_or order i 0 in
+    elim (cases_eq (slice_index_or order j 0) a) [
+      | inl e ↦ subst (λ m. P m (get_or (set values a next) m default)) (sym e) (subst (P a) (sym (get_or-set_same values a next default small)) right)
+      | inr ne ↦ elim (cases_lt j i) [
+        | inl less ↦ subst (P (slice_index_or order j 0)) (sym (get_or-set_other values a (slice_index_or order j 0) next default ne)) (before j less)
+        | inr past ↦ (let e : j ≡ i = omega (arith, below, past) in absurd (ne (ap (λ m. slice_index_or order m 0) e)))
+      ]
+    ]
+
+pub each_below : (xs : List ℕ) (a : ℕ) → ((k : ℕ) → k < length xs → get_or xs k 0 ≤ a) → AllByRecursion (λ y. y ≤ a) xs
+each_below [] a none = tt
+each_below (x ∷ xs) a none = (none 0 (omega arith), each_below xs a (λ k lt. none (suc k) (omega arith)))
+
+-- what holds of each number below the first size, each below the second, and so on
+abbrev pub EachBelow : List ℕ → (List ℕ → Type 0) → Type 0
+EachBelow [] P = P []
+EachBelow (size ∷ sizes) P = (u : ℕ) → u < size → EachBelow sizes (λ tuple. P (u ∷ tuple))
+
+pub each_alike : (sizes : List ℕ) (Q P : List ℕ → Type 0) → EachBelow sizes (λ tuple. Q tuple ↔ P tuple) → EachBelow sizes Q ↔ EachBelow sizes P
+each_alike [] Q P same = same
+each_alike (size ∷ sizes) Q P same = (
+  λ each u below. (each_alike sizes (λ t. Q (u ∷ t)) (λ t. P (u ∷ t)) (same u below)).0 (each u below),
+  λ each u below. (each_alike sizes (λ t. Q (u ∷ t)) (λ t. P (u ∷ t)) (same u below)).1 (each u below),
+)

@@ -1,34 +1,23 @@
 -- A decided predicate has a listing from any start: what it holds of among all prefixes.
-use Rattle.std.proofs.Common.{◌≡◌, ℕ, ◌<◌, ◌≤◌, ◌+◌, ◌⊎◌, inl, inr, List, [], ◌∷◌, ◌++◌, refl, ap, sym, arith, subst, zero, suc, Bool, true, false, map}
+use Rattle.std.proofs.Common.{◌≡◌, ℕ, ◌<◌, ◌≤◌, ◌+◌, ◌⊎◌, inl, inr, List, [], ◌∷◌, ◌++◌, refl, sym, arith, subst, zero, suc, Bool, true, false, map}
 use Rattle.std.specs.Prelude.{filter, ◌↔◌}
 use Rattle.std.specs.List.{AllByRecursion}
 use Rattle.std.proofs.lemmas.Bool.{cases_eq, cases_lt}
 use Rattle.xdg_facts.specs.Order.{Less}
 use Rattle.xdg_facts.specs.Fits.{Fits}
-use Rattle.xdg_facts.specs.Listing.{Member, RisesFrom, IsListing, HasOneListing}
+use Rattle.xdg_facts.specs.Listing.{RisesFrom, IsListing, HasOneListing}
 use Rattle.xdg_facts.specs.Prefixes.{from_value, prefixes}
 use Rattle.xdg_facts.proofs.Ordered.{less_or, not_less, some_above}
 use Rattle.xdg_facts.proofs.Unique.{listing_unique}
-use Rattle.xdg_facts.proofs.Wholes.{filter_rises, filter_each, filter_member}
+use Rattle.xdg_facts.proofs.Wholes.{filter_rises, filter_each}
 use Rattle.xdg_facts.proofs.Truths.{either}
-use Rattle.xdg_facts.proofs.Lists.{each_append}
+use Rattle.xdg_facts.proofs.Each.{each_append, each_weaker}
+use Rattle.xdg_facts.proofs.In.{in_left, in_right, map_in, filter_in}
+use Rattle.xdg_facts.specs.Membership.{In}
 
 pub rises_append : (a c : List ℕ) (xs ys : List (List ℕ)) → Less a c → AllByRecursion (λ b. Less b c) xs → ((b : List ℕ) → Less b c → RisesFrom b ys) → RisesFrom a xs → RisesFrom a (xs ++ ys)
 rises_append a c [] ys l h k r = k a l
 rises_append a c (x ∷ xs) ys l h k r = (r.0, rises_append x c xs ys h.0 h.1 k r.1)
-
-pub each_weaker : (Q R : List ℕ → Type 0) (xs : List (List ℕ)) → ((x : List ℕ) → Q x → R x) → AllByRecursion Q xs → AllByRecursion R xs
-each_weaker Q R [] w h = tt
-each_weaker Q R (x ∷ xs) w h = (w x h.0, each_weaker Q R xs w h.1)
-
-pub member_left : (x : List ℕ) (xs ys : List (List ℕ)) → Member xs x → Member (xs ++ ys) x
-member_left x [] ys m = absurd m
-member_left x (y ∷ xs) ys (inl e) = inl e
-member_left x (y ∷ xs) ys (inr m) = inr (member_left x xs ys m)
-
-pub member_right : (x : List ℕ) (xs ys : List (List ℕ)) → Member ys x → Member (xs ++ ys) x
-member_right x [] ys m = m
-member_right x (y ∷ xs) ys m = inr (member_right x xs ys m)
 
 rises_map : (v : ℕ) (p : List ℕ) (xs : List (List ℕ)) → RisesFrom p xs → RisesFrom (v ∷ p) (map (λ q. v ∷ q) xs)
 rises_map v p [] r = tt
@@ -53,19 +42,14 @@ from_fits s (suc n) v shape below b h =
     let j : n + suc v ≤ s = omega arith in
     ((k, tt), each_append (Fits (s ∷ shape)) (map (λ q. v ∷ q) below) (from_value n (suc v) below) (fits_map s v shape below k h) (from_fits s n (suc v) shape below j h))
 
-member_map : (v : ℕ) (p : List ℕ) (xs : List (List ℕ)) → Member xs p → Member (map (λ q. v ∷ q) xs) (v ∷ p)
-member_map v p [] m = absurd m
-member_map v p (y ∷ xs) (inl e) = inl (ap (λ z. v ∷ z) e)
-member_map v p (y ∷ xs) (inr m) = inr (member_map v p xs m)
-
-from_member : (n v c : ℕ) (cs : List ℕ) (below : List (List ℕ)) → v ≤ c → c < n + v → (cs ≡ []) ⊎ Member below cs → Member (from_value n v below) (c ∷ cs)
+from_member : (n v c : ℕ) (cs : List ℕ) (below : List (List ℕ)) → v ≤ c → c < n + v → (cs ≡ []) ⊎ In below cs → In (from_value n v below) (c ∷ cs)
 from_member zero v c cs below l u m = omega arith
 from_member (suc n) v c cs below l u m = elim (cases_eq c v) [
   | inl e ↦ elim m [
     | inl z ↦ inl (cc)
-    | inr k ↦ inr (member_left (c ∷ cs) (map (λ q. v ∷ q) below) (from_value n (suc v) below) (subst (λ w. Member (map (λ q. v ∷ q) below) (w ∷ cs)) (sym e) (member_map v cs below k)))
+    | inr k ↦ inr (in_left (map (λ q. v ∷ q) below) (from_value n (suc v) below) (c ∷ cs) (subst (λ w. In (map (λ q. v ∷ q) below) (w ∷ cs)) (sym e) (map_in (λ q. v ∷ q) below cs k)))
   ]
-  | inr ne ↦ inr (member_right (c ∷ cs) (map (λ q. v ∷ q) below) (from_value n (suc v) below) (from_member n (suc v) c cs below (omega arith) (omega arith) m))
+  | inr ne ↦ inr (in_right (map (λ q. v ∷ q) below) (from_value n (suc v) below) (c ∷ cs) (from_member n (suc v) c cs below (omega arith) (omega arith) m))
 ]
 
 pub prefixes_rise : (shape : List ℕ) → RisesFrom [] (prefixes shape)
@@ -76,7 +60,7 @@ pub prefixes_fit : (shape : List ℕ) → AllByRecursion (Fits shape) (prefixes 
 prefixes_fit [] = tt
 prefixes_fit (s ∷ shape) = from_fits s s 0 shape (prefixes shape) (omega arith) (prefixes_fit shape)
 
-pub prefixes_all : (shape x : List ℕ) → Fits shape x → Less [] x → Member (prefixes shape) x
+pub prefixes_all : (shape x : List ℕ) → Fits shape x → Less [] x → In (prefixes shape) x
 prefixes_all shape [] f l = absurd l
 prefixes_all [] (c ∷ cs) f l = absurd f
 prefixes_all (s ∷ shape) (c ∷ []) f l = let b : c < s = f.0 in from_member s 0 c [] (prefixes shape) (omega arith) (omega arith) (inl refl)
@@ -86,7 +70,7 @@ pub filter_listing : (shape : List ℕ) (P : List ℕ → Type 0) (test : List �
 filter_listing shape P test d = record {
   rises = filter_rises test [] (prefixes shape) (prefixes_rise shape);
   each = filter_each (Fits shape) (λ x. Fits shape x × P x) test (prefixes shape) (λ x f e. (f, (d x).0 e)) (prefixes_fit shape);
-  all = λ x f p l. filter_member test x (prefixes shape) ((d x).1 p) (prefixes_all shape x f l);
+  all = λ x f p l. filter_in test (prefixes shape) x ((d x).1 p) (prefixes_all shape x f l);
 }
 
 test_of : (Q : Type 0) → Q ⊎ (Q → ⊥) → Bool

@@ -1,5 +1,5 @@
 -- Lists in which each element stands before all later ones.
-use Rattle.std.proofs.Common.{◌↔◌, ℕ, ◌<◌, ◌+◌, List, [], ◌∷◌, ◌++◌, length, get_or, sym, arith, subst, zero, suc, Bool, true, false, map, cond}
+use Rattle.std.proofs.Common.{◌↔◌, ℕ, ◌<◌, List, [], ◌∷◌, ◌++◌, length, get_or, sym, arith, subst, zero, suc, Bool, true, false, map, cond}
 use Rattle.std.specs.Prelude.{filter, AllPairs}
 use Rattle.std.specs.List.{AllByRecursion}
 use Rattle.std.proofs.lemmas.List.{get_or-map, length-map}

@@ -7,8 +7,8 @@ use Rattle.xdg_facts.specs.Listing.{RisesFrom, IsListing, SoFar}
 use Rattle.xdg_facts.specs.Closed.{NoneAfter}
 use Rattle.xdg_facts.proofs.Ordered.{less_irreflexive, less_transitive, at_most_less, at_most_of, not_less, less_or}
 use Rattle.xdg_facts.proofs.Unique.{rises_above, listing_tail}
-use Rattle.xdg_facts.proofs.Exists.{each_weaker, member_left, member_right}
-use Rattle.xdg_facts.proofs.Lists.{each_append}
+use Rattle.xdg_facts.proofs.Each.{each_append, each_weaker}
+use Rattle.xdg_facts.proofs.In.{in_left, in_right}
 
 not_after : (x p q : List ℕ) → AtMost p q → (Less p x → ⊥) → Less q x → ⊥
 not_after x p q k n l = n (at_most_less p q x k l)
@@ -27,8 +27,8 @@ listings_join shape P a p q xs ys k m i j = record {
   rises = joined_rises a p xs ys k (each_weaker (λ x. Fits shape x × SoFar P p x) (λ x. AtMost x p) xs (λ x h. at_most_of x p h.1.1) i.each) i.rises j.rises;
   each = each_append (λ x. Fits shape x × SoFar P q x) xs ys (each_weaker (λ x. Fits shape x × SoFar P p x) (λ x. Fits shape x × SoFar P q x) xs (λ x h. (h.0, (h.1.0, not_after x p q m h.1.1))) i.each) j.each;
   all = λ x f s l. elim (less_or p x) [
-    | inl n ↦ member_right x xs ys (j.all x f s n)
-    | inr n ↦ member_left x xs ys (i.all x f (s.0, not_less x p n) l)
+    | inl n ↦ in_right xs ys x (j.all x f s n)
+    | inr n ↦ in_left xs ys x (i.all x f (s.0, not_less x p n) l)
   ];
 }
 
@@ -61,9 +61,9 @@ so_far_split shape P a p [] (y ∷ ys) k i j = (
 so_far_split shape P a p (x ∷ xs) [] k i j = absurd (j.all x i.each.0.0 i.each.0.1.0 i.rises.0)
 so_far_split shape P a p (x ∷ xs) (y ∷ ys) k i j =
     let same : x ≡ y = elim (j.all x i.each.0.0 i.each.0.1.0 i.rises.0) [
-      | inl e ↦ e
+      | inl e ↦ sym e
       | inr m ↦ (let l = rises_above y x ys j.rises.1 m in elim (i.all y j.each.0.0 (j.each.0.1, λ n. i.each.0.1.1 (less_transitive p y x n l)) j.rises.0) [
-        | inl e ↦ sym e
+        | inl e ↦ e
         | inr q ↦ absurd (less_irreflexive x (less_transitive x y x (rises_above x y xs i.rises.1 q) l))
       ])
     ] in

@@ -1,5 +1,5 @@
 -- The order is strict and total, and how it goes with extensions.
-use Rattle.std.proofs.Common.{◌≡◌, ℕ, ◌<◌, ◌+◌, ◌⊎◌, inl, inr, List, [], ◌∷◌, ◌++◌, refl, ap, sym, ◌∙◌, arith, subst, zero, suc}
+use Rattle.std.proofs.Common.{◌≡◌, ℕ, ◌<◌, ◌+◌, ◌⊎◌, inl, inr, List, [], ◌∷◌, ◌++◌, refl, ap, sym, ◌∙◌, arith, subst, zero, suc, length}
 use Rattle.xdg_facts.specs.Order.{Less, AtMost, Past, IsStrictOrder}
 
 pub less_irreflexive : (x : List ℕ) → Less x x → ⊥
@@ -127,3 +127,64 @@ zero_next [] (b ∷ c ∷ x) h = elim (three_cases 0 b) [ inl l ↦ inr (inl l) 
 zero_next (a ∷ p) [] h = absurd h
 zero_next (a ∷ p) (b ∷ x) (inl h) = inr (inl h)
 zero_next (a ∷ p) (b ∷ x) (inr h) = elim (zero_next p x h.1) [ inl q ↦ let e : a ≡ b = h.0 in inl (cc) | inr l ↦ inr (inr (h.0, l)) ]
+
+-- a list with an item comes after the empty one
+pub after_none : (x : List ℕ) → 0 < length x → Less [] x
+after_none [] some = omega (arith, some)
+after_none (a ∷ x) some = tt
+
+pub at_most_cons : (x y : ℕ) (xs ys : List ℕ) → x ≡ y → AtMost xs ys → AtMost (x ∷ xs) (y ∷ ys)
+at_most_cons x y xs ys e (inl same) = inl (cc)
+at_most_cons x y xs ys e (inr less) = inr (inr (e, less))
+
+pub same_least : (x y : List ℕ) → AtMost x y → (Less x y → ⊥) → x ≡ y
+same_least x y (inl e) n = e
+same_least x y (inr less) n = absurd (n less)
+
+-- vectors whose first numbers are the same are ordered by what follows, whatever these are
+pub less_same : (n m : ℕ) (x y : List ℕ) → Less (n ∷ x) (n ∷ y) → Less (m ∷ x) (m ∷ y)
+less_same n m x y (inl less) = absurd (omega (arith, less))
+less_same n m x y (inr (same, less)) = inr (refl, less)
+
+pub less_behind : (front x y : List ℕ) → Less x y → Less (front ++ x) (front ++ y)
+less_behind [] x y l = l
+less_behind (a ∷ front) x y l = inr (refl, less_behind front x y l)
+
+pub less_front : (x y v w : List ℕ) → length x ≡ length y → Less x y → Less (x ++ v) (y ++ w)
+less_front [] (b ∷ y) v w e l = absurd (omega arith)
+less_front (a ∷ x) (b ∷ y) v w e (inl l) = inl l
+less_front (a ∷ x) (b ∷ y) v w e (inr (s, l)) = inr (s, less_front x y v w (omega arith) l)
+less_front x y v w e l = absurd l
+
+pub less_back : (r t : List ℕ) (w : ℕ) → Less (r ++ w ∷ t) (r ++ (w + 1) ∷ [])
+less_back [] t w = inl (omega arith)
+less_back (a ∷ r) t w = inr (refl, less_back r t w)
+
+pub less_stepped : (q t : List ℕ) (v : ℕ) → Less ((q ++ v ∷ []) ++ t) (q ++ (v + 1) ∷ [])
+less_stepped [] t v = inl (omega arith)
+less_stepped (a ∷ q) t v = inr (refl, less_stepped q t v)
+
+pub at_most_extended : (p t : List ℕ) → AtMost p (p ++ t)
+at_most_extended [] [] = inl refl
+at_most_extended [] (b ∷ t) = inr tt
+at_most_extended (a ∷ p) t = elim (at_most_extended p t) [ inl e ↦ inl (ap (λ z. a ∷ z) e) | inr l ↦ inr (inr (refl, l)) ]
+
+pub least_start : (x : List ℕ) → AtMost [] x
+least_start [] = inl refl
+least_start (a ∷ x) = inr tt
+
+-- past p with v, but not past p: it goes on from p with a greater number
+pub data Split (p : List ℕ) (v : ℕ) (x : List ℕ) : Type 0 where
+  past : Past p x → Split p v x
+  greater : (u : ℕ) (t : List ℕ) → v < u → x ≡ (p ++ u ∷ []) ++ t → Split p v x
+
+pub past_split : (p : List ℕ) (v : ℕ) (x : List ℕ) → Past (p ++ v ∷ []) x → Split p v x
+past_split [] v [] h = absurd h
+past_split [] v (b ∷ x) (inl l) = greater b x l refl
+past_split [] v (b ∷ x) (inr h) = absurd h.1
+past_split (a ∷ p) v [] h = absurd h
+past_split (a ∷ p) v (b ∷ x) (inl l) = past (inl l)
+past_split (a ∷ p) v (b ∷ x) (inr h) = elim (past_split p v x h.1) [
+  | past k ↦ past (inr (h.0, k))
+  | greater u t l e ↦ greater u t l (let q : a ≡ b = h.0 in cc)
+]

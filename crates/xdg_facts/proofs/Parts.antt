@@ -1,10 +1,11 @@
 -- Lists in which exactly that stands of which something holds, put together part by part.
-use Rattle.std.proofs.Common.{◌≡◌, ◌⊎◌, ◌↔◌, inl, inr, Bool, true, false, List, [], ◌∷◌, ◌++◌, refl, sym, subst, ◌∙◌, append_assoc}
+use Rattle.std.proofs.Common.{◌≡◌, ◌⊎◌, ◌↔◌, inl, inr, Bool, true, false, List, [], ◌∷◌, ◌++◌, refl, sym, subst, ◌∙◌, append_assoc, None, Some, Option}
 use Rattle.std.specs.Prelude.{if◌then◌else◌}
 use Rattle.std.specs.List.{flat_map}
 use Rattle.std.proofs.lemmas.List.{append-nil}
 use Rattle.xdg_facts.specs.Membership.{In}
 use Rattle.xdg_facts.proofs.In.{in_append, in_left, in_right, in_flat_map, flat_map_in, in_unless, unless_in, in_when, when_in}
+use Rattle.xdg_facts.proofs.Options.{some_same, none_some}
 
 -- what stands in the list is what P holds of
 pub record Lists {A : Type 0} (xs : List A) (P : A → Type 0) : Type 0 where
@@ -61,3 +62,22 @@ module _ {A B : Type 0} (g : List B → B → List A) (P : List B → B → A �
     sound = λ x i. behind_sound bs [] bs refl x i;
     complete = λ x p. subst (λ cs. In (all [] cs) x) (sym p.1.1.1.0) (behind_complete [] p.0 p.1.0 p.1.1.0 x p.1.1.1.1);
   }
+
+pub lists_one : {A : Type 0} (y : A) → Lists (y ∷ []) (λ x. y ≡ x)
+lists_one y = record { sound = λ x i. elim i [ inl e ↦ e | inr k ↦ absurd k ]; complete = λ x e. inl e }
+
+-- one list where nothing is there, and another of what is there
+pub lists_option : {A B : Type 0} (of : Option B → List A) (P : A → Type 0) (Q : B → A → Type 0) → Lists (of None) P → ((b : B) → Lists (of (Some b)) (Q b)) → (o : Option B)
+    → Lists (of o) (λ x. ((o ≡ None) × P x) ⊎ ((b : B) × ((o ≡ Some b) × Q b x)))
+lists_option of P Q none some None = record {
+  sound = λ x i. inl (refl, none.sound x i);
+  complete = λ x h. elim h [ inl p ↦ none.complete x p.1 | inr q ↦ absurd (none_some q.0 q.1.0) ];
+}
+lists_option of P Q none some (Some b) = record {
+  sound = λ x i. inr (b, (refl, (some b).sound x i));
+  complete = λ x h. elim h [ inl p ↦ absurd cc | inr q ↦ (some b).complete x (subst (λ y. Q y x) (some_same q.0 b (sym q.1.0)) q.1.1) ];
+}
+
+pub lists_if : {A : Type 0} (b : Bool) {xs : List A} {P : A → Type 0} → Lists xs P → Lists (if b then xs else []) (λ x. (b ≡ true) × P x)
+lists_if true h = record { sound = λ x i. (refl, h.sound x i); complete = λ x p. h.complete x p.1 }
+lists_if false h = record { sound = λ x i. absurd i; complete = λ x p. absurd cc }

@@ -1,13 +1,15 @@
 -- What has been listed when a search is about to look at c: all that it counts before c. No listing of all is assumed.
-use Rattle.std.proofs.Common.{◌≡◌, ℕ, ◌<◌, ◌+◌, inl, inr, List, [], ◌∷◌, ◌++◌, length, refl, sym, subst}
+use Rattle.std.proofs.Common.{◌≡◌, ℕ, ◌<◌, ◌+◌, inl, inr, List, [], ◌∷◌, ◌++◌, length, refl, subst}
 use Rattle.std.specs.List.{AllByRecursion}
 use Rattle.xdg_facts.specs.Order.{Less, AtMost}
 use Rattle.xdg_facts.specs.Fits.{Fits}
-use Rattle.xdg_facts.specs.Listing.{Member, RisesFrom, IsListing, SoFar, Before}
+use Rattle.xdg_facts.specs.Listing.{RisesFrom, IsListing, SoFar, Before}
 use Rattle.xdg_facts.specs.Closed.{Closed}
 use Rattle.xdg_facts.proofs.Ordered.{less_transitive, at_most_less, less_at_most, not_less, less_or, at_most_of, zero_next, less_push, past_step, extends_or_past}
-use Rattle.xdg_facts.proofs.Exists.{rises_append, each_weaker, member_left, member_right}
-use Rattle.xdg_facts.proofs.Lists.{each_append}
+use Rattle.xdg_facts.proofs.Exists.{rises_append}
+use Rattle.xdg_facts.proofs.Each.{each_append, each_weaker}
+use Rattle.xdg_facts.proofs.In.{in_left, in_right}
+use Rattle.xdg_facts.specs.Membership.{In}
 
 -- a later candidate, where nothing that is counted lies between
 pub before_later : (shape : List ℕ) (P : List ℕ → Type 0) (start c d : List ℕ) (xs : List (List ℕ)) → Less c d → ((x : List ℕ) → Fits shape x → P x → AtMost c x → AtMost d x) → IsListing shape (Before P c) start xs → IsListing shape (Before P d) start xs
@@ -30,9 +32,9 @@ before_taken shape P start c xs above fits pc i = record {
   rises = rises_append start c xs (c ∷ []) above (each_weaker (λ x. Fits shape x × Before P c x) (λ b. Less b c) xs (λ x h. h.1.1) i.each) (λ b k. (k, tt)) i.rises;
   each = each_append (λ x. Fits shape x × Before P (c ++ 0 ∷ []) x) xs (c ∷ []) (each_weaker (λ x. Fits shape x × Before P c x) (λ x. Fits shape x × Before P (c ++ 0 ∷ []) x) xs (λ x h. (h.0, (h.1.0, less_transitive x c (c ++ 0 ∷ []) h.1.1 (less_push c 0)))) i.each) ((fits, (pc, less_push c 0)), tt);
   all = λ x f b l. elim (less_or x c) [
-    | inl m ↦ member_left x xs (c ∷ []) (i.all x f (b.0, m) l)
+    | inl m ↦ in_left xs (c ∷ []) x (i.all x f (b.0, m) l)
     | inr m ↦ elim m [
-      | inl e ↦ member_right x xs (c ∷ []) (inl (sym e))
+      | inl e ↦ in_right xs (c ∷ []) x (inl e)
       | inr k ↦ absurd (not_less (c ++ 0 ∷ []) x (zero_next c x k) b.1)
     ]
   ];
@@ -47,16 +49,16 @@ last_rises : (start : List ℕ) (xs : List (List ℕ)) → RisesFrom start xs �
 last_rises start [] r = inl refl
 last_rises start (x ∷ xs) r = inr (less_at_most start x (last_from x xs) r.0 (last_rises x xs r.1))
 
-member_last : (start x : List ℕ) (xs : List (List ℕ)) → RisesFrom start xs → Member xs x → AtMost x (last_from start xs)
+member_last : (start x : List ℕ) (xs : List (List ℕ)) → RisesFrom start xs → In xs x → AtMost x (last_from start xs)
 member_last start x [] r m = absurd m
-member_last start x (y ∷ ys) r (inl e) = subst (λ z. AtMost z (last_from y ys)) (sym e) (last_rises y ys r.1)
+member_last start x (y ∷ ys) r (inl e) = subst (λ z. AtMost z (last_from y ys)) e (last_rises y ys r.1)
 member_last start x (y ∷ ys) r (inr m) = member_last y x ys r.1 m
 
 last_below : (Q : List ℕ → Type 0) (start : List ℕ) (xs : List (List ℕ)) → Q start → AllByRecursion Q xs → Q (last_from start xs)
 last_below Q start [] q h = q
 last_below Q start (x ∷ xs) q h = last_below Q x xs h.0 h.1
 
-with_members : (Q R : List ℕ → Type 0) (xs ys : List (List ℕ)) → ((x : List ℕ) → Member xs x → Q x → R x) → ((x : List ℕ) → Member ys x → Member xs x) → AllByRecursion Q ys → AllByRecursion R ys
+with_members : (Q R : List ℕ → Type 0) (xs ys : List (List ℕ)) → ((x : List ℕ) → In xs x → Q x → R x) → ((x : List ℕ) → In ys x → In xs x) → AllByRecursion Q ys → AllByRecursion R ys
 with_members Q R xs [] w s h = tt
 with_members Q R xs (y ∷ ys) w s h = (w y (s y (inl refl)) h.0, with_members Q R xs ys w (λ x m. s x (inr m)) h.1)
 

@@ -1,11 +1,13 @@
 -- Rising lists of the numbers below a bound that pass a test.
 use Rattle.std.proofs.Common.{◌≡◌, ℕ, ◌<◌, ◌≤◌, ◌+◌, ◌⊎◌, zero, suc, List, [], ◌∷◌, ◌++◌, length, refl, ap, sym, ◌∙◌, arith, inl, inr, subst}
-use Rattle.std.specs.Prelude.{Bool, true, false, cond, not, ◌&&◌, ◌||◌, ◌==◌, filter, nat_lt}
+use Rattle.std.specs.Prelude.{Bool, true, false, cond, not, ◌&&◌, ◌||◌, ◌==◌, filter, nat_lt, All}
 use Rattle.std.specs.List.{range_with_len, Contains}
 use Rattle.std.proofs.Math.Nat.{zero-add}
 use Rattle.std.proofs.lemmas.Bool.{cond_both, cond-true, cond-false, cases_eq, cases_lt, lt-ltb, le-ltb, eq-eqb, eqb-true, false≢true, ne_eqb, or_cases, or_left, or_right}
 use Rattle.xdg_facts.proofs.Truths.{none_in, agree_in, apart, either_true, or_here}
 use Rattle.xdg_facts.specs.Rises.{has, numbers_below, Rises}
+use Rattle.xdg_facts.proofs.Filters.{filter_both}
+use Rattle.xdg_facts.proofs.Lists.{all_cons, all_none}
 
 pub numbers_agree : (bound : ℕ) (p q : ℕ → Bool) → ((k : ℕ) → k < bound → p k ≡ q k) → numbers_below bound p ≡ numbers_below bound q
 unfolding numbers_below
@@ -202,3 +204,11 @@ pub contains_has : (ns : List ℕ) (n : ℕ) → Contains ns n → has ns n ≡ 
 contains_has [] n is = (let within : is.0 < 0 = is.1 in absurd (omega (arith, within)))
 contains_has (m ∷ ns) n (zero, within, e) = or_left (m == n) (has ns n) (eq-eqb m n e)
 contains_has (m ∷ ns) n (suc i, within, e) = or_right (m == n) (has ns n) (contains_has ns n (i, omega (arith, within), e))
+
+pub rises_small : (low bound most : ℕ) (ns : List ℕ) → bound ≤ most + 1 → Rises low bound ns → All (λ number. number ≤ most) ns
+rises_small low bound most [] same h = all_none (λ number. number ≤ most)
+rises_small low bound most (n ∷ ns) same (a, b, c) = all_cons (λ number. number ≤ most) n ns (omega (arith, b, same)) (rises_small (n + 1) bound most ns same c)
+
+pub numbers_twice : (bound : ℕ) (p q : ℕ → Bool) → filter q (numbers_below bound p) ≡ numbers_below bound (λ n. p n && q n)
+unfolding numbers_below
+numbers_twice bound p q = filter_both q p _

@@ -1,8 +1,9 @@
 -- Truth values.
-use Rattle.std.proofs.Common.{◌≡◌, refl, ◌⊎◌, inl, inr, Bool, true, false, not, arith, ℕ, ◌+◌, zero, suc, [], ◌∷◌, ◌∙◌, ◌↔◌, ◌&&◌, if◌then◌else◌, ◌||◌, sym, ◌<◌, ◌≤◌, ap}
+use Rattle.std.proofs.Common.{◌≡◌, refl, ◌⊎◌, inl, inr, Bool, true, false, not, arith, ℕ, ◌+◌, zero, suc, [], ◌∷◌, ◌∙◌, ◌↔◌, ◌&&◌, if◌then◌else◌, ◌||◌, sym, ◌<◌, ◌≤◌, ap, ap₂, ◌==◌}
 use Rattle.std.specs.Prelude.{filter, cond}
 use Rattle.std.specs.List.{range_with_len}
-use Rattle.std.proofs.lemmas.Bool.{cond-false, false≢true}
+use Rattle.std.proofs.lemmas.Bool.{cond-false, false≢true, true≢false, ne_eqb, eq-eqb}
+use mathlib.Core.Bool.{beq}
 
 pub and_false : (a : Bool) → (a && false) ≡ false
 and_false true = refl
@@ -101,3 +102,100 @@ and_3 a b c x y z = rw (x, y, z) refl
 
 pub and_4 : (a b c d : Bool) → a ≡ true → b ≡ true → c ≡ true → d ≡ true → (a && b && c && d) ≡ true
 and_4 a b c d x y z w = rw (x, y, z, w) refl
+
+pub not_both : {P : Type 0} → true ≡ false → P
+not_both e = absurd cc
+
+pub never : {A : Type 0} → false ≡ true → A
+never e = absurd (false≢true e)
+
+pub accepts : {A : Type 0} (r : Bool) → r ≡ true → (r ≡ true ↔ A) → A
+accepts r y h = h.0 y
+
+pub refuses : {A : Type 0} (r : Bool) → r ≡ false → (r ≡ true ↔ A) → A → ⊥
+refuses r n h a = false≢true (sym n ∙ h.1 a)
+
+pub and_self : (b : Bool) → (b && b) ≡ b
+and_self true = refl
+and_self false = refl
+
+pub never_true : (b : Bool) → (b ≡ true → ⊥) → b ≡ false
+never_true true h = absurd (h refl)
+never_true false h = refl
+
+pub not_true : (b : Bool) → not b ≡ true → b ≡ true → ⊥
+not_true true h k = cc
+not_true false h k = cc
+
+pub true_not : (b : Bool) → (b ≡ true → ⊥) → not b ≡ true
+true_not true h = absurd (h refl)
+true_not false h = refl
+
+pub alike : (a b : Bool) → not (beq a b) ≡ false → a ≡ b
+alike true true told = refl
+alike true false told = absurd (false≢true (sym told))
+alike false true told = absurd (false≢true (sym told))
+alike false false told = refl
+
+-- two truths that are compared
+pub differ : (a b : Bool) → not (beq a b) ≡ true → a ≡ b → ⊥
+differ true true told same = false≢true told
+differ true false told same = false≢true (sym same)
+differ false true told same = false≢true same
+differ false false told same = false≢true told
+
+pub and_turned : (a b c : Bool) → ((a && b) && c) ≡ (b && (a && c))
+and_turned true true c = refl
+and_turned true false c = refl
+and_turned false true c = refl
+and_turned false false c = refl
+
+pub neither : (a b : Bool) → a ≡ false → b ≡ false → (a || b) ≡ false
+neither a b p q = ap (λ c. c || b) p ∙ q
+
+pub and_carried : (a b c : Bool) → (b ≡ true → a ≡ c) → (a && b) ≡ (b && c)
+and_carried true true c same = same refl
+and_carried false true c same = same refl
+and_carried true false c same = refl
+and_carried false false c same = refl
+
+pub without_other : (a b c : Bool) → a ≡ b → (b ≡ true → c ≡ false) → a ≡ (b && not c)
+without_other a true c same none = (let off : c ≡ false = none refl in rw off same)
+without_other a false c same none = same
+
+pub either_off : (right fieldless : Bool) → (right && not fieldless) ≡ false → (right ≡ false) ⊎ (fieldless ≡ true)
+either_off false b h = inl refl
+either_off true true h = inr refl
+either_off true false h = absurd (true≢false h)
+
+pub off_either : (right fieldless : Bool) → (right ≡ false) ⊎ (fieldless ≡ true) → (right && not fieldless) ≡ false
+off_either false b h = refl
+off_either true true h = refl
+off_either true false h = elim h [ inl e ↦ absurd (true≢false e) | inr e ↦ absurd (false≢true e) ]
+
+pub either-of : {P Q : Type 0} (v w : Bool) → (P → v ≡ true) → (Q → w ≡ true) → P ⊎ Q → (v || w) ≡ true
+either-of v w p q (inl h) = or_here v w (p h)
+either-of v w p q (inr h) = either_true v w (q h)
+
+pub if-true : (a b : Bool) → (if a then b else false) ≡ true → (a ≡ true) × (b ≡ true)
+if-true true b h = (refl, h)
+if-true false b h = absurd (cc)
+
+pub not_both-says : (a b : Bool) → (if b then not a else true) ≡ true → b ≡ true → a ≡ false
+not_both-says true true h g = absurd (cc)
+not_both-says false b h g = refl
+not_both-says true false h g = absurd (cc)
+
+pub not_true_from : (b : Bool) → b ≡ false → not b ≡ true
+not_true_from b e = ap not e
+
+pub same_both : (on a b c d : Bool) → (on ≡ true → a ≡ c) → (on ≡ true → b ≡ d) → (on && (a && not b)) ≡ (on && (c && not d))
+same_both true a b c d first second = ap₂ (λ x z. x && not z) (first refl) (second refl)
+same_both false a b c d first second = refl
+
+pub other_byte : {X : Type 0} (b c : ℕ) (x y : X) → (b ≡ c → ⊥) → cond (b == c) x y ≡ y
+other_byte b c x y ne = ap (λ t. cond t x y) (ne_eqb b c ne)
+
+-- a test on two equal numbers
+pub same_byte : {X : Type 0} (c : ℕ) (x y : X) → cond (c == c) x y ≡ x
+same_byte c x y = ap (λ b. cond b x y) (eq-eqb c c refl)

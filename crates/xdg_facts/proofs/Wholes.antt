@@ -1,5 +1,5 @@
 -- The whole vectors of a listing are themselves a listing.
-use Rattle.std.proofs.Common.{◌≡◌, ◌≢◌, ℕ, ◌⊎◌, inl, inr, List, [], ◌∷◌, ◌++◌, length, refl, ap, ◌∙◌, subst, Bool, true, false, eq-eqb}
+use Rattle.std.proofs.Common.{◌≡◌, ◌≢◌, ℕ, inl, inr, List, [], ◌∷◌, ◌++◌, length, refl, ap, ◌∙◌, Bool, true, false, eq-eqb}
 use Rattle.std.proofs.lemmas.Bool.{eqb-true}
 use Rattle.std.proofs.lemmas.Bool.Decides.{eqb_tells}
 use Rattle.std.specs.Prelude.{filter, nat_eq, cond}
@@ -7,11 +7,12 @@ use Rattle.std.specs.List.{AllByRecursion}
 use Rattle.std.proofs.lemmas.List.Elements.{filter-append}
 use Rattle.xdg_facts.specs.Order.{Less}
 use Rattle.xdg_facts.specs.Fits.{Fits}
-use Rattle.xdg_facts.specs.Listing.{Member, RisesFrom, IsListing}
+use Rattle.xdg_facts.specs.Listing.{RisesFrom, IsListing}
 use Rattle.xdg_facts.specs.Whole.{Whole, is_whole}
 use Rattle.xdg_facts.specs.Endings.{WholeListed}
 use Rattle.xdg_facts.proofs.Ordered.{less_transitive}
 use Rattle.xdg_facts.proofs.Unique.{listing_unique}
+use Rattle.xdg_facts.proofs.In.{filter_in}
 
 above_cond : (a x : List ℕ) (b : Bool) (xs : List (List ℕ)) → Less a x → RisesFrom x xs → RisesFrom a (cond b (x ∷ xs) xs)
 above_cond a x true xs l r = (l, r)
@@ -30,21 +31,11 @@ pub filter_each : (Q R : List ℕ → Type 0) (test : List ℕ → Bool) (xs : L
 filter_each Q R test [] h r = tt
 filter_each Q R test (x ∷ xs) h r = each_cond R (test x) x (filter test xs) (λ e. h x r.0 e) (filter_each Q R test xs h r.1)
 
-member_cond : (b : Bool) (x y : List ℕ) (ys : List (List ℕ)) → (x ≡ y → b ≡ true) → (x ≡ y) ⊎ Member ys x → Member (cond b (y ∷ ys) ys) x
-member_cond true x y ys h m = m
-member_cond false x y ys h (inl e) = let k : false ≡ true = h e in cc
-member_cond false x y ys h (inr m) = m
-
-pub filter_member : (test : List ℕ → Bool) (x : List ℕ) (xs : List (List ℕ)) → test x ≡ true → Member xs x → Member (filter test xs) x
-filter_member test x [] t m = m
-filter_member test x (y ∷ ys) t (inl e) = member_cond (test y) x y (filter test ys) (λ q. (let g : x ≡ y = e in subst (λ z. test z ≡ true) g t)) (inl e)
-filter_member test x (y ∷ ys) t (inr m) = member_cond (test y) x y (filter test ys) (λ q. subst (λ z. test z ≡ true) q t) (inr (filter_member test x ys t m))
-
 pub whole_listing : (shape : List ℕ) (P : List ℕ → Type 0) (a : List ℕ) (xs : List (List ℕ)) → IsListing shape P a xs → IsListing shape (Whole shape P) a (filter (is_whole shape) xs)
 whole_listing shape P a xs i = record {
   rises = filter_rises (is_whole shape) a xs i.rises;
   each = filter_each (λ x. Fits shape x × P x) (λ x. Fits shape x × Whole shape P x) (is_whole shape) xs (λ x q e. (q.0, (q.1, eqb-true (length x) (length shape) e))) i.each;
-  all = λ x f w l. filter_member (is_whole shape) x xs (eq-eqb (length x) (length shape) w.1) (i.all x f w.0 l);
+  all = λ x f w l. filter_in (is_whole shape) xs x (eq-eqb (length x) (length shape) w.1) (i.all x f w.0 l);
 }
 
 pub whole_listed : WholeListed

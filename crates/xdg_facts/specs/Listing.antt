@@ -1,13 +1,9 @@
 -- The list, in rising order, of all that satisfy a predicate.
-use Rattle.std.specs.Prelude.{◌≡◌, ℕ, ◌⊎◌, List, [], ◌∷◌}
+use Rattle.std.specs.Prelude.{◌≡◌, ℕ, List, [], ◌∷◌}
 use Rattle.std.specs.List.{AllByRecursion}
 use Rattle.xdg_facts.specs.Order.{Less}
 use Rattle.xdg_facts.specs.Fits.{Fits}
-
--- x stands in the list
-abbrev pub Member : List (List ℕ) → List ℕ → Type 0
-Member [] x = ⊥
-Member (y ∷ ys) x = (x ≡ y) ⊎ Member ys x
+use Rattle.xdg_facts.specs.Membership.{In}
 
 -- the list rises strictly, and all of it comes after `start`
 abbrev pub RisesFrom : List ℕ → List (List ℕ) → Type 0
@@ -19,7 +15,7 @@ RisesFrom start (x ∷ xs) = Less start x × RisesFrom x xs
 pub record IsListing (shape : List ℕ) (P : List ℕ → Type 0) (start : List ℕ) (xs : List (List ℕ)) : Type 0 where
   pub rises : RisesFrom start xs
   pub each : AllByRecursion (λ x. Fits shape x × P x) xs
-  pub all : (x : List ℕ) → Fits shape x → P x → Less start x → Member xs x
+  pub all : (x : List ℕ) → Fits shape x → P x → Less start x → In xs x
 
 -- x satisfies P and does not come after p
 abbrev pub SoFar : (List ℕ → Type 0) → List ℕ → List ℕ → Type 0

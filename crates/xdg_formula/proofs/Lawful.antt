@@ -2,12 +2,12 @@
 use Rattle.std.proofs.Common.{ℕ, refl}
 use Rattle.xdg_ast.specs.declared.token.Kind.TheVariants as k
 use Rattle.xdg_parse.proofs.EachKind.{apart_by, plain_by}
-use Rattle.xdg_parse.proofs.Leveling.{Below, below}
 use Rattle.xdg_formula.specs.Words.{rule_word, all_word, some_word, edge_word, above_word, left_word, same_word, attr_word, feat_word, is_name, is_rule_constant}
 use Rattle.xdg_formula.specs.Rules.{node, constant, constants, value_kind, value, edge_places, two_nodes, above_places, valued, edge, above, left, same, attr, feat, atom, every, any, simple_kind, simple, sign, signs, prim, next_prim, prims, conj, next_conj, conjs, formula, inside, under, named, rule, rules}
 use Rattle.xdg_formula.proofs.Bodied.{name_alive, constant_token_alive, constants_alive, edge_places_alive, two_nodes_alive, above_places_alive, valued_alive, formula_alive}
 use Rattle.xdg_formula.proofs.Ruled.{Rule, RuleAt, Levels, behind_rule, both_rule, chain_rule, either_rule, kinds_rule, made_rule, many_rule, nested_rule, pair_rule, parentheses, spanned_rule, squares, word_rule}
 use Rattle.xdg_formula.proofs.Tokens.{taken_by}
+use Rattle.xdg_facts.proofs.Levels.{Below, below}
 
 -- ---- names and constants
 

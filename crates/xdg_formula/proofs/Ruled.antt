@@ -8,12 +8,13 @@ use Rattle.xdg_parse.specs.Laws.{Alive}
 use Rattle.xdg_parse.proofs.Combinators.{Apart, Plain}
 use Rattle.xdg_parse.proofs.EachKind.{token_alive}
 use Rattle.xdg_parse.proofs.Leveling as leveling
-use Rattle.xdg_parse.proofs.Leveling.{Matching, Below, group_rule}
+use Rattle.xdg_parse.proofs.Leveling.{Matching, group_rule}
 use Rattle.xdg_parse.proofs.RuleParts as parts
 use Rattle.xdg_parse.proofs.RuleParts.{none-apart}
 use Rattle.xdg_formula.specs.Rules.{Inside, valued, formula, inside, under}
 use Rattle.xdg_formula.proofs.Bearing.{Bears, token_bears, nothing_bears, both_bears, either_bears, many_bears, full_bears, room_bears, spanned_bears}
 use Rattle.xdg_formula.proofs.Tokens.{is_taken, taken_by}
+use Rattle.xdg_facts.proofs.Levels.{Below}
 
 pub record Rule {A : Type 0} (d n : ℕ) (read meant : Language A) : Type 0 where
   pub rule : parts.Rule d n read meant

@@ -1,5 +1,5 @@
 -- Nodes that are possible for a name, whatever a second name stands for.
-use Rattle.std.proofs.Common.{◌≡◌, ◌↔◌, ℕ, ◌+◌, ◌<◌, ◌≤◌, inl, inr, Bool, true, false, cond, ◌&&◌, List, length, map, take, get_or, refl, sym, ◌∙◌, subst, arith}
+use Rattle.std.proofs.Common.{◌≡◌, ◌↔◌, ℕ, ◌+◌, ◌<◌, ◌≤◌, inl, inr, Bool, true, false, ◌&&◌, List, length, map, take, get_or, sym, ◌∙◌, subst, arith}
 use Rattle.std.specs.Prelude.{not, ◌==◌}
 use Rattle.std.proofs.lemmas.Bool.{and_from, cases_Bool, eqb-true, not_from_false}
 use Rattle.std.proofs.lemmas.List.{take_all}
@@ -19,7 +19,8 @@ use Rattle.xdg_formula_value.specs.declared.pair.Pair.{Pair}
 use Rattle.xdg_formula_value.proofs.Fronts.{item_of, several_more, several_none}
 use Rattle.xdg_formula_value.proofs.Rowed.{open_first}
 use Rattle.xdg_facts.specs.Rises.{has}
-use Rattle.xdg_nodeset.proofs.TableSets.{none_in}
+use Rattle.xdg_facts.proofs.Numbers.{cond_swapped}
+use Rattle.xdg_facts.proofs.Sets.{none_in}
 
 -- where a set bounds one of two that are wanted together, and another does at what is still open
 joined_open : (both : Bool) (care old still : List ℕ) (v : ℕ) (P Q Part : Type 0) → has care v ≡ true → has still v ≡ open_in both care old v → (P → has old v ≡ true) → (has still v ≡ true → Q → Part) → Joined both P Q → Joined both (has old v ≡ true) Part
@@ -36,15 +37,8 @@ joined_shut false care old still v P Q within is p shut one = elim (cases_Bool (
   | inr off ↦ absurd (shut (is ∙ and_from (has care v) (not (has old v)) within (not_from_false (has old v) off)))
 ]
 
--- two names are bound in either order
-swapped : (at_other at_name : Bool) (node v rest : ℕ) → (at_other ≡ true → at_name ≡ true → ⊥) → cond at_other node (cond at_name v rest) ≡ cond at_name v (cond at_other node rest)
-swapped true true node v rest differ = absurd (differ refl refl)
-swapped true false node v rest differ = refl
-swapped false true node v rest differ = refl
-swapped false false node v rest differ = refl
-
 bound_swapped : (b : ℕ → ℕ) (name other v node : ℕ) → (other ≡ name → ⊥) → bound (bound b name v) other node ≡ bound (bound b other node) name v
-bound_swapped b name other v node differ = λ i x. swapped (x == other) (x == name) node v (b x) (λ at_other at_name. differ (sym (eqb-true x other at_other) ∙ eqb-true x name at_name)) i
+bound_swapped b name other v node differ = λ i x. cond_swapped (x == other) (x == name) node v (b x) (λ at_other at_name. differ (sym (eqb-true x other at_other) ∙ eqb-true x name at_name)) i
 
 module _ (parts : Parts) (box : List (List Bool)) (truth : Bool) (b : ℕ → ℕ) (name other : ℕ) (care : List ℕ) where
   -- a first node for the name and a second one for the other make the formula so

@@ -1,7 +1,7 @@
 -- Nodes for names that let a box make a claim true, or false, looked for one after another.
 use Rattle.std.proofs.Common.{◌≡◌, ◌≢◌, ◌↔◌, ℕ, ◌+◌, ◌<◌, ◌≤◌, IsTrue, inl, inr, Bool, true, false, ◌&&◌, List, [], ◌∷◌, length, refl, sym, ◌∙◌, ap, subst, arith}
 use Rattle.std.specs.Prelude.{not, ◌==◌}
-use Rattle.std.proofs.lemmas.Bool.{cases_eq, and_from, false≢true, false_from_ne_true, not_from_false, eqb-true}
+use Rattle.std.proofs.lemmas.Bool.{cases_eq, and_from, false≢true}
 use Rattle.xdg_problem.specs.declared.parts.Parts.{Parts}
 use Rattle.xdg_problem.specs.Claims.{Claim}
 use Rattle.xdg_problem.specs.Places.{nodes}
@@ -16,14 +16,9 @@ use Rattle.xdg_formula_value.proofs.Rowed.{over_told}
 use Rattle.xdg_facts.proofs.Rising.{no_member, head_or_tail}
 use Rattle.xdg_formula_value.proofs.Stood.{bound_back}
 use Rattle.xdg_facts.specs.Rises.{has}
-use Rattle.xdg_nodeset.proofs.TableSets.{none_in}
+use Rattle.xdg_facts.proofs.Sets.{none_in, not_rest}
 
 -- ---- one name fewer
-
--- a name that isn't among the rest isn't among all, but for the one that was taken
-pub not_rest : (all rest : List ℕ) (name other : ℕ) → ((n : ℕ) → has rest n ≡ (not (n == name) && has all n)) → (has rest other ≡ true → ⊥) → other ≢ name → has all other ≡ true → ⊥
-not_rest all rest name other members out differ there =
-    out (members other ∙ and_from (not (other == name)) (has all other) (not_from_false (other == name) (false_from_ne_true (other == name) (λ t. differ (eqb-true other name t)))) there)
 
 -- a binding that agrees with another but on some names, and gives one of them a node, agrees but on the rest with the other where that name is bound to the node
 pub agree_rest : (all rest : List ℕ) (a here b : ℕ → ℕ) (name node : ℕ) → ((n : ℕ) → has rest n ≡ (not (n == name) && has all n)) → here ≡ bound a name node → AgreeBut all a b → b name ≡ node → AgreeBut rest here b

@@ -46,13 +46,6 @@ none_more removed dim u label k x none_there within so_far isnt i d l is = elim 
   | inr other ↦ so_far i d (omega (arith, l, other)) is
 ]
 
--- without a member, and without those of another set
-pub fewer_remove : (set rest : List ℕ) (node : ℕ) → ((n : ℕ) → nodesets.has rest n ≡ (not (n == node) && nodesets.has set n)) → (x : ℕ) → nodesets.has rest x ≡ true → nodesets.has set x ≡ true
-fewer_remove set rest node members x there = (and_parts (not (x == node)) (nodesets.has set x) (sym (members x) ∙ there)).1
-
-pub fewer_minus : (set other rest : List ℕ) → ((n : ℕ) → nodesets.has rest n ≡ (nodesets.has set n && not (nodesets.has other n))) → (x : ℕ) → nodesets.has rest x ≡ true → nodesets.has set x ≡ true
-fewer_minus set other rest members x there = (and_parts (nodesets.has set x) (not (nodesets.has other x)) (sym (members x) ∙ there)).0
-
 module _ (which : Which) (parts : Parts) (old new : List (List Bool)) (dim : ℕ) where
   pub lasts_on : (u v w : ℕ) → Lasts which parts old new dim u v → Lasts which parts old new dim v w → Lasts which parts old new dim u w
   lasts_on u v w front rest = (rest.0, above_trans (edges_of which parts old dim) u v w front.1 rest.1, above_trans (edges_of which parts new dim) u v w front.2 rest.2)

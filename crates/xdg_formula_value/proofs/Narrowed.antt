@@ -12,7 +12,7 @@ use Rattle.xdg_formula_value.specs.Rows.{AreFirst, Bounds, IsRowOn, Over}
 use Rattle.xdg_formula_value.proofs.Rowed.{Gathered, gathered_among, over_told}
 use Rattle.xdg_facts.proofs.Rising.{no_member}
 use Rattle.xdg_facts.specs.Rises.{has}
-use Rattle.xdg_nodeset.proofs.TableSets.{none_in}
+use Rattle.xdg_facts.proofs.Sets.{none_in}
 
 -- what is so at some node, where there is one
 over_some : (each : Bool) (n : ℕ) (P : ℕ → Type 0) → 0 < n → Over each n P → (v : ℕ) × (v < n) × P v

@@ -6,8 +6,8 @@ use Rattle.xdg_graph.specs.Every.{IsEvery}
 use Rattle.xdg_formula_value.specs.Rows.{Over}
 use Rattle.xdg_facts.proofs.Rising.{contains_of_has}
 use Rattle.xdg_facts.specs.Rises.{has}
-use Rattle.xdg_nodeset.proofs.TableSets.{none_in}
 use Rattle.xdg_store.proofs.Labelled.{some_in}
+use Rattle.xdg_facts.proofs.Sets.{none_in}
 
 -- no member is missing
 pub over_each : (n : ℕ) (all set rest : List ℕ) → IsEvery n all → ((v : ℕ) → has rest v ≡ (has all v && not (has set v))) → (length rest ≡ 0) ↔ Over true n (λ v. has set v ≡ true)

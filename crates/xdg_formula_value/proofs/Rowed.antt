@@ -7,7 +7,7 @@ use Rattle.xdg_graph.specs.Every.{IsEvery}
 use Rattle.xdg_formula_value.specs.Rows.{IsRow, IsRowOn, HasFirst, Joined, Over, AreFirst, open_in}
 use Rattle.xdg_facts.specs.Rises.{has}
 use Rattle.xdg_facts.proofs.Rising.{no_member, head_in, tail_in, head_or_tail}
-use Rattle.xdg_nodeset.proofs.TableSets.{none_in}
+use Rattle.xdg_facts.proofs.Sets.{none_in}
 
 -- two rows, the second of which is right where it still matters
 pub row_more : (both : Bool) (care still : List ℕ) (P Q R : ℕ → Type 0) (old part new : List ℕ) → IsRowOn care P old → ((v : ℕ) → has still v ≡ open_in both care old v) → IsRowOn still Q part → ((v : ℕ) → (has new v ≡ true) ↔ Joined both (has old v ≡ true) (has part v ≡ true)) → ((v : ℕ) → Joined both (P v) (Q v) ↔ R v) → IsRowOn care R new

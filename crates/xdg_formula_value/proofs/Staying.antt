@@ -1,5 +1,5 @@
 -- While a box loses values of other kinds than those at which a formula looks, it makes the formula no more than before.
-use Rattle.std.proofs.Common.{◌≡◌, ℕ, inl, inr, Bool, true, false, ◌&&◌, List, refl, sym, ap, ap₂, ◌∙◌, arith, subst}
+use Rattle.std.proofs.Common.{◌≡◌, ℕ, inl, inr, Bool, true, false, ◌&&◌, List, refl, sym, ap, ◌∙◌, arith, subst}
 use Rattle.std.specs.Prelude.{Contains, not, ◌==◌}
 use Rattle.std.specs.Int.{bit_at}
 use Rattle.std.proofs.lemmas.Bool.{cases_Bool, eqb-true, false≢true}
@@ -32,11 +32,7 @@ use Rattle.xdg_propcore.proofs.DecisionKinds.{kind_of_entry, kind_of_attr, kind_
 use Rattle.xdg_formula_value.specs.ClaimKinds.{SomeKindOf, HasKinds}
 use Rattle.xdg_formula_value.specs.Standing.{IsRule, HasKindsOf, stands_for}
 use Rattle.xdg_formula_value.specs.declared.rule_prop.RuleProp.{RuleProp}
-use Rattle.xdg_facts.proofs.Truths.{same_and}
-
-same_test : (on a b c d : Bool) → (on ≡ true → a ≡ c) → (on ≡ true → b ≡ d) → (on && (a && not b)) ≡ (on && (c && not d))
-same_test true a b c d first second = ap₂ (λ x z. x && not z) (first refl) (second refl)
-same_test false a b c d first second = refl
+use Rattle.xdg_facts.proofs.Truths.{same_and, same_both}
 
 module _ (parts : Parts) (problem : IsProblem parts) (wakes : ℕ) (old new : List (List Bool)) (inside : LiesIn new old)
     (outside : LosesOutside parts wakes old new) where
@@ -64,7 +60,7 @@ module _ (parts : Parts) (problem : IsProblem parts) (wakes : ℕ) (old new : Li
     same_must =
         filter_alike (λ e. (e.dim.0 == dim) && (has new (edge_decision parts e) 0 && not (has new (edge_decision parts e) 1)))
         (λ e. (e.dim.0 == dim) && (has old (edge_decision parts e) 0 && not (has old (edge_decision parts e) 1))) (places parts)
-        (All-weaker (Contains (places parts)) _ (λ e place. same_test (e.dim.0 == dim) (has new (edge_decision parts e) 0) (has new (edge_decision parts e) 1) (has old (edge_decision parts e) 0) (has old (edge_decision parts e) 1)
+        (All-weaker (Contains (places parts)) _ (λ e place. same_both (e.dim.0 == dim) (has new (edge_decision parts e) 0) (has new (edge_decision parts e) 1) (has old (edge_decision parts e) 0) (has old (edge_decision parts e) 1)
         (λ on. same_has (edge_decision parts e) 0 (edge_woken e place (eqb-true e.dim.0 dim on)))
         (λ on. same_has (edge_decision parts e) 1 (edge_woken e place (eqb-true e.dim.0 dim on)))) (places parts) (All-contains_itself (places parts)))
 

@@ -1,9 +1,10 @@
--- Names that are bound again, or to what they stand for.
-use Rattle.std.proofs.Common.{◌≡◌, ℕ, inl, inr, Bool, true, false, cond, refl, sym, ◌∙◌, ap}
+-- Names that are bound cond_again, or to what they stand for.
+use Rattle.std.proofs.Common.{◌≡◌, ℕ, inl, inr, sym, ◌∙◌, ap}
 use Rattle.std.specs.Prelude.{◌==◌}
 use Rattle.std.proofs.lemmas.Bool.{cases_eq}
 use Rattle.xdg_problem.specs.Truths.{bound}
 use Rattle.xdg_problem.proofs.Bindings.{bound_here, bound_else}
+use Rattle.xdg_facts.proofs.Numbers.{cond_again}
 
 bound_as_is : (b : ℕ → ℕ) (name other : ℕ) → bound b name (b name) other ≡ b other
 bound_as_is b name other = elim (cases_eq other name) [
@@ -15,13 +16,8 @@ bound_as_is b name other = elim (cases_eq other name) [
 pub bound_back : (b : ℕ → ℕ) (name : ℕ) → bound b name (b name) ≡ b
 bound_back b name = λ i other. bound_as_is b name other i
 
--- a name that is bound again
-again : (same : Bool) (node new rest : ℕ) → cond same new (cond same node rest) ≡ cond same new rest
-again true node new rest = refl
-again false node new rest = refl
-
 bound_again : (b : ℕ → ℕ) (name node new : ℕ) → bound (bound b name node) name new ≡ bound b name new
-bound_again b name node new = λ i other. again (other == name) node new (b other) i
+bound_again b name node new = λ i other. cond_again (other == name) node new (b other) i
 
 -- two bindings that are one where the name is bound
 abbrev pub AgreeOutside : ℕ → (ℕ → ℕ) → (ℕ → ℕ) → Type 0

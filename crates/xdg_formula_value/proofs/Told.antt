@@ -1,7 +1,6 @@
 -- What a box says of the attributes and the entries of nodes.
 use Rattle.std.proofs.Common.{◌≡◌, ◌↔◌, ℕ, ◌<◌, ◌≤◌, IsTrue, Bool, true, false, List, refl, sym, ◌∙◌, subst}
 use Rattle.std.specs.Prelude.{not}
-use mathlib.Core.Bool.{beq}
 use Rattle.std.proofs.lemmas.Bool.{both_ways, false≢true}
 use Rattle.xdg_facts.specs.Rises as sets
 use Rattle.xdg_problem.specs.Boxes.{Has, IsOnly}
@@ -10,6 +9,7 @@ use Rattle.xdg_rules.specs.Worths.{EachValue}
 use Rattle.xdg_problem.proofs.Bindings.{bound_else, bound_here}
 use Rattle.xdg_formula_value.specs.Rows.{AreFirst, IsRowOn}
 use Rattle.xdg_formula_value.proofs.Rowed.{row_constant, row_like}
+use Rattle.xdg_facts.proofs.Truths.{differ}
 
 -- each value that remains is the one
 pub only_told : (box : List (List Bool)) (d value : ℕ) (truth result : Bool) → truth ≡ true → IsTrue result ↔ IsOnly box d value → IsTrue result ↔ EachValue box d (λ v. HasTruth truth (v ≡ value))
@@ -31,19 +31,6 @@ pub truth_is : (truth says : Bool) → HasTruth truth (says ≡ true) → says �
 truth_is true says has = has
 truth_is false true has = absurd (has refl)
 truth_is false false has = refl
-
--- two truths that are compared
-pub differ : (a b : Bool) → not (beq a b) ≡ true → a ≡ b → ⊥
-differ true true told same = false≢true told
-differ true false told same = false≢true (sym same)
-differ false true told same = false≢true same
-differ false false told same = false≢true told
-
-pub alike : (a b : Bool) → not (beq a b) ≡ false → a ≡ b
-alike true true told = refl
-alike true false told = absurd (false≢true (sym told))
-alike false true told = absurd (false≢true (sym told))
-alike false false told = refl
 
 -- ---- a name that is another than that of the row, and the name of the row
 

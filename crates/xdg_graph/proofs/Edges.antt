@@ -2,7 +2,6 @@
 use Rattle.std.proofs.Common.{◌≡◌, ◌≢◌, ℕ, ◌<◌, ◌≤◌, ◌+◌, ◌↔◌, ◌||◌, inl, inr, Bool, true, IsTrue, List, [], ap, sym, ◌∙◌, arith, subst, refl}
 use Rattle.std.specs.Prelude.{Contains}
 use Rattle.std.proofs.lemmas.Bool.{cases_eq, false≢true}
-use Rattle.xdg_nodeset.proofs.TableSets.{either}
 use Rattle.xdg_problem.specs.declared.analysis.Edge.{Edge}
 use Rattle.xdg_problem.specs.declared.parts.Parts.{Parts}
 use Rattle.xdg_problem.specs.Analyses.{IsPlace}
@@ -20,6 +19,7 @@ use Rattle.xdg_graph.specs.declared.which.Which.TheVariants as whichs
 use Rattle.xdg_graph.specs.Edges.{Stands, edges_of, edge_labels}
 use Rattle.xdg_graph.proofs.Labelled.{label_below, place_between}
 use Rattle.xdg_facts.specs.Rises.{has}
+use Rattle.xdg_facts.proofs.Sets.{either}
 
 -- they are the places of the dimension that may be, or must be
 pub which_exact : (which : Which) (parts : Parts) (box : List (List Bool)) (dim : ℕ) (e : Edge) → IsBox (shape parts) box → Contains (edges_of which parts box dim) e ↔ (IsPlaceOn parts dim e × Stands which parts box e)

@@ -1,5 +1,5 @@
 -- Labels of a dimension that has edges.
-use Rattle.std.proofs.Common.{◌≡◌, ◌≢◌, ℕ, ◌<◌, inl, inr, Bool, true, false, cond, Some, None, length, get_or, ap, sym, ◌∙◌, arith, subst, refl}
+use Rattle.std.proofs.Common.{◌≡◌, ◌≢◌, ℕ, ◌<◌, inl, inr, true, false, cond, Some, None, length, get_or, ap, sym, ◌∙◌, subst}
 use Rattle.std.specs.Prelude.{slice_get}
 use Rattle.std.proofs.lemmas.Bool.{cases_lt, false≢true}
 use Rattle.std.proofs.lemmas.List.{get_or_past}
@@ -14,14 +14,7 @@ use Rattle.xdg_problem.specs.Places.{edge, nodes}
 use Rattle.xdg_problem.proofs.PlacePlans.{plan_read}
 use Rattle.xdg_store.specs.InRange.{HasEdges}
 use Rattle.xdg_graph.specs.Edges.{edge_labels, plan_labels}
-
-cond_labels : (b : Bool) (n k : ℕ) → k < cond b n 0 → (b ≡ true) × (k < n)
-cond_labels true n k l = (refl, l)
-cond_labels false n k l = absurd (omega (arith, l))
-
-labels_cond : (b : Bool) (n k : ℕ) → b ≡ true → k < n → k < cond b n 0
-labels_cond true n k e l = l
-labels_cond false n k e l = absurd (false≢true e)
+use Rattle.xdg_facts.proofs.Numbers.{cond_labels, labels_cond}
 
 -- a label of a dimension that has edges
 pub has_edges : (parts : Parts) (dim node label : ℕ) → node < nodes parts → label < edge_labels parts dim → HasEdges parts dim node label

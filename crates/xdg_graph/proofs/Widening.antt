@@ -4,9 +4,10 @@ use Rattle.std.proofs.lemmas.Bool.{cases_eq, cases_lt, false≢true}
 use Rattle.std.specs.Prelude.{slice_set}
 use Rattle.xdg_nodeset.specs.Tables.{In, IsClosure}
 use Rattle.xdg_nodeset.proofs.Closures.{closure_more}
-use Rattle.xdg_nodeset.proofs.TableSets.{Widened, either, extended_yes, none_in, widened_start, widened_more}
+use Rattle.xdg_nodeset.proofs.TableSets.{Widened, widened_start, widened_more}
 use Rattle.xdg_graph.specs.Edges.{HasNoneFrom, IsLedTo}
 use Rattle.xdg_facts.specs.Rises.{has}
+use Rattle.xdg_facts.proofs.Sets.{either, extended_yes, none_in}
 
 module _ (old now : List (List ℕ)) (size middle : ℕ) (rest : HasNoneFrom size old) where
   pub widened_rest : (i : ℕ) → size ≤ i → Widened old now middle i → (a b : ℕ) → In now a b ↔ (In old a b ⊎ (In old a middle × In old middle b))

@@ -29,7 +29,8 @@ use Rattle.xdg_inputs.specs.declared.analysis.Judgeable.{Judgeable}
 use Rattle.xdg_inputs.specs.declared.refusals.Refusal.{Refusal}
 use Rattle.xdg_inputs.proofs.Settling.{Judges, Settles, settled}
 use Rattle.xdg_inputs.proofs.Wording.{grammar_is}
-use Rattle.xdg_inputs.proofs.Trees.{first_byte, same_text, told_file}
+use Rattle.xdg_inputs.proofs.Trees.{first_byte, told_file}
+use Rattle.xdg_facts.proofs.Options.{one_value}
 
 -- what `read` says of its answer, and what `fit` says of its own
 abbrev pub OneReading : List ℕ → Result AnalysisText Fault → Type 0
@@ -120,10 +121,10 @@ module _ (made : Expanded) (right : HasRightLexicon made) (files : List ℕ → 
     };
     had = λ b h.
         let there : IsIn (with_words (meaning_of made) h.dim h.field) h.bytes b = record { within = h.within; read = h.read; reads = h.reads; known = h.known; parts_are = h.parts_are; fits = h.fits; keeps = h.keeps } in
-        subst (λ z. IsIn z text b) (grammar_is made h.dim h.field right h.place) (subst (λ z. IsIn (with_words (meaning_of made) h.dim h.field) z b) (same_text files name h.bytes text h.file file) there);
+        subst (λ z. IsIn z text b) (grammar_is made h.dim h.field right h.place) (subst (λ z. IsIn (with_words (meaning_of made) h.dim h.field) z b) (one_value (files name) h.bytes text h.file file) there);
     refuses = λ f bad. record { dim = made.lexicon.dim; field = made.lexicon.field; place = right.placed.place; file = file; because = bad };
     refused = λ t h q.
-        let e = same_text files name t text q.file file in
+        let e = one_value (files name) t text q.file file in
         (e, subst (λ z. IsNoAnalysis z text h) (grammar_is made q.dim q.field right q.place) (subst (λ z. IsNoAnalysis (with_words (meaning_of made) q.dim q.field) z h) e q.because));
   }
 

@@ -12,11 +12,12 @@ use Rattle.xdg_inputs.specs.Refusals.{RejectsAt, Stops, refusal_of}
 use Rattle.xdg_inputs.specs.Stages.{Accepts}
 use Rattle.xdg_inputs.specs.declared.refusals.Refusal.{Refusal}
 use Rattle.xdg_inputs.proofs.Settling.{Judges, settled}
-use Rattle.xdg_inputs.proofs.Trees.{first_byte, same_text, told_file}
+use Rattle.xdg_inputs.proofs.Trees.{first_byte, told_file}
 use Rattle.xdg_inputs.specs.Files.{HasBadFile, HasFile, IsBadRules, too_long, wrong, rules_limit}
 use Rattle.xdg_inputs.specs.RulesTexts.{IsAnswer, Says, Tells}
 use Rattle.xdg_types.specs.Table.{Table}
 use Rattle.xdg_build.specs.Refusals.{fault}
+use Rattle.xdg_facts.proofs.Options.{one_value}
 
 module _ (table : Table) where
   abbrev Only : List ℕ → Result Rules Stop → Type 0
@@ -30,9 +31,9 @@ module _ (table : Table) where
     judges : Judges Rules (HasBadFile files name table) (HasFile files name table) text Verdict
     judges = record {
       has = λ rules v. record { text = text; file = file; within = v.0; says = v.1 };
-      had = λ rules h. subst (λ z. (length z ≤ rules_limit) × Says table z rules) (same_text files name h.text text h.file file) (h.within, h.says);
+      had = λ rules h. subst (λ z. (length z ≤ rules_limit) × Says table z rules) (one_value (files name) h.text text h.file file) (h.within, h.says);
       refuses = λ f v. record { file = file; because = v };
-      refused = λ t f q. let e = same_text files name t text q.file file in (e, subst (λ z. IsBadRules table z f) e q.because);
+      refused = λ t f q. let e = one_value (files name) t text q.file file in (e, subst (λ z. IsBadRules table z f) e q.because);
     }
 
     one_within : (verdict : Result Rules Fault) → length text ≤ rules_limit → ((answer : Result Rules Fault) → IsAnswer table text answer → answer ≡ verdict) → (x : Result Rules Fault) → Verdict x → x ≡ verdict

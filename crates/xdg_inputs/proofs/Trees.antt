@@ -16,14 +16,11 @@ use Rattle.xdg_inputs.specs.Refusals.{Stops, refusal_of}
 use Rattle.xdg_inputs.specs.Stages.{Accepts, Rejects}
 use Rattle.xdg_inputs.specs.GrammarFiles.{ReadText, HasTree, HasBadText, IsBadText, too_long, unreadable, grammar_limit}
 use Rattle.xdg_inputs.specs.declared.refusals.Refusal.{Refusal}
+use Rattle.xdg_facts.proofs.Options.{one_value}
 
 -- what `read_tree` says of its answer
 abbrev pub Only : List ℕ → Result Grammar Stop → Type 0
 Only text result = (answer : Result Grammar Fault) → IsReadAs text answer → Gives answer result
-
--- a file has one text
-pub same_text : (files : List ℕ → Option (List ℕ)) (name s t : List ℕ) → files name ≡ Some s → files name ≡ Some t → s ≡ t
-same_text files name s t p q = let r : Some s ≡ Some t = sym p ∙ q in cc
 
 -- the first byte of a text is its first line and column
 pub first_byte : (text : List ℕ) (f : Fault) → f.at ≡ 0 → record { line = 1; column = 1 } ≡ line_column text f
@@ -44,8 +41,8 @@ pub tree_accepted : (files : List ℕ → Option (List ℕ)) (name text : List �
     → Accepts ReadText (HasBadText files name) (HasTree files name) (record { text = text; tree = tree })
 tree_accepted files name text tree file within reads only = record {
   has = record { file = file; within = within; reads = reads };
-  one = λ b h. same_read text tree b only (same_text files name b.text text h.file file) h.reads;
-  never = λ t f q. never_bad text tree f within only (subst (λ z. IsBadText z f) (same_text files name t text q.file file) q.because);
+  one = λ b h. same_read text tree b only (one_value (files name) b.text text h.file file) h.reads;
+  never = λ t f q. never_bad text tree f within only (subst (λ z. IsBadText z f) (one_value (files name) t text q.file file) q.because);
 }
 
 -- ---- a text that isn't
@@ -58,8 +55,8 @@ tree_rejected : (files : List ℕ → Option (List ℕ)) (name text : List ℕ) 
     → Rejects ReadText (HasBadText files name) (HasTree files name) text f
 tree_rejected files name text f file within u only = record {
   is = record { file = file; because = unreadable within u };
-  one = λ t g q. let e = same_text files name t text q.file file in (e, one_bad text f g within only (subst (λ z. IsBadText z g) e q.because));
-  never = λ b h. no_error b.tree f (only (Ok b.tree) (subst (λ z. Reads z b.tree) (same_text files name b.text text h.file file) h.reads));
+  one = λ t g q. let e = one_value (files name) t text q.file file in (e, one_bad text f g within only (subst (λ z. IsBadText z g) e q.because));
+  never = λ b h. no_error b.tree f (only (Ok b.tree) (subst (λ z. Reads z b.tree) (one_value (files name) b.text text h.file file) h.reads));
 }
 
 pub tree_stops : (Told : Type 0) (before after : ℕ) (files : List ℕ → Option (List ℕ)) (name text : List ℕ) (stop : Stop) → (Told → files name ≡ Some text) → length text ≤ grammar_limit → TellsTree text (Err stop) → Only text (Err stop)

@@ -1,13 +1,13 @@
 -- How calls that write parts of a text leave what one call for the whole would.
-use Rattle.std.proofs.Common.{◌≡◌, ◌≤◌, ◌++◌, ℕ, List, Option, Result, Ok, Err, [], length, drop, get_or, suc, ◌+◌, ◌<◌, add-one, refl, sym, ap, true≢false, ◌∙◌, subst, arith}
+use Rattle.std.proofs.Common.{◌≡◌, ◌≤◌, ◌++◌, ℕ, List, Option, Result, Ok, Err, [], length, drop, get_or, ◌+◌, ◌<◌, refl, sym, ap, true≢false, ◌∙◌, subst, arith}
 use Rattle.std.specs.Prelude.{IsErr}
 use Rattle.std.specs.List.{flat_map}
-use Rattle.std.proofs.Math.Seq.{drop-cons}
 use Rattle.std.proofs.lemmas.List.{drop_all}
 use Rattle.xdg_io.specs.Texts.{WritesText}
 use Rattle.xdg_io.specs.declared.failures.Failed.{Failed}
 use Rattle.xdg_io.proofs.Counts.{rose_later}
 use Rattle.xdg_io.proofs.Written.{appends_nothing, appends_both, front_of_first, front_of_second}
+use Rattle.xdg_facts.proofs.Turns.{flat_place}
 
 -- no call was made
 pub writes_nothing : (a : Option (List ℕ)) (n : ℕ) → WritesText (Ok tt) a a n n []
@@ -54,19 +54,15 @@ pub stop_by : {r : Result (Unit {0}) Failed} {e : Failed} {a b c : Option (List 
     → left ≡ piece ++ rest → Resumes a b n k text left → IsErr r → WritesText (Err e) b c k m piece → WritesText r a c n m text
 stop_by {r} {c} {m} rest parts so_far exit one = so_far.whole r c m (writes_whole (sym parts) (writes_first rest exit one))
 
--- the text of a list of items from a place on begins with that of the item there
-from_place : {X : Type 0} (f : X → List ℕ) (xs : List X) (i : ℕ) (x : X) → i < length xs → x ≡ get_or xs i x → flat_map f (drop i xs) ≡ f x ++ flat_map f (drop (i + 1) xs)
-from_place f xs i x within is = rw (add-one) (ap (flat_map f) (drop-cons xs i x within) ∙ ap (λ z. f z ++ flat_map f (drop (suc i) xs)) (sym is))
-
 -- the text of the item at a place was written
 pub next_of : {X : Type 0} {u : Unit {0}} {a b c : Option (List ℕ)} {n k m : ℕ} {text : List ℕ} (f : X → List ℕ) (xs : List X) (i : ℕ) (x : X) → i < length xs → x ≡ get_or xs i x
     → Resumes a b n k text (flat_map f (drop i xs)) → WritesText (Ok u) b c k m (f x) → Resumes a c n m text (flat_map f (drop (i + 1) xs))
-next_of f xs i x within is so_far one = next_by (from_place f xs i x within is) so_far one
+next_of f xs i x within is so_far one = next_by (flat_place f xs i x within is) so_far one
 
 -- a call failed at the text of the item at a place
 pub stop_of : {X : Type 0} {r : Result (Unit {0}) Failed} {e : Failed} {a b c : Option (List ℕ)} {n k m : ℕ} {text : List ℕ} (f : X → List ℕ) (xs : List X) (i : ℕ) (x : X) → i < length xs → x ≡ get_or xs i x
     → Resumes a b n k text (flat_map f (drop i xs)) → IsErr r → WritesText (Err e) b c k m (f x) → WritesText r a c n m text
-stop_of f xs i x within is so_far exit one = stop_by (flat_map f (drop (i + 1) xs)) (from_place f xs i x within is) so_far exit one
+stop_of f xs i x within is so_far exit one = stop_by (flat_map f (drop (i + 1) xs)) (flat_place f xs i x within is) so_far exit one
 
 -- the texts of all items were written
 pub ends_of : {X : Type 0} {a b : Option (List ℕ)} {n k : ℕ} {text : List ℕ} (f : X → List ℕ) (xs : List X) (i : ℕ) → length xs ≤ i → Resumes a b n k text (flat_map f (drop i xs)) → WritesText (Ok tt) a b n k text

@@ -1,5 +1,5 @@
 -- How the pieces that are read one after the other join.
-use Rattle.std.proofs.Common.{◌≡◌, ◌<◌, ◌≤◌, ◌+◌, ◌-◌, ◌++◌, ℕ, List, Option, None, Some, [], length, take, drop, refl, sym, ap, ap₂, min, ◌↔◌, ◌∙◌, subst, arith}
+use Rattle.std.proofs.Common.{◌≡◌, ◌≤◌, ◌+◌, ◌-◌, ◌++◌, ℕ, List, Option, None, Some, [], length, take, drop, refl, sym, ap, ap₂, ◌∙◌, subst, arith}
 use Rattle.std.proofs.lemmas.List.{append_assoc, append-nil, length-append, take-append-drop, drop-drop}
 use Rattle.std.specs.Io.KnownBytes.{prepend_known}
 use Rattle.xdg_io.specs.Left.{Takes, TakesAll, TakesCount, TakesUpTo, EndsAt, GivesPiece, ReadSoFar}
@@ -77,15 +77,6 @@ pub takes_front : (at count : ℕ) (bytes left given : List ℕ) → left ≡ dr
 takes_front at count bytes left given left_is given_is =
     let after : drop (at + count) bytes ≡ drop count left = sym (drop-drop count at bytes) ∙ ap (λ z. drop count z) (sym left_is) in
     record { is = ap Some (sym (take-append-drop count left) ∙ ap₂ (λ x y. x ++ y) (sym given_is) (sym after)) }
-
--- where there is room, no bytes are given exactly where none are left
-pub ends_exactly : (cut room count : ℕ) (left : List ℕ) → 0 < cut → 0 < room → count ≡ min cut (min room (length left)) → (count ≡ 0) ↔ (left ≡ [])
-ends_exactly cut room count left some_cut some_room is =
-    (λ none. empty_list left (omega (arith, none, is, some_cut, some_room)), λ none. omega (arith, is, ap (λ z. length z) none))
-
--- as many as there is room for, at most as many as there are
-pub at_most : (room there count : ℕ) → count ≡ min room (min room there) → count ≡ min room there
-at_most room there count is = omega (arith, is)
 
 -- what a loop over a source has read
 pub ruleset read_steps = (read_start, read_more, read_all_of, read_too_many, read_up_to, read_same, rose_later)

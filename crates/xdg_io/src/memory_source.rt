@@ -63,7 +63,7 @@ impl Source for MemSource {
 
     ghost faults = { λ source. source.calls.faults };
 
-    #[tactic(auto, using(crate::proofs::Read::takes_front, crate::proofs::Read::ends_exactly))]
+    #[tactic(auto, using(crate::proofs::Read::takes_front, xdg_facts::proofs::Numbers::ends_exactly))]
     fn read(&mut self, buffer: &mut [u8]) -> Result<usize, Failed>
         requires { 0 < length buffer.old }
         ensures within { IfOk result (λ count. count ≤ length buffer.new) }

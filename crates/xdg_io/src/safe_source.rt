@@ -42,7 +42,7 @@ impl Source for SafeSource {
 
     ghost faults = { λ _. 0 };
 
-    #[tactic(auto, using(crate::proofs::Read::takes_front, crate::proofs::Read::at_most))]
+    #[tactic(auto, using(crate::proofs::Read::takes_front, xdg_facts::proofs::Numbers::at_most))]
     fn read(&mut self, buffer: &mut [u8]) -> Result<usize, Failed>
         requires { 0 < length buffer.old }
         ensures within { IfOk result (λ count. count ≤ length buffer.new) }

@@ -1,5 +1,5 @@
 -- What a condition asks of a tuple, from what is read and tested.
-use Rattle.std.proofs.Common.{◌≡◌, ℕ, ◌+◌, ◌<◌, ◌↔◌, ◌==◌, inl, inr, Bool, true, false, List, length, get_or, map, refl, ap, sym, ◌∙◌, subst, arith}
+use Rattle.std.proofs.Common.{◌≡◌, ℕ, ◌+◌, ◌<◌, ◌↔◌, ◌==◌, inl, inr, Bool, true, false, List, length, get_or, map, ap, sym, ◌∙◌, subst, arith}
 use Rattle.std.specs.Prelude.{IsTrue, not, Contains, AllPairs, slice_index}
 use Rattle.std.proofs.lemmas.Bool.{cases_Bool, eq-eqb, eqb-true, false≢true}
 use Rattle.std.proofs.lemmas.List.{get_or_default}
@@ -20,7 +20,7 @@ use Rattle.xdg_facts.proofs.InOrder.{pairs_mapped}
 use Rattle.xdg_facts.proofs.Numbers.{all_next}
 use Rattle.xdg_judge.proofs.Meeting.{led_exact}
 use Rattle.xdg_judge.proofs.Ways.{last_exact}
-use Rattle.xdg_facts.proofs.Facts.{both_steps}
+use Rattle.xdg_facts.proofs.Facts.{both_steps, denied}
 
 pub row_same : (group : Group) (v w c d a l m : ℕ) (xs : List ℕ) → xs ≡ row group v c a l → v ≡ w → c ≡ d → l ≡ m → xs ≡ row group w d a m
 row_same group v w c d a l m xs h e f g = h ∙ (ap (λ z. row group z c a l) e ∙ (ap (λ z. row group w z a l) f ∙ ap (λ z. row group w d a z) g))
@@ -28,15 +28,7 @@ row_same group v w c d a l m xs h e f g = h ∙ (ap (λ z. row group z c a l) e 
 pub value_same : (parts : Parts) (attrs : List ℕ) (dim d node a b r : ℕ) → r ≡ slice_index attrs (attr_place parts dim node a) → dim ≡ d → a ≡ b → r ≡ slice_index attrs (attr_place parts d node b)
 value_same parts attrs dim d node a b r h e f = h ∙ (ap (λ z. slice_index attrs (attr_place parts z node a)) e ∙ ap (λ z. slice_index attrs (attr_place parts d node z)) f)
 
--- what cannot follow holds only where its premise fails
-denied : (b : Bool) (D X : Type 0) → IsTrue b ↔ D → (X → ⊥) → IsTrue (not b) ↔ (D → X)
-denied true D X h n = (λ t. absurd (false≢true t), λ f. absurd (n (f (h.0 refl))))
-denied false D X h n = (λ t d. absurd (false≢true (h.1 d)), λ f. refl)
-
 -- where the premises of what is asked hold, a test of the conclusion is enough
-
-pub between_end : (b : Bool) (D B A : Type 0) → D → B → IsTrue b ↔ A → IsTrue b ↔ (D → B → A)
-between_end b D B A d w h = (λ t x y. h.0 t, λ f. h.1 (f d w))
 
 pub agree_end : (D : Type 0) (xs ys : List ℕ) (l m wanted value first second : ℕ) → D → Contains xs m → xs ≡ ys → m ≡ l → wanted ≡ first → value ≡ second → IsTrue (wanted == value) ↔ (D → Contains ys l → first ≡ second)
 agree_end D xs ys l m wanted value first second d c f g i j = (

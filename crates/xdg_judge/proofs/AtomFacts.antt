@@ -1,7 +1,7 @@
 -- What tables of edges and paths say of atoms.
 use Rattle.std.proofs.Common.{◌≡◌, ◌↔◌, ℕ, ◌<◌, ◌≤◌, Bool, false, List, [], ◌∷◌, length, sym, ap, ◌∙◌, subst, arith}
 use Rattle.std.specs.Prelude.{IsTrue, All, Contains, Some, None, slice_get, slice_index_or, ◌==◌}
-use Rattle.std.proofs.lemmas.Bool.{eqb-true, false≢true}
+use Rattle.std.proofs.lemmas.Bool.{eqb-true}
 use Rattle.std.proofs.lemmas.List.Elements.{All-head}
 use Rattle.xdg_problem.specs.declared.analysis.Analysis.{Analysis}
 use Rattle.xdg_problem.specs.declared.analysis.Edge.{Edge}
@@ -18,7 +18,7 @@ use Rattle.xdg_judge.specs.Graphs.{IsReady}
 use Rattle.xdg_judge.specs.Links.{AreNeighbours}
 use Rattle.xdg_nodeset.specs.Tables.{In, InBy}
 use Rattle.xdg_facts.proofs.Lookups.{read_none, read_some}
-use Rattle.xdg_facts.proofs.Facts.{both_steps}
+use Rattle.xdg_facts.proofs.Facts.{both_steps, not_told}
 use Rattle.xdg_problem.proofs.EntryPlaces.{length_entries}
 use Rattle.xdg_problem.proofs.PlacePlans.{dim_within}
 
@@ -31,9 +31,6 @@ on_dim parts analysis dim e fits past on =
     let is = eqb-true e.dim.0 dim found.1 in
     let within = dim_within parts e place in
     omega (arith, past, is, within)
-
-not_told : (P : Type 0) → (P → ⊥) → IsTrue false ↔ P
-not_told P none = (λ t. absurd (false≢true t), λ p. absurd (none p))
 
 pub no_edge : (parts : Parts) (analysis : Analysis) (tables : List Neighbours) (dim u l v : ℕ) → IsReady parts analysis tables → length parts.dims ≤ dim → IsTrue false ↔ IsDaughterBy (edges_on dim analysis.edges) u l v
 no_edge parts analysis tables dim u l v ready past = not_told _ (λ a. on_dim parts analysis dim a.1 ready.fits past (a.0, a.2, a.3))

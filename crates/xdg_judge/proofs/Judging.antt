@@ -25,9 +25,6 @@ use Rattle.xdg_problem.specs.Principles.{conditions_for}
 
 -- what holds of each number below one holds of each below a lesser one
 
-pub less_all : (Q : ℕ → Type 0) (i n : ℕ) → ((k : ℕ) → k < i → Q k) → n ≤ i → (k : ℕ) → k < n → Q k
-less_all Q i n h le k l = h k (omega (arith, l, le))
-
 -- the number of nodes without mother
 
 pub roots_kept : (parts : Parts) (group : Group) (analysis : Analysis) (count : ℕ) → count ≡ root_count parts group analysis.edges → count ≡ 1 → IsKeptHere parts group analysis conditions.Roots

@@ -10,9 +10,10 @@ use Rattle.xdg_problem.specs.declared.parts.Group.{Group}
 use Rattle.xdg_problem.specs.declared.parts.Parts.{Parts}
 use Rattle.xdg_problem.specs.Conditions.{AreBelow, IsTuple, items_of, item_count}
 use Rattle.xdg_problem.specs.Places.{nodes}
-use Rattle.xdg_problem.proofs.Tuples.{EachBelow, tuples_of}
-use Rattle.xdg_problem.proofs.Verdicts.{at_most_more}
+use Rattle.xdg_problem.proofs.Tuples.{tuples_of}
 use Rattle.xdg_judge.specs.Searching.{IsSearched, tuple_for, second_size, third_size, FirstThree}
+use Rattle.xdg_facts.proofs.Each.{EachBelow}
+use Rattle.xdg_facts.proofs.Ordered.{at_most_cons}
 
 -- the first tuple below some sizes that fails, number by number
 abbrev First : List ℕ → (List ℕ → Type 0) → List ℕ → Type 0
@@ -32,7 +33,7 @@ first_below sizes P t f = absurd f
 first_at_most : (sizes : List ℕ) (P : List ℕ → Type 0) (t other : List ℕ) → First sizes P t → AreBelow sizes other → (P other → ⊥) → AtMost t other
 first_at_most [] P [] [] f w fails = inl refl
 first_at_most (size ∷ sizes) P (u ∷ t) (a ∷ other) f w fails = elim (cases_order a u) [
-  | inl same ↦ subst (λ z. AtMost (u ∷ t) (z ∷ other)) (sym same) (at_most_more u t other (first_at_most sizes (λ x. P (u ∷ x)) t other f.1 w.1 (subst (λ z. P (z ∷ other) → ⊥) same fails)))
+  | inl same ↦ subst (λ z. AtMost (u ∷ t) (z ∷ other)) (sym same) (at_most_cons u u t other refl (first_at_most sizes (λ x. P (u ∷ x)) t other f.1 w.1 (subst (λ z. P (z ∷ other) → ⊥) same fails)))
   | inr (inl less) ↦ absurd (fails (tuples_of sizes (λ x. P (a ∷ x)) (f.2 a less) other w.1))
   | inr (inr more) ↦ inr (inl more)
 ]

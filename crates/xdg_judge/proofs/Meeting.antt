@@ -2,7 +2,6 @@
 use Rattle.std.proofs.Common.{◌≡◌, ℕ, ◌⊎◌, ◌↔◌, inl, inr, Bool, true, List, [], refl, sym, ◌∙◌, ap, subst}
 use Rattle.std.specs.Prelude.{IsTrue, Contains, slice_index_or}
 use Rattle.std.specs.List.{Any}
-use Rattle.std.proofs.lemmas.Bool.{false≢true}
 use Rattle.xdg_problem.specs.declared.analysis.Edge.{Edge}
 use Rattle.xdg_problem.specs.Paths.{Above, IsDaughter}
 use Rattle.xdg_judge.specs.declared.links.Links.{Links}
@@ -13,12 +12,6 @@ use Rattle.xdg_nodeset.specs.Tables.{In, Meet}
 use Rattle.xdg_judge.specs.Links.{AreLinks}
 use Rattle.xdg_facts.proofs.Facts.{both_steps}
 use Rattle.xdg_facts.specs.Rises.{has}
-
-pub only_end : (v : ℕ) (set empty : List ℕ) → empty ≡ [] → ((x : ℕ) → (has set x ≡ true) ↔ ((has empty x ≡ true) ⊎ (v ≡ x))) → (x : ℕ) → (has set x ≡ true) ↔ (v ≡ x)
-only_end v set empty e h x = (
-  λ t. elim ((h x).0 t) [ inl n ↦ absurd (false≢true (subst (λ z. has z x ≡ true) e n)) | inr s ↦ s ],
-  λ s. (h x).1 (inr s),
-)
 
 -- by the sets of a dimension's edges, some edge joins two nodes exactly where one does
 

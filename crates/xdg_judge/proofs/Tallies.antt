@@ -1,5 +1,5 @@
 -- Counting in a filtered list, and tables of counts.
-use Rattle.std.proofs.Common.{◌≡◌, ℕ, ◌+◌, ◌<◌, ◌≤◌, ◌↔◌, ◌&&◌, ◌||◌, ◌++◌, inl, inr, Bool, true, false, cond, not, take, get_or, replicate, List, [], ◌∷◌, length, sym, ◌∙◌, ap, ap₂, refl, zero, suc, arith}
+use Rattle.std.proofs.Common.{◌≡◌, ℕ, ◌+◌, ◌<◌, ◌≤◌, ◌↔◌, ◌&&◌, ◌++◌, inl, inr, Bool, cond, not, take, get_or, replicate, List, [], ◌∷◌, length, sym, ◌∙◌, ap, ap₂, refl, zero, suc, arith}
 use Rattle.std.specs.Prelude.{IsTrue, filter, count_by, nat_le, slice_index, slice_index_or, slice_set, ◌==◌}
 use Rattle.std.specs.List.{list_any}
 use Rattle.std.proofs.lemmas.Bool.{cases_eq, eq-eqb, ne_eqb, leb-true, le-leb}
@@ -13,17 +13,9 @@ use Rattle.xdg_judge.specs.Counting.{first_key, second_key, counted, IsTally}
 use Rattle.xdg_judge.proofs.Gathering.{on_here, on_over}
 use Rattle.xdg_problem.proofs.Numbered.{numbers_more}
 use Rattle.xdg_facts.proofs.Numbers.{zeros}
+use Rattle.xdg_facts.proofs.Filters.{any_on}
 
 -- ---- a row and a table that count one more
-
-pub count_at : (row : List ℕ) (b j m : ℕ) → j ≡ b → j < length row → slice_index (slice_set row j (slice_index row j + 1)) m ≡ slice_index row m + cond (b == m) 1 0
-count_at row b j m e l = elim (cases_eq m j) [
-  | inl f ↦ ap (slice_index (slice_set row j (slice_index row j + 1))) f ∙ get_or-set_same row j (slice_index row j + 1) 0 l ∙ ap₂ (λ i t. slice_index row i + cond t 1 0) (sym f) (sym (eq-eqb b m (sym e ∙ sym f)))
-  | inr g ↦ (
-      let same : slice_index (slice_set row j (slice_index row j + 1)) m ≡ slice_index row m = get_or-set_other row j m (slice_index row j + 1) 0 g in
-      let none : ◌≡◌ {A = ℕ} (cond (b == m) 1 0) 0 = ap (λ q. cond q 1 0) (ne_eqb b m (λ q. g (sym q ∙ sym e))) in
-      omega (arith, same, none))
-]
 
 pub count_row : (table : List (List ℕ)) (row : List ℕ) (a b i k m : ℕ) → i ≡ a → i < length table → ((n : ℕ) → slice_index row n ≡ slice_index (slice_index_or table i []) n + cond (b == n) 1 0) → counted (slice_set table i row) k m ≡ counted table k m + cond ((a == k) && (b == m)) 1 0
 count_row table row a b i k m e l h = elim (cases_eq k i) [
@@ -79,14 +71,6 @@ at_most_one n m e = (λ t. (let h = leb-true n 1 t in omega (arith, h, e)), λ l
 -- what a condition counts of two numbers
 pub tallied : (condition q : Condition) (edges : List Edge) (table : List (List ℕ)) (a b n : ℕ) → condition ≡ q → IsTally condition edges table → n ≡ counted table a b → n ≡ count_by (λ e. (first_key q e == a) && (second_key q e == b)) edges
 tallied condition q edges table a b n is t e = e ∙ (t a b ∙ ap (λ c. count_by (λ f. (first_key c f == a) && (second_key c f == b)) edges) is)
-
-any_in : {X : Type 0} (q : X → Bool) (b : Bool) (x : X) (ys : List X) → list_any q (cond b (x ∷ ys) ys) ≡ ((b && q x) || list_any q ys)
-any_in q true x ys = refl
-any_in q false x ys = refl
-
-pub any_on : {X : Type 0} (r q : X → Bool) (xs : List X) → list_any (λ x. r x && q x) xs ≡ list_any q (filter r xs)
-any_on r q [] = refl
-any_on r q (x ∷ xs) = ap (λ (b : Bool). (r x && q x) || b) (any_on r q xs) ∙ sym (any_in q (r x) x (filter r xs))
 
 -- the roots among one node more
 pub roots_more : (n : ℕ) (edges : List Edge) → length (roots (n + 1) edges) ≡ length (roots n edges) + cond (not (list_any (λ e. e.daughter.0 == n) edges)) 1 0

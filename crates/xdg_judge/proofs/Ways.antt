@@ -1,5 +1,5 @@
 -- Edges that join two nodes, and the words of the principles.
-use Rattle.std.proofs.Common.{◌≡◌, ℕ, ◌⊎◌, ◌↔◌, inl, inr, Bool, List, [], ◌∷◌, refl, sym, subst, arith, zero, suc}
+use Rattle.std.proofs.Common.{◌≡◌, ℕ, ◌⊎◌, ◌↔◌, inl, inr, Bool, List, [], ◌∷◌, refl, sym, subst, arith}
 use Rattle.std.specs.Prelude.{IsTrue, All, Contains}
 use Rattle.std.proofs.lemmas.List.Elements.{All-nil, All-cons, All-head, All-tail, All-append}
 use Rattle.xdg_problem.specs.declared.analysis.Edge.{Edge}
@@ -15,6 +15,7 @@ use Rattle.xdg_judge.proofs.Meeting.{led_exact}
 use Rattle.xdg_facts.proofs.Facts.{both_steps}
 use Rattle.xdg_problem.proofs.Walks.{leads_append}
 use Rattle.xdg_problem.proofs.Walks.{by_last}
+use Rattle.xdg_facts.proofs.Contained.{contains_one}
 
 first_joined : (edges : List Edge) (labels : List ℕ) (u v : ℕ) → IsJoined ways.First edges labels u v → AboveByFirst edges u labels v
 first_joined edges labels u v (k, e, l, at, (label, (m, inl d))) = record { first = e; rest = []; label = label; along = All-cons (Contains edges) e [] (k, l, at) (All-nil (Contains edges)); leads = (m, d) }
@@ -77,15 +78,11 @@ linked_as way known b edges links labels u v is are told = subst (λ w. IsTrue b
 
 -- x stands in an item as the node itself, as a daughter, or below one
 
-one_label : (label l : ℕ) → Contains (label ∷ []) l → l ≡ label
-one_label label l (zero, m, e) = sym e
-one_label label l (suc k, m, e) = absurd (omega (arith, m))
-
 pub item_yield : (edges : List Edge) (yields : Type 0) (own u label x : ℕ) (b : Bool) → ((own ≡ label) × (x ≡ u) → ⊥) → (IsDaughterBy edges u label x → ⊥) → yields → IsTrue b ↔ IsJoined ways.First edges (label ∷ []) u x → IsTrue b ↔ IsInItem edges yields own u label x
 item_yield edges yields own u label x b n d y h = (λ t. there (h.0 t), λ i. h.1 (back i)) where
   there : IsJoined ways.First edges (label ∷ []) u x → IsInItem edges yields own u label x
-  there (k, e, l, at, (c, (m, inl s))) = inr (inl (k, e, l, at, (m, one_label label e.label.0 c, s)))
-  there (k, e, l, at, (c, (m, inr a))) = inr (inr (y, (e.daughter.0, (k, e, l, at, (m, one_label label e.label.0 c, refl)), a)))
+  there (k, e, l, at, (c, (m, inl s))) = inr (inl (k, e, l, at, (m, contains_one label e.label.0 c, s)))
+  there (k, e, l, at, (c, (m, inr a))) = inr (inr (y, (e.daughter.0, (k, e, l, at, (m, contains_one label e.label.0 c, refl)), a)))
 
   back : IsInItem edges yields own u label x → IsJoined ways.First edges (label ∷ []) u x
   back (inl s) = absurd (n (sym s.0, s.1))

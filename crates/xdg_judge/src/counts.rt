@@ -27,7 +27,7 @@ fn keys_of(condition: Condition, edge: Edge) -> (u8, u8)
 }
 
 /// Counts one more for a number.
-#[tactic(auto, using(crate::proofs::Tallies::count_at))]
+#[tactic(auto, using(xdg_facts::proofs::Lists::count_at))]
 fn count_in(row: &mut [usize; 128], number: u8)
     requires within { number < 128 }
     requires room { slice_index row.old number + 1 < 2 ^ 64 }

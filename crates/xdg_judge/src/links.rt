@@ -73,7 +73,7 @@ pub fn leads_nowhere(table: &[[NodeSet; 32]; 128], from: u8, label: u8) -> bool
 }
 
 /// Whether the set that a table has for a node has all of some nodes.
-#[tactic(auto, using(xdg_nodeset::proofs::TableSets::none_outside))]
+#[tactic(auto, using(xdg_facts::proofs::Sets::none_outside))]
 pub fn leads_to_all(table: &[NodeSet; 128], from: u8, nodes: NodeSet) -> bool
     requires { from < 128 }
     ensures { IsTrue result → (to : ℕ) → has nodes to ≡ true → In table.now from to }

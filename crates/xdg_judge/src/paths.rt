@@ -33,7 +33,7 @@ pub fn is_member(numbers: &[u16], number: usize) -> bool
 }
 
 /// A set with one node more.
-#[tactic(auto, using(xdg_nodeset::proofs::TableSets::one_more))]
+#[tactic(auto, using(xdg_facts::proofs::Sets::one_more))]
 fn including(set: NodeSet, node: u8) -> NodeSet
     requires { node < 128 }
     ensures { (x : ℕ) → (has result x ≡ true) ↔ ((has set x ≡ true) ⊎ (node ≡ x)) }
@@ -68,7 +68,7 @@ fn meets(sets: &[NodeSet; 32], labels: &[u16], nodes: NodeSet) -> bool
 }
 
 /// The nodes at which an edge that joins u to v in a way may have its other end.
-#[tactic(auto, using(crate::proofs::Meeting::only_end))]
+#[tactic(auto, using(xdg_facts::proofs::Sets::only_end))]
 fn ends(links: &Links, way: Way, u: u8, v: u8) -> NodeSet
     requires u_within { u < 128 }
     requires v_within { v < 128 }

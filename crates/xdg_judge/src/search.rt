@@ -15,7 +15,7 @@ use crate::view::View;
 use xdg_problem::Condition;
 
 /// The first third number with which a condition refuses a tuple that begins with two numbers.
-#[tactic(auto, using(xdg_facts::proofs::Numbers::all_next, crate::proofs::Judging::less_all))]
+#[tactic(auto, using(xdg_facts::proofs::Numbers::all_next, xdg_facts::proofs::Numbers::less_all))]
 fn first_third(
     view: &View,
     counts: &[[usize; 128]; 128],
@@ -46,7 +46,7 @@ fn first_third(
 }
 
 /// The first second and third number with which a condition refuses a tuple that begins with a number.
-#[tactic(auto, using(xdg_facts::proofs::Numbers::all_next, crate::proofs::Judging::less_all))]
+#[tactic(auto, using(xdg_facts::proofs::Numbers::all_next, xdg_facts::proofs::Numbers::less_all))]
 fn first_second(
     view: &View,
     counts: &[[usize; 128]; 128],
@@ -78,7 +78,7 @@ fn first_second(
 }
 
 /// The first three numbers of which a condition refuses the tuple.
-#[tactic(auto, using(xdg_facts::proofs::Numbers::all_next, crate::proofs::Judging::less_all))]
+#[tactic(auto, using(xdg_facts::proofs::Numbers::all_next, xdg_facts::proofs::Numbers::less_all))]
 pub fn first_refused(
     view: &View,
     counts: &[[usize; 128]; 128],

@@ -22,7 +22,8 @@ use Rattle.xdg_lex.specs.Offends.{IsOffence, no_token, no_comment, great_number,
 use Rattle.xdg_lex.proofs.Steps.{step}
 use Rattle.xdg_lex.proofs.Signs.{begins_sign, sign_refined}
 use Rattle.xdg_lex.proofs.Begins.{begins_white, begins_named, begins_number, begins_nothing}
-use Rattle.xdg_lex.proofs.Loops.{Reads, goes_step, between_step, between_end, passes, fails, each_goes, name_goes, line_goes, digit_fails, number_goes, close_goes, open_goes, inside_goes, one_more}
+use Rattle.xdg_lex.proofs.Loops.{Reads, goes_step, between_step, between_end, passes, fails, each_goes, name_goes, line_goes, digit_fails, number_goes, close_goes, open_goes, inside_goes}
+use Rattle.xdg_facts.proofs.Encoded.{encode_behind}
 
 -- a piece that begins
 start_step : (start : ℕ) (text : List ℕ) (at c : ℕ) (cs : List ℕ) (mode : Mode) → start + length text ≡ at → begins at c ≡ Ok mode → run start text in_.Between (c ∷ cs) ≡ run at (encode_utf8 c) mode cs
@@ -40,7 +41,7 @@ gap_reads at piece behind all (line body each) reads start text place =
     ∙ ap (run at (encode_utf8 37) in_.LineComment) (append_assoc body (10 ∷ []) behind)
     ∙ each_goes in_.LineComment is_no_line_feed line_goes at (encode_utf8 37) body (10 ∷ behind) each
     ∙ goes_step at (encode_utf8 37 ++ encode_utf8_all body) in_.LineComment in_.Between 10 behind refl
-    ∙ reads at ((encode_utf8 37 ++ encode_utf8_all body) ++ encode_utf8 10) (ap (λ l. at + length l) (one_more (encode_utf8 37) body 10))
+    ∙ reads at ((encode_utf8 37 ++ encode_utf8_all body) ++ encode_utf8 10) (ap (λ l. at + length l) (encode_behind (encode_utf8 37) body 10))
 gap_reads at piece behind all (closed body none) reads start text place =
     start_step start text at 47 ((42 ∷ body ++ 42 ∷ 47 ∷ []) ++ behind) in_.Slash place refl
     ∙ goes_step at (encode_utf8 47) in_.Slash in_.Comment 42 ((body ++ 42 ∷ 47 ∷ []) ++ behind) refl
@@ -90,7 +91,7 @@ closed_read start text at cs content wrong behind place is =
     ap (λ l. run start text in_.Between (34 ∷ l)) (append_assoc cs (34 ∷ []) behind)
     ∙ inside_read start text at cs content wrong (34 ∷ behind) place is
     ∙ goes_step at (encode_utf8_all (34 ∷ cs)) _ _ 34 behind refl
-    ∙ ap (λ t. run at t (in_.Closed (inside content wrong)) behind) (one_more (encode_utf8 34) cs 34)
+    ∙ ap (λ t. run at t (in_.Closed (inside content wrong)) behind) (encode_behind (encode_utf8 34) cs 34)
 
 token_reads : (at : ℕ) (kind : Kind) (piece : List ℕ) (content : ℕ) (behind : List ℕ) (all : Lexed) → IsToken at kind piece content behind → content ≤ 127 → Reads (at + size_of piece) behind all
     → Reads at (piece ++ behind) (before (lexeme kind at (encode_utf8_all piece) ∷ []) all)

@@ -4,7 +4,6 @@ use Rattle.std.specs.Prelude.{Result, if◌then◌else◌, nat_le, unwrap_or}
 use Rattle.std.specs.Char.{is_ascii_digit, len_utf8, encode_utf8}
 use Rattle.std.specs.Str.{encode_utf8_all}
 use Rattle.std.proofs.lemmas.Bool.{cond-true, cond-false, le-leb, lt-leb, or_parts}
-use Rattle.std.proofs.lemmas.Str.{encodes-append}
 use Rattle.xdg_base.specs.Faults.{fault_at}
 use Rattle.xdg_base.specs.declared.faults.Fault.{Fault}
 use Rattle.xdg_base.specs.declared.faults.Cause.TheVariants as causes
@@ -17,6 +16,7 @@ use Rattle.xdg_lex.specs.Lexed.{Lexed, run, ended, begun}
 use Rattle.xdg_ast.specs.Tokenizes.{size_of, EachPasses, StopsBefore, HasNoClose, IsInside, nothing, plain, escaped, stray, value_after, greatest_number, is_slash, is_no_line_feed}
 use Rattle.xdg_lex.proofs.Steps.{run-nil, from_there, step, before_none}
 use Rattle.xdg_facts.proofs.Truths.{from_not}
+use Rattle.xdg_facts.proofs.Encoded.{encode_behind, two_more}
 
 -- what characters that begin at a place give
 abbrev pub Reads : ℕ → List ℕ → Lexed → Type 0
@@ -136,15 +136,6 @@ stray_goes : (at content backslash : ℕ) (wrong : Option ℕ) (c : ℕ) → is_
 unfolding goes_on escape_goes_on
 stray_goes at content backslash wrong c f = cond-false (is_escaped c) _ _ f
 
-pub one_more : (text cs : List ℕ) (c : ℕ) → (text ++ encode_utf8_all cs) ++ encode_utf8 c ≡ text ++ encode_utf8_all (cs ++ c ∷ [])
-one_more text cs c =
-    append_assoc text (encode_utf8_all cs) (encode_utf8 c)
-    ∙ ap (λ l. text ++ l) (sym (encodes-append cs (c ∷ []) ∙ ap (λ l. encode_utf8_all cs ++ l) (append-nil (encode_utf8 c))))
-
-two_more : (text cs : List ℕ) (c : ℕ) → ((text ++ encode_utf8_all cs) ++ encode_utf8 92) ++ encode_utf8 c ≡ text ++ encode_utf8_all (cs ++ 92 ∷ c ∷ [])
-two_more text cs c =
-    ap (λ l. l ++ encode_utf8 c) (one_more text cs 92) ∙ one_more text (cs ++ 92 ∷ []) c ∙ ap (λ l. text ++ encode_utf8_all l) (append_assoc cs (92 ∷ []) (c ∷ []))
-
 pub inside_goes : (place start : ℕ) (text cs : List ℕ) (content : ℕ) (wrong : Option ℕ) (behind : List ℕ) → IsInside place cs content wrong → start + length text ≡ place
     → run start text (in_.Quoted (inside 0 None)) (cs ++ behind) ≡ run start (text ++ encode_utf8_all cs) (in_.Quoted (inside content wrong)) behind
 unfolding goes_on quoted_goes_on
@@ -153,7 +144,7 @@ inside_goes place start text all content wrong behind (plain cs before_it wrong_
     ap (run start text (in_.Quoted (inside 0 None))) (append_assoc cs (c ∷ []) behind)
     ∙ inside_goes place start text cs before_it wrong_before (c ∷ behind) is at
     ∙ goes_step start (text ++ encode_utf8_all cs) _ _ c behind (plain_goes (start + length (text ++ encode_utf8_all cs)) before_it wrong_before c f)
-    ∙ ap (λ t. run start t (in_.Quoted (inside (before_it + len_utf8 c) wrong_before)) behind) (one_more text cs c)
+    ∙ ap (λ t. run start t (in_.Quoted (inside (before_it + len_utf8 c) wrong_before)) behind) (encode_behind text cs c)
 inside_goes place start text all content wrong behind (escaped cs before_it wrong_before c is t) at =
     ap (run start text (in_.Quoted (inside 0 None))) (append_assoc cs (92 ∷ c ∷ []) behind)
     ∙ inside_goes place start text cs before_it wrong_before (92 ∷ c ∷ behind) is at

@@ -1,5 +1,5 @@
 -- What is known of a piece while its characters are read.
-use Rattle.std.proofs.Common.{◌≡◌, ℕ, ◌+◌, ◌-◌, ◌*◌, ◌≤◌, ◌==◌, ◌||◌, Bool, true, false, not, Option, Some, None, Ok, Err, List, [], ◌∷◌, ◌++◌, length, refl, sym, ◌∙◌, ap, subst, arith, append_assoc, length-append}
+use Rattle.std.proofs.Common.{◌≡◌, ℕ, ◌+◌, ◌-◌, ◌*◌, ◌≤◌, ◌==◌, ◌||◌, Bool, true, false, Option, Some, None, Ok, Err, List, [], ◌∷◌, ◌++◌, length, refl, sym, ◌∙◌, ap, subst, arith, append_assoc, length-append}
 use Rattle.std.specs.Prelude.{Result, if◌then◌else◌, nat_le, unwrap_or}
 use Rattle.std.specs.Char.{is_whitespace, is_ascii_digit, len_utf8, encode_utf8}
 use Rattle.std.specs.Str.{encode_utf8_all}
@@ -18,6 +18,7 @@ use Rattle.xdg_ast.specs.Kinds.{sign_of}
 use Rattle.xdg_lex.specs.Pieces.{goes_on, digit_goes_on, quoted_goes_on, escape_goes_on, line_goes_on, comment_goes_on, star_goes_on, begins, sign_begins, inside}
 use Rattle.xdg_ast.specs.Tokenizes.{size_of, EachPasses, StopsBefore, HasNoClose, IsGap, white, line, closed, IsInside, nothing, plain, escaped, stray, value_after, greatest_number, is_no_line_feed}
 use Rattle.xdg_lex.specs.Offends.{IsOffence, no_token, great_number}
+use Rattle.xdg_facts.proofs.Truths.{not_true_from, apart}
 
 -- the inside of a comment has no close, whatever follows that has none
 abbrev pub GoesOnWell : List ℕ → Type 0
@@ -67,9 +68,6 @@ each_more test (d ∷ cs) c each t = (each.0, each_more test cs c each.1 t)
 pub value_more : (value : ℕ) (cs : List ℕ) (c : ℕ) → value_after value (cs ++ c ∷ []) ≡ value_after value cs * 10 + (c - 48)
 value_more value [] c = refl
 value_more value (d ∷ cs) c = value_more (value * 10 + (d - 48)) cs c
-
-not_true_from : (b : Bool) → b ≡ false → not b ≡ true
-not_true_from b e = ap not e
 
 name_turns : (start at c : ℕ) (behind : List ℕ) (d : ℕ) (body : List ℕ) → begins_name d ≡ true → EachPasses continues_name body
     → Turns start in_.Name (d ∷ body) c behind (if continues_name c then turns.GoesOn in_.Name else turns.Ends)
@@ -121,26 +119,23 @@ line_turns start c body each =
     (λ t. subst (λ d. Pending start in_.Between ((37 ∷ body) ++ d ∷ [])) (sym (eqb-true c 10 t)) (in_gap (37 ∷ body ++ 10 ∷ []) (line body each)))
     (λ f. in_line (body ++ c ∷ []) (each_more is_no_line_feed body c each (not_true_from (c == 10) f)))
 
-false_is_not_true : {X : Type 0} (b : Bool) → b ≡ false → b ≡ true → X
-false_is_not_true b f t = absurd (grind (arith, f, t))
-
 comment_turns : (start c : ℕ) (body : List ℕ) → GoesOnWell body → Pending start (comment_goes_on c) ((47 ∷ 42 ∷ body) ++ c ∷ [])
 comment_turns start c body well =
     cond_both (c == 42) in_.CommentStar in_.Comment (λ m. Pending start m ((47 ∷ 42 ∷ body) ++ c ∷ []))
     (λ t. subst (λ d. Pending start in_.CommentStar ((47 ∷ 42 ∷ body) ++ d ∷ [])) (sym (eqb-true c 42 t)) (in_star body (λ more h. well (42 ∷ more) h)))
-    (λ f. in_comment (body ++ c ∷ []) (λ more h. subst HasNoClose (sym (append_assoc body (c ∷ []) more)) (well (c ∷ more) ((λ t. false_is_not_true (c == 42) f t), h))))
+    (λ f. in_comment (body ++ c ∷ []) (λ more h. subst HasNoClose (sym (append_assoc body (c ∷ []) more)) (well (c ∷ more) ((λ t. apart (c == 42) t f), h))))
 
 star_turns : (start c : ℕ) (body : List ℕ) → GoesOnWellAfterStar body → Pending start (star_goes_on c) ((47 ∷ 42 ∷ body ++ 42 ∷ []) ++ c ∷ [])
 star_turns start c body well =
-    let apart : (d : ℕ) → (47 ∷ 42 ∷ body ++ 42 ∷ d ∷ []) ≡ ((47 ∷ 42 ∷ body ++ 42 ∷ []) ++ d ∷ []) = λ d. ap (λ l. 47 ∷ 42 ∷ l) (sym (append_assoc body (42 ∷ []) (d ∷ []))) in
+    let parted : (d : ℕ) → (47 ∷ 42 ∷ body ++ 42 ∷ d ∷ []) ≡ ((47 ∷ 42 ∷ body ++ 42 ∷ []) ++ d ∷ []) = λ d. ap (λ l. 47 ∷ 42 ∷ l) (sym (append_assoc body (42 ∷ []) (d ∷ []))) in
     cond_both (c == 47) in_.Between (comment_goes_on c) (λ m. Pending start m ((47 ∷ 42 ∷ body ++ 42 ∷ []) ++ c ∷ []))
     (λ t. subst (λ d. Pending start in_.Between ((47 ∷ 42 ∷ body ++ 42 ∷ []) ++ d ∷ [])) (sym (eqb-true c 47 t))
-    (subst (λ l. Pending start in_.Between l) (apart 47) (in_gap (47 ∷ 42 ∷ body ++ 42 ∷ 47 ∷ []) (closed body (well [] ((λ _. tt), tt))))))
+    (subst (λ l. Pending start in_.Between l) (parted 47) (in_gap (47 ∷ 42 ∷ body ++ 42 ∷ 47 ∷ []) (closed body (well [] ((λ _. tt), tt))))))
     (λ f. cond_both (c == 42) in_.CommentStar in_.Comment (λ m. Pending start m ((47 ∷ 42 ∷ body ++ 42 ∷ []) ++ c ∷ []))
     (λ t. subst (λ d. Pending start in_.CommentStar ((47 ∷ 42 ∷ body ++ 42 ∷ []) ++ d ∷ [])) (sym (eqb-true c 42 t))
     (in_star (body ++ 42 ∷ []) (λ more h. subst HasNoClose (sym (append_assoc body (42 ∷ []) (42 ∷ more))) (well (42 ∷ more) ((λ _. refl), h)))))
     (λ g. in_comment ((body ++ 42 ∷ []) ++ c ∷ []) (λ more h. subst HasNoClose (sym (append_assoc (body ++ 42 ∷ []) (c ∷ []) more ∙ append_assoc body (42 ∷ []) (c ∷ more)))
-    (well (c ∷ more) ((λ _. f), ((λ t. false_is_not_true (c == 42) g t), h))))))
+    (well (c ∷ more) ((λ _. f), ((λ t. apart (c == 42) t g), h))))))
 
 slash_turns : (start c : ℕ) (behind : List ℕ) → Turns start in_.Slash (47 ∷ []) c behind (if c == 42 then turns.GoesOn in_.Comment else turns.Ends)
 slash_turns start c behind =

@@ -4,7 +4,6 @@ use Rattle.std.specs.Prelude.{Result, nat_le}
 use Rattle.std.specs.Char.{encode_utf8}
 use Rattle.std.specs.Str.{encode_utf8_all}
 use Rattle.std.proofs.lemmas.Bool.{cond_both, leb-true, leb-false}
-use Rattle.std.proofs.lemmas.Str.{encodes-append}
 use Rattle.xdg_base.specs.Faults.{fault_at}
 use Rattle.xdg_base.specs.declared.faults.Fault.{Fault}
 use Rattle.xdg_base.specs.declared.faults.Cause.TheVariants as causes
@@ -22,6 +21,7 @@ use Rattle.xdg_ast.specs.Tokenizes.{size_of, HasNoClose, IsGap, IsInside, IsToke
 use Rattle.xdg_lex.specs.Offends.{IsOffence, no_comment, open_text, open_escape, open_comment, long_name, long_text, stray_backslash, Offends, here, past_gap, past_token}
 use Rattle.xdg_lex.proofs.Pending.{Pending, at_start, in_gap, in_name, in_number, in_quoted, in_escape, in_closed, in_sign, in_line, in_slash, in_comment, in_star, EndsBefore, Turns, turns_rightly, Begins, begins_rightly}
 use Rattle.xdg_lex.proofs.Signs.{sign_refined}
+use Rattle.xdg_facts.proofs.Encoded.{encode_more}
 
 -- the tokens of characters that begin at a place, or their first offence
 abbrev pub Tells : ℕ → List ℕ → Lexed → Type 0
@@ -94,9 +94,6 @@ ends_at_end mode = search rules
 abbrev Sound : List ℕ → Type 0
 Sound cs = (start : ℕ) (mode : Mode) (piece : List ℕ) → Pending start mode piece → Tells start (piece ++ cs) (run start (encode_utf8_all piece) mode cs)
 
-one_more : (piece : List ℕ) (c : ℕ) → encode_utf8_all (piece ++ c ∷ []) ≡ encode_utf8_all piece ++ encode_utf8 c
-one_more piece c = encodes-append piece (c ∷ []) ∙ ap (λ l. encode_utf8_all piece ++ l) (append-nil (encode_utf8 c))
-
 begun_sound : (at c : ℕ) (cs : List ℕ) → Sound cs → (outcome : Result Mode Fault) → Begins at c cs outcome → Tells at (c ∷ cs) (begun outcome (λ next. run at (encode_utf8 c) next cs))
 begun_sound at c cs sound (Ok next) is = subst (λ l. Tells at (c ∷ cs) (run at l next cs)) (append-nil (encode_utf8 c)) (sound at next (c ∷ []) is)
 begun_sound at c cs sound (Err fault) is = here at (c ∷ cs) fault is
@@ -106,7 +103,7 @@ turned_sound : (start : ℕ) (mode : Mode) (piece : List ℕ) (c : ℕ) (cs : Li
     (ended (ends mode start (size_of piece)) start (encode_utf8_all piece) (begun (begins (start + size_of piece) c) (λ next. run (start + size_of piece) (encode_utf8 c) next cs))))
 turned_sound start mode piece c cs sound pending (turns.GoesOn next) is =
     subst (λ l. Tells start l (run start (encode_utf8_all piece ++ encode_utf8 c) next cs)) (append_assoc piece (c ∷ []) cs)
-    (subst (λ t. Tells start ((piece ++ c ∷ []) ++ cs) (run start t next cs)) (one_more piece c) (sound start next (piece ++ c ∷ []) is))
+    (subst (λ t. Tells start ((piece ++ c ∷ []) ++ cs) (run start t next cs)) (encode_more piece c) (sound start next (piece ++ c ∷ []) is))
 turned_sound start mode piece c cs sound pending turns.Ends is =
     ends_rightly start mode piece (c ∷ cs) (begun (begins (start + size_of piece) c) (λ next. run (start + size_of piece) (encode_utf8 c) next cs)) pending is (λ none. absurd (omega (arith, ap length none)))
     (begun_sound (start + size_of piece) c cs sound (begins (start + size_of piece) c) (begins_rightly (start + size_of piece) c cs))

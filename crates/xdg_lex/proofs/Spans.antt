@@ -1,11 +1,9 @@
 -- The tokens of a text stand in it.
-use Rattle.std.proofs.Common.{◌≡◌, ℕ, ◌+◌, ◌-◌, ◌<◌, ◌≤◌, List, [], ◌∷◌, ◌++◌, Ok, Err, length, take, drop, refl, sym, ◌∙◌, ap, arith, append_assoc, length-append}
+use Rattle.std.proofs.Common.{◌≡◌, ℕ, ◌+◌, ◌-◌, ◌<◌, ◌≤◌, List, [], ◌∷◌, ◌++◌, Ok, Err, length, refl, sym, ◌∙◌, ap, arith, append_assoc, length-append}
 use Rattle.std.specs.Prelude.{Result, IfOk}
 use Rattle.std.specs.Char.{encode_utf8}
-use Rattle.std.specs.List.{slice_range}
 use Rattle.std.specs.Str.{chars, encode_utf8_all}
 use Rattle.std.proofs.lemmas.Str.{encodes-append, encodes-chars, length-encode, len_utf8_bounds}
-use Rattle.std.proofs.Math.Seq.{drop-append_seam, take-append_seam}
 use Rattle.xdg_base.specs.declared.faults.Stop.{Stop}
 use Rattle.xdg_ast.specs.declared.token.Kind.{Kind}
 use Rattle.xdg_ast.specs.declared.token.Token.{Token}
@@ -13,12 +11,7 @@ use Rattle.xdg_ast.specs.Lexemes.{Lexeme, lexemes_of}
 use Rattle.xdg_lex.specs.Spans.{StandFrom}
 use Rattle.xdg_ast.specs.Tokenizes.{size_of, IsToken, name, number, quoted, sign, Tokenizes, finished, last_comment, gap, token}
 use Rattle.xdg_lex.specs.Offends.{Tells}
-
-slice_is : (bytes front piece behind : List ℕ) (at : ℕ) → bytes ≡ front ++ (piece ++ behind) → length front ≡ at → piece ≡ slice_range bytes at (at + length piece)
-slice_is bytes front piece behind at is place =
-    let size : (at + length piece) - at ≡ length piece = omega arith in
-    sym (ap (λ n. take n (drop at bytes)) size ∙ ap (λ n. take (length piece) (drop n bytes)) (sym place) ∙ ap (λ l. take (length piece) (drop (length front) l)) is
-    ∙ ap (take (length piece)) (drop-append_seam front (piece ++ behind)) ∙ take-append_seam piece behind)
+use Rattle.xdg_facts.proofs.Fronts.{slice_is}
 
 some_bytes : (c : ℕ) (cs : List ℕ) → 0 < size_of (c ∷ cs)
 some_bytes c cs = omega (arith, length-append (encode_utf8 c) (encode_utf8_all cs), length-encode c, len_utf8_bounds c)

@@ -8,7 +8,7 @@ use Rattle.xdg_lexicon.specs.Partial.{Partial}
 use Rattle.xdg_lexicon.specs.Lexicon.{whole, AreWhole, Adds, nothing_more, known_before, new}
 use Rattle.xdg_facts.proofs.Lists.{from_place}
 use Rattle.xdg_facts.specs.Membership.{In}
-use Rattle.xdg_lexicon.proofs.OneMeaning.{some_same}
+use Rattle.xdg_facts.proofs.Options.{one_value}
 
 -- ---- what is added is told
 
@@ -23,7 +23,7 @@ same_added known _ all others (new _ more _ e n a) (new _ _ _ _ m b) = same_adde
 
 pub same_whole : (table : Table) (ps : List Partial) (es ds : List Entry) → AreWhole table ps es → AreWhole table ps ds → es ≡ ds
 same_whole table [] [] [] a b = refl
-same_whole table (p ∷ ps) (e ∷ es) (d ∷ ds) a b = ap₂ (λ x xs. x ∷ xs) (some_same (whole table p) e d a.0 b.0) (same_whole table ps es ds a.1 b.1)
+same_whole table (p ∷ ps) (e ∷ es) (d ∷ ds) a b = ap₂ (λ x xs. x ∷ xs) (one_value (whole table p) e d a.0 b.0) (same_whole table ps es ds a.1 b.1)
 same_whole table _ _ _ a b = absurd (assumption (a, b))
 
 -- where each is whole, none lacks a feature

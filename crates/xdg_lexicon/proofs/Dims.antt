@@ -9,10 +9,10 @@ use Rattle.xdg_domain.specs.Shapes.{AreTypes}
 use Rattle.xdg_domain.specs.declared.types.Ty.{Ty}
 use Rattle.xdg_types.specs.Table.{typed, AreFeatures}
 use Rattle.xdg_types.specs.declared.table.DimType.{DimType}
-use Rattle.xdg_packed.proofs.Firsts.{each_pushed}
 use Rattle.xdg_terms.specs.Forms.{Bindings}
 use Rattle.xdg_classes.specs.Bodies.{Pairs}
 use Rattle.xdg_lexicon.specs.Partial.{Record, Partial, features, IsDim, said_of, IsRecord, IsPartial, nothing, PartialsJoin, PartialsClash, ReadsDim}
+use Rattle.xdg_facts.proofs.Each.{each_pushed}
 
 -- ---- lists made one by one
 

@@ -10,13 +10,13 @@ use Rattle.xdg_domain.specs.Values.{IsValue, IsFieldOf}
 use Rattle.xdg_domain.specs.declared.types.Ty.{Ty}
 use Rattle.xdg_domain.specs.declared.values.Value.{Value}
 use Rattle.xdg_domain.proofs.Keyed.{said_right, right_said, both_changes}
-use Rattle.xdg_packed.proofs.Laws.{if_some}
 use Rattle.xdg_terms.specs.Forms.{Term, Bindings}
 use Rattle.xdg_terms.specs.Means.{Means, MeansField, Said, written_for}
 use Rattle.xdg_classes.specs.Bodies.{Pairs}
 use Rattle.xdg_lexicon.specs.Made.{IsMade}
 use Rattle.xdg_lexicon.specs.Partial.{Record, IsRecord, SaysFields, written}
 use Rattle.xdg_lexicon.proofs.Made.{all}
+use Rattle.xdg_facts.proofs.Lists.{if_some}
 
 -- ---- the feature with a place
 

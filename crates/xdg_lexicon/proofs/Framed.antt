@@ -1,6 +1,5 @@
 -- What is open while a body is denoted, step by step.
 use Rattle.std.proofs.Common.{◌≡◌, ℕ, ◌<◌, ◌≤◌, ◌+◌, List, [], ◌∷◌, ◌++◌, length, get_or, reverse, refl, ap, sym, ◌∙◌, arith, subst}
-use Rattle.std.proofs.lemmas.Bool.{eqb-true, eqb-false}
 use Rattle.std.proofs.lemmas.List.{reverse-append}
 use Rattle.xdg_ast.specs.declared.names.Name.{Name}
 use Rattle.xdg_ast.specs.declared.expressions.ExprKind.{ExprKind}
@@ -8,7 +7,7 @@ use Rattle.xdg_ast.specs.declared.expressions.ExprKind.TheVariants as v
 use Rattle.xdg_classes.specs.Bodies.{Pairs, Expr, Body, either, both, calling, given, body}
 use Rattle.xdg_classes.proofs.Bodied.{trees, body_or, body_and}
 use Rattle.xdg_check.specs.Checked.{Parts, named_bodies}
-use Rattle.std.specs.Prelude.{Option, Bool, true, false, ◌==◌}
+use Rattle.std.specs.Prelude.{Option}
 use Rattle.xdg_lexicon.specs.declared.frames.Scope.{Scope}
 use Rattle.xdg_lexicon.specs.declared.frames.Frame.{Frame}
 use Rattle.xdg_lexicon.specs.declared.frames.Frame.TheVariants as frame
@@ -22,14 +21,6 @@ use Rattle.xdg_lexicon.proofs.Denoted.{of_use, either_begun, either_further, eit
 use Rattle.xdg_lexicon.proofs.Joining.{are_all}
 use Rattle.xdg_lexicon.proofs.Settled.{calls_at, part_right}
 use Rattle.xdg_lexicon.proofs.Weighed.{IsLighter}
-
--- ---- tests
-
-pub is_none : (n : ℕ) (test : Bool) → test ≡ (n == 0) → test ≡ true → n ≡ 0
-is_none n test tells is = eqb-true n 0 (sym tells ∙ is)
-
-pub is_some : (n : ℕ) (test : Bool) → test ≡ (n == 0) → test ≡ false → 0 < n
-is_some n test tells is = (let other = eqb-false n 0 (sym tells ∙ is) in omega (arith, other))
 
 -- ---- the stack
 

@@ -3,9 +3,9 @@ use Rattle.std.proofs.Common.{◌≡◌, ℕ, ◌<◌, ◌+◌, List, [], ◌∷
 use Rattle.std.specs.Prelude.{Option, None, Some, MatchOption, option_to_list}
 use Rattle.std.proofs.lemmas.List.{append-nil, nil_from_length, take_more}
 use Rattle.xdg_types.specs.declared.table.DimType.{DimType}
-use Rattle.xdg_types.proofs.Kept.{at_place}
 use Rattle.xdg_lexicon.specs.Denotes.{JoinsEach, no_other, clashes, joins, JoinsAll, no_first, first_then}
 use Rattle.xdg_lexicon.specs.Partial.{Partial, IsPartial, ArePartial, PartialsJoin, PartialsClash}
+use Rattle.xdg_facts.proofs.Each.{at_place}
 
 pub are_all : (dims : List DimType) (xs ys : List Partial) → ArePartial dims xs → ArePartial dims ys → ArePartial dims (xs ++ ys)
 are_all dims [] ys a b = b

@@ -13,7 +13,6 @@ mod OneJoin
 mod OneMeaning
 mod Settled
 mod Taken
-mod Turned
 mod Weighed
 pub mod Adding
 pub mod Bounds

@@ -1,6 +1,5 @@
 -- A body denotes one list, where no two classes have one name.
-use Rattle.std.proofs.Common.{◌≡◌, ℕ, List, [], ◌∷◌, ◌++◌, map, Some, slice_get, option_map, refl, sym, ap, ap₂, ◌∙◌, subst}
-use Rattle.std.proofs.lemmas.Option.{slice_get-map}
+use Rattle.std.proofs.Common.{◌≡◌, List, [], ◌∷◌, ◌++◌, map, refl, sym, ap, ap₂, ◌∙◌, subst}
 use Rattle.xdg_types.specs.Table.{KeepDims}
 use Rattle.xdg_types.specs.declared.table.DimType.{DimType}
 use Rattle.xdg_terms.specs.Forms.{Bindings}
@@ -13,25 +12,11 @@ use Rattle.xdg_lexicon.specs.Denotes.{JoinsAll, closed_args, Denotes, record_sai
 use Rattle.xdg_lexicon.specs.Partial.{Partial}
 use Rattle.xdg_lexicon.proofs.OneJoin.{all_once}
 use Rattle.xdg_lexicon.proofs.OneMeaning.{one_record}
-use Rattle.xdg_facts.specs.Membership.{In, Differ}
-use Rattle.xdg_facts.proofs.In.{differ_once}
+use Rattle.xdg_facts.specs.Membership.{Differ}
 use Rattle.xdg_facts.proofs.Lists.{fused}
-use Rattle.xdg_facts.proofs.Options.{some_same}
-use Rattle.xdg_check.proofs.Filled.{at_once}
+use Rattle.xdg_facts.proofs.Named.{one_named}
 
 -- ---- names
-
--- of things whose names differ one has each name
-module _ {A : Type 0} (name : A → List ℕ) where
-  name_at : (xs : List A) (k : ℕ) (x : A) → slice_get xs k ≡ Some x → slice_get (map name xs) k ≡ Some (name x)
-  name_at xs k x is = slice_get-map name xs k ∙ ap (option_map name) is
-
-  pub one_named : (xs : List A) (x y : A) → Differ (map name xs) → In xs x → In xs y → name x ≡ name y → x ≡ y
-  one_named xs x y differ h k e =
-      let i = at_once xs x h in
-      let j = at_once xs y k in
-      let same = differ_once (map name xs) i.0 j.0 (name x) differ (name_at xs i.0 x i.1) (name_at xs j.0 y j.1 ∙ ap Some (sym e)) in
-      some_same x y (sym i.1 ∙ ap (slice_get xs) same ∙ j.1)
 
 -- the bodies of classes have the names of the classes
 pub bodies_differ : (cs : List Class) → Differ (class_texts cs) → Differ (map (λ n. n.name) (named_bodies cs))

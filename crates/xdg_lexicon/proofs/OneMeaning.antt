@@ -1,6 +1,6 @@
 -- A term means one value at most where a type is wanted, and a record says one thing of each dimension.
 use Rattle.std.proofs.Common.{◌≡◌, inl, inr, ℕ, ◌<◌, zero, suc, List, [], length, Option, Some, None, refl, sym, ap, ◌∙◌, subst, arith, codes}
-use Rattle.std.specs.Prelude.{Bool, true, false, bytes_eq, ◌&&◌}
+use Rattle.std.specs.Prelude.{Bool, true, false, bytes_eq}
 use Rattle.std.proofs.lemmas.Bool.{cases_Bool, true≢false}
 use Rattle.std.proofs.lemmas.List.{ext_get_or}
 use Rattle.xdg_ast.specs.declared.names.Name.{Name}
@@ -10,7 +10,7 @@ use Rattle.xdg_domain.specs.Valencies.{said_at}
 use Rattle.xdg_domain.specs.declared.values.Value.{Value, out-Value}
 use Rattle.xdg_domain.specs.declared.values.Value.TheOpen.{Value-F}
 use Rattle.xdg_domain.proofs.Keyed.{said_same}
-use Rattle.xdg_domain.proofs.Numbers.{increasing_same, allows_unique}
+use Rattle.xdg_domain.proofs.Numbers.{allows_unique}
 use Rattle.xdg_domain.proofs.TupleNumbers.{index_of_places, places_in_range}
 use Rattle.xdg_terms.specs.Forms.{Term, Card, Bindings, bound, counts_of, pairs_of}
 use Rattle.xdg_terms.specs.Offences.{all_told}
@@ -22,12 +22,15 @@ use Rattle.xdg_lexicon.specs.Partial.{Record, Partial, features, SaysFields, Say
 use Rattle.xdg_types.proofs.Kept.{keeps_found}
 use Rattle.xdg_lexicon.proofs.Dims.{types_of}
 use Rattle.xdg_facts.proofs.Lists.{some_at}
-use Rattle.xdg_facts.proofs.Truths.{same_flag}
+use Rattle.xdg_facts.proofs.Truths.{same_flag, and_self}
 use Rattle.xdg_facts.proofs.Texts.{same_text, is_same}
 use Rattle.xdg_facts.specs.Rises.{has}
-use Rattle.xdg_terms.proofs.Meant.{same_chosen, one_place}
+use Rattle.xdg_terms.proofs.Meant.{same_chosen}
 use Rattle.xdg_domain.proofs.JoinLaws.{same_out}
 use Rattle.xdg_ast.specs.Texts.{texts as texts_of}
+use Rattle.xdg_facts.proofs.In.{one_place}
+use Rattle.xdg_facts.proofs.Merging.{increasing_same}
+use Rattle.xdg_facts.proofs.Options.{one_value as one_there}
 
 -- ---- places of constants
 
@@ -36,10 +39,6 @@ one_truth true true e = refl
 one_truth false false e = refl
 one_truth true false e = absurd (true≢false (sym (is_same (codes "true") (codes "false") e)))
 one_truth false true e = absurd (true≢false (sym (is_same (codes "false") (codes "true") e)))
-
-and_self : (b : Bool) → (b && b) ≡ b
-and_self true = refl
-and_self false = refl
 
 one_allowed : (written : Card) (a b : List ℕ) → AllowedBy written a → AllowedBy written b → a ≡ b
 one_allowed written a b h k = allows_unique a a a b (h.0, λ n. sym (and_self (has a n))) (k.0, λ n. k.1 n ∙ sym (h.1 n) ∙ sym (and_self (has a n)))
@@ -51,27 +50,24 @@ said_once P once o s t h k = absurd (assumption (h, k))
 
 -- ---- values
 
-pub some_same : {A : Type 0} (o : Option A) (a b : A) → o ≡ Some a → o ≡ Some b → a ≡ b
-some_same o a b h k = (let e : Some a ≡ Some b = sym h ∙ k in cc)
-
 mutual
   one_value : (bs : Bindings) (s : Shape) (t : Term) (x y : Value-F Value) → IsType s → MeansIn bs s t x → MeansIn bs s t y → x ≡ y
   one_value bs (domain cs) t (Value-F.Const a) (Value-F.Const b) type h k =
-      ap Value-F.Const (one_place cs a b type.1 h.1.1.0 k.1.1.0 (h.1.1.1 ∙ ap (λ (z : Name). z.text) (some_same _ h.0 k.0 h.1.0 k.1.0) ∙ sym k.1.1.1))
+      ap Value-F.Const (one_place cs a b type.1 h.1.1.0 k.1.1.0 (h.1.1.1 ∙ ap (λ (z : Name). z.text) (one_there _ h.0 k.0 h.1.0 k.1.0) ∙ sym k.1.1.1))
   one_value bs (tuple ss) t (Value-F.Tuple a) (Value-F.Tuple b) type h k =
-      let texts : chosen (constants_of ss) (places (sizes ss) a) ≡ chosen (constants_of ss) (places (sizes ss) b) = h.1.1.1 ∙ ap texts_of (some_same _ h.1.0 k.1.0 h.1.1.0 k.1.1.0) ∙ sym k.1.1.1 in
+      let texts : chosen (constants_of ss) (places (sizes ss) a) ≡ chosen (constants_of ss) (places (sizes ss) b) = h.1.1.1 ∙ ap texts_of (one_there _ h.1.0 k.1.0 h.1.1.0 k.1.1.0) ∙ sym k.1.1.1 in
       let alike = same_chosen ss (places (sizes ss) a) (places (sizes ss) b) type.domains (places_in_range (sizes ss) a h.0) (places_in_range (sizes ss) b k.0) texts in
       ap Value-F.Tuple (sym (index_of_places (sizes ss) a h.0) ∙ ap (index (sizes ss)) alike ∙ index_of_places (sizes ss) b k.0)
   one_value bs truth t (Value-F.Bool a) (Value-F.Bool b) type h k =
-      ap Value-F.Bool (one_truth a b (sym h.1.1 ∙ ap (λ (z : Name). z.text) (some_same _ h.0 k.0 h.1.0 k.1.0) ∙ k.1.1))
-  one_value bs integer t (Value-F.Int a) (Value-F.Int b) type h k = ap Value-F.Int (some_same _ a b h k)
-  one_value bs text t (Value-F.Str a) (Value-F.Str b) type h k = ap Value-F.Str (sym h.1.1 ∙ ap (λ (z : Name). z.text) (some_same _ h.0 k.0 h.1.0 k.1.0) ∙ k.1.1)
+      ap Value-F.Bool (one_truth a b (sym h.1.1 ∙ ap (λ (z : Name). z.text) (one_there _ h.0 k.0 h.1.0 k.1.0) ∙ k.1.1))
+  one_value bs integer t (Value-F.Int a) (Value-F.Int b) type h k = ap Value-F.Int (one_there _ a b h k)
+  one_value bs text t (Value-F.Str a) (Value-F.Str b) type h k = ap Value-F.Str (sym h.1.1 ∙ ap (λ (z : Name). z.text) (one_there _ h.0 k.0 h.1.0 k.1.0) ∙ k.1.1)
   one_value bs (set s) t (Value-F.Set a) (Value-F.Set b) type h k =
       ap Value-F.Set (increasing_same a b h.0 k.0 (λ n. same_flag (has a n) (has b n) (λ e. (k.1 n).1 ((h.1 n).0 e)) (λ e. (h.1 n).1 ((k.1 n).0 e))))
   one_value bs (iset s) t (Value-F.Set a) (Value-F.Set b) type h k =
       ap Value-F.Set (increasing_same a b h.0 k.0 (λ n. same_flag (has a n) (has b n) (λ e. (k.1 n).1 ((h.1 n).0 e)) (λ e. (h.1 n).1 ((k.1 n).0 e))))
   one_value bs card t (Value-F.Card a) (Value-F.Card b) type h k =
-      ap Value-F.Card (one_allowed h.0 a b h.1.1 (subst (λ (w : Card). AllowedBy w b) (some_same _ k.0 h.0 k.1.0 h.1.0) k.1.1))
+      ap Value-F.Card (one_allowed h.0 a b h.1.1 (subst (λ (w : Card). AllowedBy w b) (one_there _ k.0 h.0 k.1.0 h.1.0) k.1.1))
   one_value bs (valency key) t (Value-F.Valency a) (Value-F.Valency b) type h k =
       ap Value-F.Valency (said_same 0 a b h.0 k.0 (λ n. said_once AllowedBy one_allowed (written_at (all_told (counts_of t)) (constants key) n) (said_at a n) (said_at b n) (h.1 n) (k.1 n)))
   one_value bs (mapping key u) t (Value-F.Map a) (Value-F.Map b) type h k =

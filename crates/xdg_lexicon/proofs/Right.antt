@@ -22,7 +22,7 @@ use Rattle.xdg_lexicon.specs.Lexicon.{whole_record, record_then, records_of, who
 use Rattle.xdg_facts.proofs.Lists.{any_default}
 use Rattle.xdg_facts.specs.Membership.{Differ}
 use Rattle.xdg_types.proofs.Kept.{keeps_found, place_below, types_of}
-use Rattle.xdg_lexicon.proofs.OneMeaning.{some_same}
+use Rattle.xdg_facts.proofs.Options.{one_value}
 
 -- ---- types
 
@@ -90,7 +90,7 @@ whole_right table p entry is partial made = record {
   each = λ d dim used.
       let at = record_at table.dims p table.used entry d used.0 made used.1.0 in
       let found = some_record (slice_get table.dims used.0) (said_of p used.0) (get_or entry d []) at in
-      let same : found.0 ≡ dim = some_same (slice_get table.dims used.0) found.0 dim found.1.0 used.1.1 in
+      let same : found.0 ≡ dim = one_value (slice_get table.dims used.0) found.0 dim found.1.0 used.1.1 in
       let right = subst (λ fs. IsRecord fs (said_of p used.0)) (same_features dim.fields) (partial.each used.0 dim used.1.1) in
       record_is_whole dim (said_of p used.0) (get_or entry d []) (keeps_found table.dims used.0 dim used.1.1 is.dims) right
       (subst (λ (x : DimType). filled_fields 0 (fields_of (typed x.fields)) (said_of p used.0) ≡ Some (get_or entry d [])) same found.1.1);

@@ -10,7 +10,6 @@ use Rattle.xdg_domain.specs.Shapes.{Shape, shape}
 use Rattle.xdg_domain.specs.declared.types.Ty.{Ty}
 use Rattle.xdg_types.specs.Table.{Table, typed, firsts, IsTable, dim_named}
 use Rattle.xdg_types.specs.declared.table.DimType.{DimType}
-use Rattle.xdg_packed.proofs.Laws.{if_some}
 use Rattle.xdg_terms.specs.Answers.{IsRight}
 use Rattle.xdg_terms.specs.Closed.{closed}
 use Rattle.xdg_terms.specs.Forms.{Term, Bindings, bound_to}
@@ -31,11 +30,11 @@ use Rattle.xdg_lexicon.specs.Denotes.{closed_args}
 use Rattle.xdg_lexicon.specs.Partial.{written}
 use Rattle.xdg_lexicon.specs.Right.{AreRight, IsRightUnder}
 use Rattle.xdg_types.proofs.Kept.{keeps_at}
-use Rattle.xdg_lexicon.proofs.Once.{one_named}
-use Rattle.xdg_facts.proofs.Lists.{fused}
+use Rattle.xdg_facts.proofs.Lists.{fused, if_some}
 use Rattle.xdg_facts.proofs.Texts.{same_text, is_same}
 use Rattle.xdg_facts.specs.Membership.{In, Differ}
 use Rattle.xdg_facts.proofs.In.{flat_map_in, in_at, in_index, in_map, map_in}
+use Rattle.xdg_facts.proofs.Named.{one_named}
 
 -- ---- features by name
 

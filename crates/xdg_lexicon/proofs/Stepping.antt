@@ -2,6 +2,7 @@
 use Rattle.std.proofs.Common.{◌≡◌, ℕ, ◌+◌, ◌<◌, ◌≤◌, List, [], ◌∷◌, ◌++◌, length, get_or, drop, take, map, Result, Ok, Err, sym, ap, ◌∙◌, subst, inl, inr, arith}
 use Rattle.std.proofs.lemmas.List.{map-append, take_all, take-append-drop}
 use Rattle.xdg_facts.proofs.Lists.{from_place}
+use Rattle.xdg_facts.proofs.Fronts.{map_next}
 use Rattle.xdg_base.specs.Told.{Gives, answer_of}
 use Rattle.xdg_base.specs.declared.faults.Cause.{Cause}
 use Rattle.xdg_base.specs.declared.faults.Cause.TheVariants as causes
@@ -20,7 +21,6 @@ use Rattle.xdg_lexicon.specs.Sources.{Source, source_of, HasNumber}
 use Rattle.xdg_lexicon.specs.Lexicon.{Adds, SoFar, nothing_yet, IsWithinLimits, IsExpanded, Expands, ExpandsAll, no_more, one_more, AreFewEach, IsTooMany, many_uses, many_combos, unsaid, many_entries, many_of_word, Refuses}
 use Rattle.xdg_lexicon.specs.Steps.{one_of, AddsMembers, KeepsLimits, Once, AllOnce, CountsOne, AddsOne, ExpandsOne}
 use Rattle.xdg_packed.proofs.OfTable.{words_once}
-use Rattle.xdg_packed.proofs.Unpacked.{map_next}
 use Rattle.xdg_lexicon.proofs.Numbers.{number_once, number_told}
 use Rattle.xdg_lexicon.specs.Answers.{IsAnswer, Tells}
 use Rattle.xdg_lexicon.proofs.Only.{IsDefinite, not_within, only_expanded, only_refused}

@@ -12,12 +12,12 @@ use Rattle.xdg_domain.specs.Values.{EachSaid, IsValue, IsFieldOf}
 use Rattle.xdg_domain.specs.declared.types.Ty.{Ty}
 use Rattle.xdg_domain.specs.declared.values.Value.{Value}
 use Rattle.xdg_domain.proofs.Keyed.{at_head, after_head, unsaid}
-use Rattle.xdg_packed.proofs.Growing.{cut_last}
 use Rattle.xdg_terms.proofs.SaidKeys.{rises_later}
 use Rattle.xdg_lexicon.specs.Made.{entry, IsMade, EndsAt}
 use Rattle.xdg_lexicon.specs.Partial.{Record, IsRecord}
 use Rattle.xdg_lexicon.proofs.Fields.{All, Joining, field_within, said_value, joined_told, clash_told, joined_all}
 use Rattle.xdg_lexicon.proofs.Made.{beyond, before, last, start}
+use Rattle.xdg_facts.proofs.Fronts.{cut_last}
 
 -- ---- the last key of a list
 

@@ -5,9 +5,9 @@ use Rattle.std.proofs.lemmas.List.{length-map}
 use Rattle.std.specs.Cmp.Lexicographic.{bytes_decides}
 use Rattle.std.specs.List.{AllByRecursion}
 use Rattle.xdg_facts.specs.Fits.{Fits}
-use Rattle.xdg_facts.specs.Listing.{Member, RisesFrom, IsListing}
+use Rattle.xdg_facts.specs.Listing.{RisesFrom, IsListing}
 use Rattle.xdg_facts.specs.Order.{Less}
-use Rattle.xdg_facts.proofs.Exists.{decided_listing_within, each_weaker}
+use Rattle.xdg_facts.proofs.Exists.{decided_listing_within}
 use Rattle.xdg_problem.specs.declared.parts.SentenceWord.{SentenceWord}
 use Rattle.xdg_linear.specs.Arrangements.{times, IsArrangement}
 use Rattle.xdg_linear.specs.Laws.{HasOneList, OneList, AreListed, shape_of}
@@ -16,6 +16,9 @@ use Rattle.xdg_linear.specs.Ranks.{rank_of, ranks_of}
 use Rattle.xdg_linear.proofs.Ends.{no_more}
 use Rattle.xdg_linear.proofs.Fronts.{all_unique, rises_tail}
 use Rattle.xdg_linear.proofs.Times.{at_times, times-same, times-other}
+use Rattle.xdg_facts.proofs.Each.{each_weaker}
+use Rattle.xdg_facts.specs.Membership.{In}
+use Rattle.xdg_facts.proofs.Decided.{decided_below}
 
 -- ---- ranks are below the number of words
 
@@ -44,10 +47,6 @@ ranks_below words = all_mapped (λ rank. rank < length words) (λ word. rank_of 
 
 -- ---- and so are the numbers of arrangements
 
-all_weaker : (P Q : ℕ → Type 0) (xs : List ℕ) → ((x : ℕ) → P x → Q x) → AllByRecursion P xs → AllByRecursion Q xs
-all_weaker P Q [] weaker each = tt
-all_weaker P Q (x ∷ xs) weaker each = (weaker x each.0, all_weaker P Q xs weaker each.1)
-
 times_more : (n x : ℕ) (xs : List ℕ) → times n xs ≤ times n (x ∷ xs)
 times_more n x xs = more (cond (x == n) 1 0) (times n xs) where
   more : (j k : ℕ) → k ≤ j + k
@@ -61,7 +60,7 @@ all_stand (x ∷ xs) ys within = (
 )
 
 pub arrangement_each : (P : ℕ → Type 0) (ranks numbers : List ℕ) → IsArrangement ranks numbers → AllByRecursion P ranks → AllByRecursion P numbers
-arrangement_each P ranks numbers h each = all_weaker (λ x. 0 < times x ranks) P numbers (λ x stands. at_times P x ranks stands each) (all_stand numbers ranks (λ n. (let e = h.each n in omega (arith, e))))
+arrangement_each P ranks numbers h each = each_weaker (λ x. 0 < times x ranks) P numbers (λ x stands. at_times P x ranks stands each) (all_stand numbers ranks (λ n. (let e = h.each n in omega (arith, e))))
 
 fits_wide : (n : ℕ) (words : List SentenceWord) (numbers : List ℕ) → length numbers ≡ length words → AllByRecursion (λ x. x < n) numbers → Fits (map (λ word. n) words) numbers
 fits_wide n words [] size each = tt
@@ -76,19 +75,6 @@ fits_shape words numbers h = fits_wide (length words) words numbers (size_words 
 
 -- ---- whether numbers are an arrangement is decided
 
-below_or : (Q : ℕ → Type 0) → ((n : ℕ) → Q n ⊎ (Q n → ⊥)) → (b : ℕ) → ((n : ℕ) → n < b → Q n) ⊎ (((n : ℕ) → n < b → Q n) → ⊥)
-below_or Q d zero = inl (λ n lt. absurd (omega arith))
-below_or Q d (suc b) = elim (d b) [
-  | inl here ↦ elim (below_or Q d b) [
-    | inl each ↦ inl (λ n lt. elim (cases_eq n b) [
-      | inl e ↦ subst Q (sym e) here
-      | inr ne ↦ each n (omega arith)
-    ])
-    | inr not ↦ inr (λ each. not (λ n lt. each n (omega arith)))
-  ]
-  | inr not ↦ inr (λ each. not (each b (omega arith)))
-]
-
 fits_below : (n : ℕ) (words : List SentenceWord) (numbers : List ℕ) → Fits (map (λ word. n) words) numbers → AllByRecursion (λ x. x < n) numbers
 fits_below n words [] fits = tt
 fits_below n [] (x ∷ xs) fits = absurd fits
@@ -102,7 +88,7 @@ none_times b n (x ∷ xs) each le =
 
 arrangement_or : (words : List SentenceWord) (numbers : List ℕ) → Fits (shape_of words) numbers → IsArrangement (ranks_of words) numbers ⊎ (IsArrangement (ranks_of words) numbers → ⊥)
 arrangement_or words numbers fits = elim (cases_eq (length numbers) (length (ranks_of words))) [
-  | inl size ↦ elim (below_or Same (λ n. cases_eq (times n numbers) (times n (ranks_of words))) (length words)) [
+  | inl size ↦ elim (decided_below Same (length words) (λ n. cases_eq (times n numbers) (times n (ranks_of words)))) [
     | inl each ↦ inl (record { size = size; each = λ n. everywhere each n })
     | inr not ↦ inr (λ h. not (λ n lt. h.each n))
   ]
@@ -134,7 +120,7 @@ are_listed words all some h = record {
   all = λ x fits a less. h.all x a;
 }
 
-only_none : (numbers : List ℕ) → IsArrangement [] numbers → Member ([] ∷ []) numbers
+only_none : (numbers : List ℕ) → IsArrangement [] numbers → In ([] ∷ []) numbers
 only_none [] h = inl refl
 only_none (x ∷ xs) h = absurd (no_more x xs h)
 

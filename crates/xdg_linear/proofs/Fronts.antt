@@ -1,42 +1,20 @@
 -- What has been passed is a front of the list of all arrangements.
 use Rattle.std.proofs.Common.{◌≡◌, ◌⊎◌, inl, inr, ℕ, List, [], ◌∷◌, ◌++◌, Option, Some, None, refl, sym, ap, ◌∙◌, subst}
 use Rattle.std.specs.List.{AllByRecursion}
-use Rattle.xdg_facts.specs.Listing.{Member, RisesFrom}
+use Rattle.xdg_facts.specs.Listing.{RisesFrom}
 use Rattle.xdg_facts.specs.Order.{Less}
-use Rattle.xdg_facts.proofs.Exists.{each_weaker}
 use Rattle.xdg_facts.proofs.Ordered.{less_irreflexive, less_transitive}
-use Rattle.xdg_facts.proofs.Unique.{rises_above}
+use Rattle.xdg_facts.proofs.Unique.{rises_above, all_above, from_left}
 use Rattle.xdg_linear.specs.Arrangements.{IsArrangement, IsAfter}
 use Rattle.xdg_linear.specs.Laws.{PassedFirst, PassedAll}
 use Rattle.xdg_linear.specs.Listed.{Rises, AreAll, AreArrangements, ArePassed, AreLeft}
 use Rattle.xdg_linear.proofs.Reaching.{after_or}
-use Rattle.xdg_facts.proofs.Lists.{each_left}
+use Rattle.xdg_facts.proofs.Each.{each_weaker, each_in, each_both, each_right, each_left}
+use Rattle.xdg_facts.proofs.In.{in_append}
 
 pub rises_tail : (a : List ℕ) (xs : List (List ℕ)) → RisesFrom a xs → Rises xs
 rises_tail a [] r = tt
 rises_tail a (x ∷ xs) r = r.1
-
-each_both : (P Q : List ℕ → Type 0) (xs : List (List ℕ)) → AllByRecursion P xs → AllByRecursion Q xs → AllByRecursion (λ x. P x × Q x) xs
-each_both P Q [] p q = tt
-each_both P Q (x ∷ xs) p q = ((p.0, q.0), each_both P Q xs p.1 q.1)
-
-each_right : (P : List ℕ → Type 0) (xs ys : List (List ℕ)) → AllByRecursion P (xs ++ ys) → AllByRecursion P ys
-each_right P [] ys p = p
-each_right P (x ∷ xs) ys p = each_right P xs ys p.1
-
-each_member : (P : List ℕ → Type 0) (x : List ℕ) (xs : List (List ℕ)) → AllByRecursion P xs → Member xs x → P x
-each_member P x [] p m = absurd m
-each_member P x (y ∷ ys) p (inl e) = subst P (sym e) p.0
-each_member P x (y ∷ ys) p (inr m) = each_member P x ys p.1 m
-
-member_cases : (x : List ℕ) (xs ys : List (List ℕ)) → Member (xs ++ ys) x → Member xs x ⊎ Member ys x
-member_cases x [] ys m = inr m
-member_cases x (y ∷ xs) ys (inl e) = inl (inl e)
-member_cases x (y ∷ xs) ys (inr m) = elim (member_cases x xs ys m) [ inl k ↦ inl (inr k) | inr k ↦ inr k ]
-
-pub from_left : (a : List ℕ) (xs ys : List (List ℕ)) → RisesFrom a (xs ++ ys) → RisesFrom a xs
-from_left a [] ys r = tt
-from_left a (x ∷ xs) ys r = (r.0, from_left x xs ys r.1)
 
 rises_left : (xs ys : List (List ℕ)) → Rises (xs ++ ys) → Rises xs
 rises_left [] ys r = tt
@@ -46,10 +24,6 @@ rises_right : (xs ys : List (List ℕ)) → Rises (xs ++ ys) → Rises ys
 rises_right [] ys r = r
 rises_right (x ∷ xs) ys r = rises_right xs ys (rises_tail x (xs ++ ys) r)
 
-all_above : (a : List ℕ) (xs : List (List ℕ)) → RisesFrom a xs → AllByRecursion (λ x. Less a x) xs
-all_above a [] r = tt
-all_above a (x ∷ xs) r = (r.0, each_weaker (λ y. Less x y) (λ y. Less a y) xs (λ y less. less_transitive a x y r.0 less) (all_above x xs r.1))
-
 -- ---- there is one list at most
 
 are_all_tail : (P : List ℕ → Type 0) (x : List ℕ) (xs : List (List ℕ)) → AreAll P (x ∷ xs) → AreAll (λ z. P z × Less x z) xs
@@ -57,7 +31,7 @@ are_all_tail P x xs h = record {
   rises = rises_tail x xs h.rises;
   each = each_both P (λ z. Less x z) xs h.each.1 (all_above x xs h.rises);
   all = λ z k. elim (h.all z k.0) [
-    | inl e ↦ absurd (less_irreflexive x (subst (λ w. Less x w) e k.1))
+    | inl e ↦ absurd (less_irreflexive x (subst (λ w. Less x w) (sym e) k.1))
     | inr m ↦ m
   ];
 }
@@ -68,9 +42,9 @@ all_unique P [] (y ∷ ys) h k = absurd (h.all y k.each.0)
 all_unique P (x ∷ xs) [] h k = absurd (k.all x h.each.0)
 all_unique P (x ∷ xs) (y ∷ ys) h k =
     let same : x ≡ y = elim (k.all x h.each.0) [
-      | inl e ↦ e
+      | inl e ↦ sym e
       | inr m ↦ elim (h.all y k.each.0) [
-        | inl e ↦ sym e
+        | inl e ↦ e
         | inr n ↦ absurd (less_irreflexive x (less_transitive x y x (rises_above x y xs h.rises n) (rises_above y x ys k.rises m)))
       ]
     ] in
@@ -107,9 +81,9 @@ module _ (ranks : List ℕ) (present : Option (List ℕ)) (first rest : List (Li
   are_passed = record {
     rises = rises_left first rest h.rises;
     each = each_both (IsArrangement ranks) (λ x. IsAfter present x → ⊥) first (each_left (IsArrangement ranks) first rest h.each) before;
-    all = λ x k. elim (member_cases x first rest (h.all x k.0)) [
+    all = λ x k. elim (in_append first rest x (h.all x k.0)) [
       | inl m ↦ m
-      | inr m ↦ absurd (k.1 (each_member (IsAfter present) x rest after m))
+      | inr m ↦ absurd (k.1 (each_in (IsAfter present) rest x after m))
     ];
   }
 
@@ -117,8 +91,8 @@ module _ (ranks : List ℕ) (present : Option (List ℕ)) (first rest : List (Li
   are_left = record {
     rises = rises_right first rest h.rises;
     each = each_both (IsArrangement ranks) (IsAfter present) rest (each_right (IsArrangement ranks) first rest h.each) after;
-    all = λ x k. elim (member_cases x first rest (h.all x k.0)) [
-      | inl m ↦ absurd (each_member (λ y. IsAfter present y → ⊥) x first before m k.1)
+    all = λ x k. elim (in_append first rest x (h.all x k.0)) [
+      | inl m ↦ absurd (each_in (λ y. IsAfter present y → ⊥) first x before m k.1)
       | inr m ↦ m
     ];
   }

@@ -7,11 +7,12 @@ use Rattle.xdg_problem.specs.declared.parts.SentenceWord.{SentenceWord}
 use Rattle.xdg_linear.specs.Arranged.{Arranged, Advances, IsHeld, arranged, shown, words_in}
 use Rattle.xdg_linear.specs.Arrangements.{IsArrangement, IsNext, IsLast}
 use Rattle.xdg_linear.specs.Ranks.{rank_of, ranks_of, words_at}
-use Rattle.xdg_linear.proofs.Ends.{climbing_least, climbs_from}
+use Rattle.xdg_linear.proofs.Ends.{climbing_least}
 use Rattle.xdg_linear.proofs.Existing.{arrangement_each, ranks_below}
 use Rattle.xdg_linear.proofs.Reaching.{advances_more, advances_last}
 use Rattle.xdg_linear.proofs.Times.{arrangement_permuted, arrangement_joined, arrangement_back}
 use Rattle.xdg_facts.proofs.Lists.{all_at, some_at}
+use Rattle.xdg_facts.proofs.Sorting.{climbs_from}
 
 abbrev pub seen : List SentenceWord → Bool → List ℕ → Arranged
 seen words begun numbers = record { words = words; present = shown begun numbers }

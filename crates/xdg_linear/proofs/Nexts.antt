@@ -1,11 +1,12 @@
 -- What the steps of a call come to: the next arrangement.
 use Rattle.std.proofs.Common.{◌≡◌, ◌<◌, ◌≤◌, ◌+◌, ◌-◌, ℕ, zero, suc, List, [], ◌∷◌, ◌++◌, Some, length, ap, sym, ◌∙◌, subst, arith, reverse, get_or, set, take, drop, swap, length-drop}
-use Rattle.std.proofs.lemmas.List.{drop_more, get_or_default, get_or-drop}
+use Rattle.std.proofs.lemmas.List.{drop_more, get_or-drop}
 use Rattle.std.specs.List.{AllByRecursion}
 use Rattle.xdg_linear.specs.Arrangements.{IsNext, IsLast}
 use Rattle.xdg_linear.specs.Falling.{Falls, IsPivot, IsSuccessor}
 use Rattle.xdg_linear.proofs.Ends.{falling_greatest}
 use Rattle.xdg_linear.proofs.Turning.{turned_next, next_cons}
+use Rattle.xdg_facts.proofs.Lists.{swap_is}
 
 -- ---- the scan from the end
 
@@ -37,13 +38,6 @@ pub falls_last : (xs : List ℕ) → Falls (drop (length xs - 1) xs)
 falls_last xs = falls_short (drop (length xs - 1) xs) (let size = length-drop (length xs - 1) xs in omega (arith, size))
 
 -- ---- the exchange
-
-swap_is : (xs : List ℕ) (p q : ℕ) → p < length xs → q < length xs → swap xs p q ≡ set (set xs p (get_or xs q 0)) q (get_or xs p 0)
-swap_is [] p q wp wq = absurd (omega arith)
-swap_is (d ∷ ys) p q wp wq =
-    let one = get_or_default (d ∷ ys) q d 0 wq in
-    let other = get_or_default (d ∷ ys) p d 0 wp in
-    ap (λ z. set (set (d ∷ ys) p z) q (get_or (d ∷ ys) p d)) one ∙ ap (λ z. set (set (d ∷ ys) p (get_or (d ∷ ys) q 0)) q z) other
 
 turned_behind : (xs : List ℕ) (p q : ℕ) → p < q → q < length xs → get_or xs p 0 < get_or xs q 0 → Falls (drop (suc p) xs) → ((k : ℕ) → q < k → k < length xs → get_or xs k 0 ≤ get_or xs p 0) →
     IsNext xs (Some xs) (take (suc p) (set (set xs p (get_or xs q 0)) q (get_or xs p 0)) ++ reverse (drop (suc p) (set (set xs p (get_or xs q 0)) q (get_or xs p 0))))

@@ -1,14 +1,15 @@
 -- What has been passed grows by the arrangement that a call reaches.
 use Rattle.std.proofs.Common.{◌≡◌, ◌⊎◌, inl, inr, ℕ, List, [], ◌∷◌, ◌++◌, Option, Some, None, Bool, true, false, sym, ap, subst}
 use Rattle.std.specs.List.{AllByRecursion}
-use Rattle.xdg_facts.specs.Order.{Less, AtMost}
-use Rattle.xdg_facts.proofs.Exists.{rises_append, each_weaker, member_left, member_right}
-use Rattle.xdg_facts.proofs.Ordered.{less_irreflexive, less_transitive, at_most_less, at_most_of, less_or, not_less}
+use Rattle.xdg_facts.specs.Order.{Less}
+use Rattle.xdg_facts.proofs.Exists.{rises_append}
+use Rattle.xdg_facts.proofs.Ordered.{less_irreflexive, less_transitive, at_most_less, at_most_of, less_or, not_less, same_least}
 use Rattle.xdg_linear.specs.Arranged.{Arranged, Advances, with_reached}
 use Rattle.xdg_linear.specs.Arrangements.{IsArrangement, IsAfter, IsNext, IsLast}
 use Rattle.xdg_linear.specs.Listed.{Rises, ArePassed}
 use Rattle.xdg_linear.specs.Ranks.{ranks_of}
-use Rattle.xdg_facts.proofs.Lists.{each_append}
+use Rattle.xdg_facts.proofs.Each.{each_weaker, each_append}
+use Rattle.xdg_facts.proofs.In.{in_left, in_right}
 
 rises_push : (xs : List (List ℕ)) (x : List ℕ) → Rises xs → AllByRecursion (λ z. Less z x) xs → Rises (xs ++ x ∷ [])
 rises_push [] x r each = tt
@@ -23,10 +24,6 @@ pub after_or : (present : Option (List ℕ)) (x : List ℕ) → IsAfter present 
 after_or None x = inl tt
 after_or (Some p) x = elim (less_or p x) [ inl less ↦ inl less | inr most ↦ inr (not_less x p most) ]
 
-same_least : (x y : List ℕ) → AtMost x y → (Less x y → ⊥) → y ≡ x
-same_least x y (inl e) n = sym e
-same_least x y (inr less) n = absurd (n less)
-
 passed_more : (ranks : List ℕ) (present : Option (List ℕ)) (x : List ℕ) (xs : List (List ℕ)) → ArePassed ranks present xs → IsNext ranks present x → ArePassed ranks (Some x) (xs ++ x ∷ [])
 passed_more ranks present x xs passed next =
     let Old : List ℕ → Type 0 = λ z. IsArrangement ranks z × (IsAfter present z → ⊥) in
@@ -36,8 +33,8 @@ passed_more ranks present x xs passed next =
       rises = rises_push xs x passed.rises (each_weaker Old (λ z. Less z x) xs below passed.each);
       each = each_append New xs (x ∷ []) (each_weaker Old New xs (λ z old. (old.0, λ less. less_irreflexive z (less_transitive z x z (below z old) less))) passed.each) ((next.arrangement, less_irreflexive x), tt);
       all = λ y new. elim (after_or present y) [
-        | inl after ↦ member_right y xs (x ∷ []) (inl (same_least x y (next.least y new.0 after) new.1))
-        | inr not ↦ member_left y xs (x ∷ []) (passed.all y (new.0, not))
+        | inl after ↦ in_right xs (x ∷ []) y (inl (same_least x y (next.least y new.0 after) new.1))
+        | inr not ↦ in_left xs (x ∷ []) y (passed.all y (new.0, not))
       ];
     }
 

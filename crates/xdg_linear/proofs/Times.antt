@@ -5,6 +5,7 @@ use Rattle.std.proofs.lemmas.List.Recursion.{is_sum_by}
 use Rattle.std.proofs.lemmas.List.Sorted.{sum_by-IsPermutation, length_permutation}
 use Rattle.std.specs.List.{AllByRecursion}
 use Rattle.xdg_linear.specs.Arrangements.{times, IsArrangement}
+use Rattle.xdg_facts.proofs.Numbers.{same_rest, same_size}
 
 pub times-same : (n : ℕ) (xs : List ℕ) → times n (n ∷ xs) ≡ 1 + times n xs
 times-same n xs = ap (λ b. cond b 1 0 + times n xs) (eq-eqb n n refl)
@@ -40,12 +41,6 @@ arrangement_back xs ys h = record { size = sym h.size; each = λ n. sym (h.each 
 
 pub arrangement_cons : (x : ℕ) (xs ys : List ℕ) → IsArrangement xs ys → IsArrangement (x ∷ xs) (x ∷ ys)
 arrangement_cons x xs ys h = record { size = ap suc h.size; each = λ n. ap (λ k. cond (x == n) 1 0 + k) (h.each n) }
-
-same_rest : (first one other : ℕ) → first + one ≡ first + other → one ≡ other
-same_rest first one other e = omega arith
-
-same_size : (one other : ℕ) → suc one ≡ suc other → one ≡ other
-same_size one other e = omega arith
 
 pub arrangement_tail : (x y : ℕ) (xs ys : List ℕ) → x ≡ y → IsArrangement (x ∷ xs) (y ∷ ys) → IsArrangement xs ys
 arrangement_tail x y xs ys e h =

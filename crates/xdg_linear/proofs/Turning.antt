@@ -8,36 +8,29 @@ use Rattle.xdg_facts.specs.Order.{Less, AtMost}
 use Rattle.xdg_linear.specs.Arrangements.{times, IsArrangement, IsNext}
 use Rattle.xdg_linear.specs.Falling.{Falls}
 use Rattle.xdg_linear.proofs.Times.{at_times, times_permuted, arrangement_joined, arrangement_back, arrangement_cons, arrangement_tail, first_stands}
-use Rattle.xdg_linear.proofs.Ends.{falling_greatest, at_most_cons, climbing_least, climbs_reverse}
+use Rattle.xdg_linear.proofs.Ends.{falling_greatest, climbing_least, climbs_reverse}
 use Rattle.xdg_facts.proofs.Lists.{all_at}
+use Rattle.xdg_facts.proofs.Each.{each_set, each_below}
+use Rattle.xdg_facts.proofs.Ordered.{at_most_cons}
 
 -- behind the place q no number is greater than a
 abbrev pub NoneBehind : List ℕ → ℕ → ℕ → Type 0
 NoneBehind xs q a = (k : ℕ) → q < k → k < length xs → get_or xs k 0 ≤ a
 
-all_set : (P : ℕ → Type 0) (xs : List ℕ) (q a : ℕ) → AllByRecursion P xs → P a → AllByRecursion P (set xs q a)
-all_set P [] q a each p = tt
-all_set P (x ∷ xs) zero a each p = (p, each.1)
-all_set P (x ∷ xs) (suc q) a each p = (each.0, all_set P xs q a each.1 p)
-
-all_below : (xs : List ℕ) (a : ℕ) → ((k : ℕ) → k < length xs → get_or xs k 0 ≤ a) → AllByRecursion (λ y. y ≤ a) xs
-all_below [] a none = tt
-all_below (x ∷ xs) a none = (none 0 (omega arith), all_below xs a (λ k lt. none (suc k) (omega arith)))
-
 -- with a at the place of the least greater number the numbers still fall
 falls_set : (xs : List ℕ) (q a : ℕ) → Falls xs → q < length xs → a < get_or xs q 0 → NoneBehind xs q a → Falls (set xs q a)
 falls_set [] q a f w l none = absurd (omega arith)
-falls_set (x ∷ xs) zero a f w l none = (all_below xs a (λ k lt. none (suc k) (omega arith) (omega arith)), f.1)
+falls_set (x ∷ xs) zero a f w l none = (each_below xs a (λ k lt. none (suc k) (omega arith) (omega arith)), f.1)
 falls_set (x ∷ xs) (suc q) a f w l none =
     let inside : q < length xs = omega arith in
     let most : get_or xs q 0 ≤ x = all_at (λ y. y ≤ x) xs q f.0 inside in
     let here : a < get_or xs q 0 = l in
-    (all_set (λ y. y ≤ x) xs q a f.0 (omega arith), falls_set xs q a f.1 inside l (λ k lt u. none (suc k) (omega arith) (omega arith)))
+    (each_set (λ y. y ≤ x) xs q a f.0 (omega arith), falls_set xs q a f.1 inside l (λ k lt u. none (suc k) (omega arith) (omega arith)))
 
 -- each number is at most a, or at least the one at q
 at_most_or : (xs : List ℕ) (q a : ℕ) → Falls xs → q < length xs → NoneBehind xs q a → AllByRecursion (λ y. (y ≤ a) ⊎ (get_or xs q 0 ≤ y)) xs
 at_most_or [] q a f w none = tt
-at_most_or (x ∷ xs) zero a f w none = (inr (le_refl x), behind xs (all_below xs a (λ k lt. none (suc k) (omega arith) (omega arith)))) where
+at_most_or (x ∷ xs) zero a f w none = (inr (le_refl x), behind xs (each_below xs a (λ k lt. none (suc k) (omega arith) (omega arith)))) where
   behind : (ys : List ℕ) → AllByRecursion (λ y. y ≤ a) ys → AllByRecursion (λ y. (y ≤ a) ⊎ (x ≤ y)) ys
   behind [] each = tt
   behind (y ∷ ys) each = (inl each.0, behind ys each.1)

@@ -1,5 +1,5 @@
 -- As lists of texts the arrangements are those that have each text as often as the words have it.
-use Rattle.std.proofs.Common.{◌≡◌, ◌<◌, ◌≤◌, ◌+◌, ◌⊎◌, inl, inr, ℕ, suc, List, [], ◌∷◌, ◌==◌, Bool, true, false, Some, cond, length, map, refl, sym, ap, ◌∙◌, subst, arith, slice_get, bytes_eq, eq-eqb, ne_eqb, one-add}
+use Rattle.std.proofs.Common.{◌≡◌, ◌<◌, ◌≤◌, ◌+◌, inl, inr, ℕ, suc, List, [], ◌∷◌, ◌==◌, Some, cond, length, map, refl, sym, ap, ◌∙◌, subst, arith, slice_get, bytes_eq, eq-eqb, ne_eqb, one-add}
 use Rattle.std.proofs.lemmas.Bool.{cases_lt}
 use Rattle.std.proofs.lemmas.List.{length-map}
 use Rattle.std.specs.List.{AllByRecursion, cons_option}
@@ -9,15 +9,7 @@ use Rattle.xdg_linear.specs.Ranks.{rank_of, ranks_of, words_at}
 use Rattle.xdg_linear.specs.Texts.{texts_of, texts_at, text_times, HasEachText, TextsArranged}
 use Rattle.xdg_linear.proofs.Existing.{arrangement_each}
 use Rattle.xdg_linear.proofs.Times.{at_times}
-use Rattle.xdg_facts.proofs.Texts.{same_text, is_same}
-
--- ---- texts as tests
-
-text_or : (one other : List ℕ) → ((bytes_eq one other ≡ true) × (one ≡ other)) ⊎ ((bytes_eq one other ≡ false) × (one ≡ other → ⊥))
-text_or one other = by (bytes_eq one other) refl where
-  by : (b : Bool) → bytes_eq one other ≡ b → ((bytes_eq one other ≡ true) × (one ≡ other)) ⊎ ((bytes_eq one other ≡ false) × (one ≡ other → ⊥))
-  by true e = inl (e, same_text one other e)
-  by false e = inr (e, λ same. (let h : true ≡ false = sym (is_same one other same) ∙ e in cc))
+use Rattle.xdg_facts.proofs.Texts.{is_same, text_or}
 
 -- ---- the first word of a text
 

@@ -1,8 +1,9 @@
 -- The list of all arrangements, and how far it has been passed.
 use Rattle.std.specs.Prelude.{ℕ, List, [], ◌∷◌, Option}
 use Rattle.std.specs.List.{AllByRecursion}
-use Rattle.xdg_facts.specs.Listing.{Member, RisesFrom}
+use Rattle.xdg_facts.specs.Listing.{RisesFrom}
 use Rattle.xdg_linear.specs.Arrangements.{IsArrangement, IsAfter}
+use Rattle.xdg_facts.specs.Membership.{In}
 
 -- the lists rise strictly, so that none stands twice
 abbrev pub Rises : List (List ℕ) → Type 0
@@ -13,7 +14,7 @@ Rises (x ∷ xs) = RisesFrom x xs
 pub record AreAll (P : List ℕ → Type 0) (xs : List (List ℕ)) : Type 0 where
   pub rises : Rises xs
   pub each : AllByRecursion P xs
-  pub all : (x : List ℕ) → P x → Member xs x
+  pub all : (x : List ℕ) → P x → In xs x
 
 -- the arrangements, each once
 abbrev pub AreArrangements : List ℕ → List (List ℕ) → Type 0

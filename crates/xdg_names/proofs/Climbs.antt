@@ -7,14 +7,7 @@ use Rattle.std.proofs.lemmas.Bool.{cases_eq, cases_lt}
 use Rattle.xdg_names.specs.Leads.{number}
 use Rattle.xdg_names.specs.Walks.{Climbs}
 use Rattle.xdg_facts.specs.Membership.{In}
-use Rattle.xdg_facts.proofs.In.{in_append, in_left, in_right}
-
-pub is_last : (front : List ℕ) (y : ℕ) → In (front ++ y ∷ []) y
-is_last front y = in_right front (y ∷ []) y (inl refl)
-
--- one of the front, or the last
-pub in_parts : (front : List ℕ) (y a : ℕ) → In (front ++ y ∷ []) a → In front a ⊎ (a ≡ y)
-in_parts front y a h = elim (in_append front (y ∷ []) a h) [ inl l ↦ inl l | inr r ↦ elim r [ inl e ↦ inr (sym e) | inr none ↦ absurd none ] ]
+use Rattle.xdg_facts.proofs.In.{in_left, in_parts, is_last}
 
 pub at_last : (front : List ℕ) (y : ℕ) → number (front ++ y ∷ []) (length front) ≡ y
 at_last front y = get_or-append_seam front y [] 0

@@ -6,11 +6,11 @@ use Rattle.std.proofs.lemmas.List.Sums.{sum_by-set}
 use Rattle.std.proofs.lemmas.Bool.{cases_eq, cases_lt}
 use Rattle.xdg_names.specs.Leads.{number}
 use Rattle.xdg_names.specs.Walks.{AreMarks, Closes, IsClosingGroup, fresh_at, unmet}
-use Rattle.xdg_names.proofs.Climbs.{is_last, at_last, at_front, marked_within, set_at}
+use Rattle.xdg_names.proofs.Climbs.{at_last, at_front, marked_within, set_at}
 use Rattle.xdg_names.proofs.Marks.{not_fresh, weaker}
 use Rattle.xdg_facts.proofs.Lists.{length_more}
 use Rattle.xdg_facts.specs.Membership.{In}
-use Rattle.xdg_facts.proofs.In.{in_left}
+use Rattle.xdg_facts.proofs.In.{in_left, is_last}
 
 -- the last one of the stack
 module _ (n : ℕ) (marks front : List ℕ) (b : ℕ) (order : List ℕ) (given : ℕ) (v : AreMarks n marks (front ++ b ∷ []) order (given + 1)) where

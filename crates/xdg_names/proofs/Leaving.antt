@@ -5,10 +5,10 @@ use Rattle.xdg_names.specs.declared.graph.Use.{Use}
 use Rattle.xdg_names.specs.Leads.{uses_of, Leads, number}
 use Rattle.xdg_names.specs.Closing.{the_use}
 use Rattle.xdg_names.specs.Walks.{IsWalking, NotBelow, IsLooked, Closes}
-use Rattle.xdg_names.proofs.Climbs.{is_last, in_parts, climbs_front, climbs_last, climbs_same}
+use Rattle.xdg_names.proofs.Climbs.{climbs_front, climbs_last, climbs_same}
 use Rattle.xdg_names.proofs.Marks.{given_below}
 use Rattle.xdg_facts.specs.Membership.{In}
-use Rattle.xdg_facts.proofs.In.{in_left, in_index}
+use Rattle.xdg_facts.proofs.In.{in_left, in_index, is_last, in_parts}
 
 module _ (g : List (List Use)) (marks left stack starts front : List ℕ) (x : ℕ) (order : List ℕ) (next : ℕ) (v : IsWalking g marks left stack starts (front ++ x ∷ []) order next) where
   pub last_on : length g < number marks x

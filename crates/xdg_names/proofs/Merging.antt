@@ -4,10 +4,10 @@ use Rattle.std.proofs.lemmas.Bool.{cases_lt}
 use Rattle.xdg_names.specs.declared.graph.Use.{Use}
 use Rattle.xdg_names.specs.Leads.{Leads, number}
 use Rattle.xdg_names.specs.Walks.{IsWalking, NotBelow, IsLooked, Climbs, Merges}
-use Rattle.xdg_names.proofs.Climbs.{in_parts, climbs_front, climbs_last}
+use Rattle.xdg_names.proofs.Climbs.{climbs_front, climbs_last}
 use Rattle.xdg_names.proofs.Walking.{leads_on}
 use Rattle.xdg_facts.specs.Membership.{In}
-use Rattle.xdg_facts.proofs.In.{in_left}
+use Rattle.xdg_facts.proofs.In.{in_left, in_parts}
 
 -- Starts with greater marks are gone, and those that stand there began there.
 pub record IsMerging (marks : List ℕ) (top : ℕ) (starts starts' : List ℕ) : Type 0 where

@@ -10,16 +10,10 @@ use Rattle.std.proofs.lemmas.Slice.Eq.{bytes_eq-Decides}
 use Rattle.xdg_names.specs.Texts.{has_text, place_of, AllDiffer}
 use Rattle.xdg_facts.proofs.Texts.{either_way, equal}
 use Rattle.xdg_facts.specs.Membership.{In}
-use Rattle.xdg_facts.proofs.Truths.{none_or}
+use Rattle.xdg_facts.proofs.Truths.{none_or, neither}
+use Rattle.xdg_facts.proofs.Options.{some_later}
 
 -- ---- tests and places
-
-or_none : (a b : Bool) → a ≡ false → b ≡ false → (a || b) ≡ false
-or_none a b p q = ap (λ c. c || b) p ∙ q
-
-some_later : (place : Option ℕ) → is_some (option_map suc place) ≡ is_some place
-some_later None = refl
-some_later (Some n) = refl
 
 later : (found : Option ℕ) (place : ℕ) → option_map suc found ≡ Some place → (before : ℕ) × (found ≡ Some before) × (suc before ≡ place)
 later None place e = absurd (true≢false (sym (ap is_some e)))
@@ -167,7 +161,7 @@ AllDiffer-append [] text differ e = (refl, tt)
 AllDiffer-append (first ∷ texts) text differ e =
     let n = none_or (bytes_eq first text) (has_text texts text) e in (
       has_text-append texts (text ∷ []) first
-          ∙ or_none (has_text texts first) (bytes_eq text first || false) differ.0 (or-false (bytes_eq text first) ∙ either_way text first ∙ n.0),
+          ∙ neither (has_text texts first) (bytes_eq text first || false) differ.0 (or-false (bytes_eq text first) ∙ either_way text first ∙ n.0),
       AllDiffer-append texts text differ.1 n.1,
     )
 

@@ -8,10 +8,10 @@ use Rattle.xdg_names.specs.declared.graph.Use.{Use}
 use Rattle.xdg_names.specs.Leads.{uses_of, IsPath, Leads, number}
 use Rattle.xdg_names.specs.Closing.{the_use}
 use Rattle.xdg_names.specs.Walks.{IsWalking, NotBelow, IsLooked, itself}
-use Rattle.xdg_names.proofs.Climbs.{is_last, in_parts, marked_within, set_at, climbs_push, climbs_same}
+use Rattle.xdg_names.proofs.Climbs.{marked_within, set_at, climbs_push, climbs_same}
 use Rattle.xdg_names.proofs.Marks.{push_kept, marks_push}
 use Rattle.xdg_facts.specs.Membership.{In}
-use Rattle.xdg_facts.proofs.In.{in_left, in_get}
+use Rattle.xdg_facts.proofs.In.{in_left, in_get, is_last, in_parts}
 
 pub path_join : (g : List (List Use)) (a : ℕ) (us : List Use) (b : ℕ) (vs : List Use) (c : ℕ) → IsPath g a us b → IsPath g b vs c → IsPath g a (us ++ vs) c
 path_join g a [] b vs c h k = subst (λ x. IsPath g x vs c) (sym h) k

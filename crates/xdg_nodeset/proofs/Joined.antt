@@ -1,37 +1,14 @@
 -- Two words side by side, as one number.
-use Rattle.std.proofs.Common.{◌≡◌, ℕ, ◌<◌, ◌≤◌, ◌+◌, ◌-◌, ◌*◌, ◌%◌, ◌^◌, ap, ap₂, sym, ◌∙◌, arith, inl, inr, bit_or}
+use Rattle.std.proofs.Common.{◌≡◌, ℕ, ◌<◌, ◌≤◌, ◌-◌, ◌*◌, ◌%◌, ◌^◌, ap, sym, ◌∙◌, arith, inl, inr, bit_or}
 use Rattle.std.specs.Prelude.{false, ◌==◌, cond}
 use Rattle.std.specs.Int.{bit_at}
-use Prim.Native.Nat.{max}
 use Rattle.std.proofs.lemmas.Bool.{cases_lt, lt-ltb, le-ltb}
-use Rattle.std.proofs.lemmas.Nat.Bits.{bit_at_or, bit_at_cat_low, bit_at_cat_high, bit_at_above, bit_at-zero}
+use Rattle.std.proofs.lemmas.Nat.Bits.{bit_at_above}
 use Rattle.xdg_nodeset.specs.Words.{in_words}
 use Rattle.xdg_facts.specs.Rises.{has}
 use Rattle.xdg_facts.specs.BitSets.{is_set, members}
 use Rattle.xdg_facts.proofs.Rising.{has_of, has_beyond}
-
-no_wrap : (high : ℕ) → high < 2 ^ 64 → high * 2 ^ 64 % 2 ^ 128 ≡ high * 2 ^ 64 + 0
-no_wrap high small = omega arith
-
-max_zero : (x : ℕ) → max x 0 ≡ x
-max_zero x = omega arith
-
-zero_max : (x : ℕ) → max 0 x ≡ x
-zero_max x = omega arith
-
-joined_low : (low high n : ℕ) → low < 2 ^ 64 → high < 2 ^ 64 → n < 64 → bit_at (bit_or low (high * 2 ^ 64 % 2 ^ 128)) n ≡ bit_at low n
-joined_low low high n l h below =
-    bit_at_or low (high * 2 ^ 64 % 2 ^ 128) n
-    ∙ ap (λ z. max (bit_at low n) (bit_at z n)) (no_wrap high h)
-    ∙ ap (max (bit_at low n)) (bit_at_cat_low high 64 0 n below ∙ bit_at-zero n)
-    ∙ max_zero (bit_at low n)
-
-joined_high : (low high n : ℕ) → low < 2 ^ 64 → high < 2 ^ 64 → 64 ≤ n → bit_at (bit_or low (high * 2 ^ 64 % 2 ^ 128)) n ≡ bit_at high (n - 64)
-joined_high low high n l h above =
-    bit_at_or low (high * 2 ^ 64 % 2 ^ 128) n
-    ∙ ap₂ (λ x z. max x (bit_at z n)) (bit_at_above low 64 n l above) (no_wrap high h)
-    ∙ zero_max (bit_at (high * 2 ^ 64 + 0) n)
-    ∙ bit_at_cat_high high 64 0 n (omega arith) above
+use Rattle.xdg_facts.proofs.Bits.{joined_low, joined_high}
 
 joined_bit : (low high n : ℕ) → low < 2 ^ 64 → high < 2 ^ 64 → is_set (bit_or low (high * 2 ^ 64 % 2 ^ 128)) n ≡ in_words low high n
 joined_bit low high n l h = elim (cases_lt n 64) [

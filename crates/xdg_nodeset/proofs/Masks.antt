@@ -1,25 +1,16 @@
 -- What an operation on bits does to the members.
-use Rattle.std.proofs.Common.{◌≡◌, ℕ, ◌<◌, ◌≤◌, ◌+◌, ◌-◌, ◌*◌, ◌/◌, ◌%◌, ◌^◌, zero, suc, [], ◌∷◌, ◌++◌, length, refl, ap, ap₂, sym, ◌∙◌, arith, inl, inr, bit_and, bit_or}
-use Rattle.std.specs.Prelude.{not, ◌&&◌, ◌||◌, ◌==◌, filter, nat_lt, nat_eq}
-use Rattle.std.specs.List.{range_with_len}
+use Rattle.std.proofs.Common.{◌≡◌, ℕ, ◌<◌, ◌≤◌, ◌+◌, ◌-◌, ◌*◌, ◌%◌, ◌^◌, [], ◌∷◌, ◌++◌, refl, ap, ap₂, sym, ◌∙◌, arith, inl, inr, bit_and, bit_or}
+use Rattle.std.specs.Prelude.{not, ◌&&◌, ◌||◌, ◌==◌, nat_lt}
 use Rattle.std.specs.Int.{bit_at, bit_not, w128, trailing_zeros, leading_zeros}
-use Rattle.std.specs.Int.RustNames.{count_ones}
-use Rattle.std.proofs.Math.Nat.{pow-suc}
-use Rattle.std.proofs.Math.Pow.{pow_mono}
-use Rattle.std.specs.Cmp.Lexicographic.{pointwise}
-use Rattle.std.proofs.lemmas.Bool.Decides.{same_from_decides}
-use Rattle.std.proofs.lemmas.Slice.Eq.{bytes_eq-Decides}
 use Prim.Native.Nat.{min, max}
-use Rattle.std.proofs.lemmas.Nat.{one_shl, ones_cat, ones_le_self, zero_from_ones}
-use Rattle.std.proofs.lemmas.Nat.Bits.{bit_at_and, bit_at_or, bit_at_not, bit_at-lt, bit_at_clear_same, bit_at_clear_other, bit_at_mask_inside, bit_at_mask_below, bit_at_mask_above}
-use Rattle.std.proofs.lemmas.Bool.{cases_eq, cases_lt, eq-eqb, ne_eqb, lt-ltb, le-ltb, cond_both, eqb-true}
+use Rattle.std.proofs.lemmas.Nat.{one_shl}
+use Rattle.std.proofs.lemmas.Nat.Bits.{bit_at_and, bit_at_or, bit_at_not, bit_at_clear_same, bit_at_clear_other, bit_at_mask_inside, bit_at_mask_below, bit_at_mask_above}
+use Rattle.std.proofs.lemmas.Bool.{cases_eq, cases_lt, eq-eqb, ne_eqb, lt-ltb, le-ltb}
 use Rattle.xdg_nodeset.specs.Nodes.{nodes, IsNodes, without, union, minus, between}
-use Rattle.xdg_facts.proofs.Bits.{halves}
-use Rattle.xdg_facts.proofs.Numbers.{zero_below_one, unset}
-use Rattle.xdg_facts.specs.Rises.{has, numbers_below}
+use Rattle.xdg_facts.specs.Rises.{has}
 use Rattle.xdg_facts.specs.BitSets.{is_set, members}
 use Rattle.xdg_facts.proofs.Rising.{numbers_agree, numbers_whole, but, first_of, last_of, rises_of, few_of}
-use Rattle.xdg_facts.proofs.BitMembers.{has_members, equal_bits, by_bits, lowest_bit, highest_bit}
+use Rattle.xdg_facts.proofs.BitMembers.{has_members, by_bits, lowest_bit, highest_bit}
 
 pub members_are_nodes : (b : ℕ) → IsNodes (members b)
 members_are_nodes b = record { rises = rises_of 128 (is_set b); whole = numbers_whole 128 (is_set b); few = few_of 128 (is_set b) }
@@ -39,30 +30,6 @@ without_bits b n within = numbers_agree 128 (is_set (bit_and b (bit_not w128 (1 
 
 -- ---- how many, the first and the last
 
-one_of_one : count_ones 1 ≡ 1
-one_of_one = elim (cases_eq (count_ones 1) 0) [ inl e ↦ absurd (let z = zero_from_ones 1 e in omega (arith, z)) | inr other ↦ omega (arith, other, ones_le_self 1) ]
-
-counted_from : (b m a : ℕ) → b / 2 ^ a < 2 ^ m → count_ones (b / 2 ^ a) ≡ length (filter (is_set b) (range_with_len a m))
-counted_from b zero a within = ap count_ones (zero_below_one (b / 2 ^ a) within) ∙ omega (arith, ones_le_self 0)
-counted_from b (suc m) a within =
-    let e = halves b a in
-    let q = b / 2 ^ (a + 1) in
-    let rest : count_ones q ≡ length (filter (is_set b) (range_with_len (a + 1) m)) = counted_from b m (a + 1) (omega (arith, e, within, pow-suc 2 m)) in
-    let both : count_ones (b / 2 ^ a) ≡ count_ones q + count_ones (bit_at b a) = ap count_ones e ∙ ones_cat 1 q (bit_at b a) (bit_at-lt b a) in
-    cond_both (is_set b a) (a ∷ filter (is_set b) (range_with_len (a + 1) m)) (filter (is_set b) (range_with_len (a + 1) m)) (λ s. count_ones (b / 2 ^ a) ≡ length s)
-    (λ t. let one = ap count_ones (eqb-true (bit_at b a) 1 t) ∙ one_of_one in omega (arith, both, rest, one))
-    (λ t. let none = ap count_ones (unset (bit_at b a) (bit_at-lt b a) t) in omega (arith, both, rest, none, ones_le_self 0))
-
-counted_below : (b bound : ℕ) → b < 2 ^ bound → count_ones b ≡ length (numbers_below bound (is_set b))
-unfolding numbers_below
-counted_below b bound within = ap count_ones (sym (whole b)) ∙ counted_from b bound 0 (rw (whole b) within)
-  where
-    whole : (q : ℕ) → q / 2 ^ 0 ≡ q
-    whole q = omega arith
-
-pub counted : (b : ℕ) → b < 2 ^ 128 → count_ones b ≡ length (members b)
-counted b within = counted_below b 128 within
-
 others : (b k : ℕ) → nodes (but (is_set b) k) ≡ without (members b) k
 others b k = numbers_agree 128 (but (is_set b) k) (λ m. not (m == k) && has (members b) m) (λ m below. ap (λ t. not (m == k) && t) (sym (has_members b m below)))
 
@@ -79,12 +46,6 @@ last_bit b some within =
     (last_of 128 (is_set b) k is.0 is.1 is.2 ∙ ap (λ s. s ++ k ∷ []) (others b k), is.0)
 
 -- ---- between two nodes
-
-powers_rise : (low high : ℕ) → low ≤ high → high < 128 → 1 * 2 ^ low % 2 ^ 128 ≤ 1 * 2 ^ high % 2 ^ 128
-powers_rise low high order within = rw (one_shl low 128 (omega (arith, order, within)), one_shl high 128 within) (pow_mono order)
-
-pub between_rises : (a b : ℕ) → a < 128 → b < 128 → 1 * 2 ^ min a b % 2 ^ 128 ≤ 1 * 2 ^ max a b % 2 ^ 128
-between_rises a b h k = powers_rise (min a b) (max a b) (omega arith) (omega (arith, h, k))
 
 strictly_between : (low high : ℕ) → low ≤ high → high < 128 → members (bit_and ((1 * 2 ^ high % 2 ^ 128) - (1 * 2 ^ low % 2 ^ 128)) (bit_not w128 (1 * 2 ^ low % 2 ^ 128))) ≡ nodes (λ n. nat_lt low n && nat_lt n high)
 strictly_between low high order within =
@@ -110,6 +71,3 @@ pub between_bits : (a b : ℕ) → a < 128 → b < 128 → members (bit_and ((1 
 between_bits a b h k = strictly_between (min a b) (max a b) (omega arith) (omega (arith, h, k))
 
 -- ---- two numbers are equal where they stand for equal lists
-
-pub same_bits : (a b : ℕ) → a < 2 ^ 128 → b < 2 ^ 128 → (a == b) ≡ pointwise nat_eq (members a) (members b)
-same_bits a b h k = same_from_decides (a == b) (pointwise nat_eq (members a) (members b)) (equal_bits a b h k) (bytes_eq-Decides (members a) (members b))

@@ -1,26 +1,12 @@
 -- Tables of sets in which one set changes.
-use Rattle.std.proofs.Common.{◌≡◌, ◌≢◌, ℕ, ◌+◌, ◌<◌, ◌≤◌, ◌⊎◌, ◌↔◌, ◌||◌, ◌&&◌, ◌==◌, inl, inr, Bool, true, false, List, [], length, get_or, refl, sym, ◌∙◌, ap, subst, zero, suc, replicate, Some, None, arith}
-use Rattle.std.specs.Prelude.{slice_get, slice_set, not}
-use Rattle.std.proofs.lemmas.Bool.{cases_eq, cases_lt, eq-eqb, eqb-true, false≢true}
-use Rattle.std.proofs.lemmas.List.{get_or-set_same, get_or-set_other, get_or_past, length-set, nil_from_length}
+use Rattle.std.proofs.Common.{◌≡◌, ◌≢◌, ℕ, ◌+◌, ◌<◌, ◌≤◌, ◌⊎◌, ◌↔◌, ◌||◌, ◌==◌, inl, inr, true, List, [], length, get_or, refl, sym, ◌∙◌, subst, zero, suc, replicate, Some, None, arith}
+use Rattle.std.specs.Prelude.{slice_get, slice_set}
+use Rattle.std.proofs.lemmas.Bool.{cases_eq, cases_lt, false≢true}
+use Rattle.std.proofs.lemmas.List.{get_or-set_same, get_or-set_other, get_or_past, length-set}
 use Rattle.xdg_nodeset.specs.Tables.{In, InBy}
 use Rattle.xdg_facts.proofs.Lookups.{read_none, read_some}
 use Rattle.xdg_facts.specs.Rises.{has}
-
-pub either : (p q : Bool) → ((p || q) ≡ true) ↔ ((p ≡ true) ⊎ (q ≡ true))
-either true q = (λ h. inl refl, λ h. refl)
-either false q = (λ h. inr h, λ h. elim h [ inl f ↦ absurd (false≢true f) | inr t ↦ t ])
-
-pub both : (p q : Bool) → ((p && q) ≡ true) ↔ ((p ≡ true) × (q ≡ true))
-both true q = (λ h. (refl, h), λ h. h.1)
-both false q = (λ h. absurd (false≢true h), λ h. h.0)
-
--- a set with one node more
-pub one_more : (set old : List ℕ) (to b : ℕ) → has set b ≡ ((b == to) || has old b) → (has set b ≡ true) ↔ ((has old b ≡ true) ⊎ (to ≡ b))
-one_more set old to b e = (
-  λ h. elim ((either (b == to) (has old b)).0 (sym e ∙ h)) [ inl s ↦ inr (sym (eqb-true b to s)) | inr o ↦ inl o ],
-  λ h. e ∙ (either (b == to) (has old b)).1 (elim h [ inl o ↦ inr o | inr s ↦ inl (eq-eqb b to (sym s)) ]),
-)
+use Rattle.xdg_facts.proofs.Sets.{none_in, one_more}
 
 pub added : (table : List (List ℕ)) (from to : ℕ) (set : List ℕ) → from < length table → ((n : ℕ) → has set n ≡ ((n == to) || has (get_or table from []) n)) → (a b : ℕ) → In (slice_set table from set) a b ↔ (In table a b ⊎ ((from ≡ a) × (to ≡ b)))
 added table from to set l more a b = elim (cases_eq a from) [
@@ -53,15 +39,6 @@ added_by table from label to set l m more a k b = elim (cases_eq a from) [
 ]
 
 -- a set that is extended
-
-pub extended_yes : (set beyond result : List ℕ) (middle b : ℕ) → has set middle ≡ true → has result b ≡ (has set b || has beyond b) → (has result b ≡ true) ↔ ((has set b ≡ true) ⊎ ((has set middle ≡ true) × (has beyond b ≡ true)))
-extended_yes set beyond result middle b h e = (
-  λ t. elim ((either (has set b) (has beyond b)).0 (sym e ∙ t)) [ inl o ↦ inl o | inr o ↦ inr (h, o) ],
-  λ t. e ∙ (either (has set b) (has beyond b)).1 (elim t [ inl o ↦ inl o | inr o ↦ inr o.1 ]),
-)
-
-pub extended_no : (set beyond : List ℕ) (middle b : ℕ) → has set middle ≡ false → (has set b ≡ true) ↔ ((has set b ≡ true) ⊎ ((has set middle ≡ true) × (has beyond b ≡ true)))
-extended_no set beyond middle b h = (λ t. inl t, λ t. elim t [ inl o ↦ o | inr o ↦ absurd (false≢true (sym h ∙ o.0)) ])
 
 -- each set of a table is extended, one after another
 
@@ -117,21 +94,8 @@ no_by table count labels set s e a l b h = empty_by count labels set a l b e (su
 
 -- sets that have no node, or all of some
 
-pub none_in : (set : List ℕ) (n : ℕ) → length set ≡ 0 → has set n ≡ true → ⊥
-none_in set n e h = false≢true (subst (λ z. has z n ≡ true) (nil_from_length set e) h)
-
 pub no_label : (sets : List (List ℕ)) (label l to : ℕ) → None ≡ slice_get sets l → l ≡ label → In sets label to → ⊥
 no_label sets label l to h e i = false≢true (subst (λ z. has z to ≡ true) (read_none sets label [] (subst (λ z. None ≡ slice_get sets z) e h)) i)
 
 pub no_node : (sets : List (List ℕ)) (label l to : ℕ) (set : List ℕ) → Some set ≡ slice_get sets l → l ≡ label → length set ≡ 0 → In sets label to → ⊥
 no_node sets label l to set h e none i = none_in set to none (subst (λ z. has z to ≡ true) (read_some sets label set [] (subst (λ z. Some set ≡ slice_get sets z) e h)) i)
-
-pub kept_in : (a b : Bool) → a ≡ true → (a && not b) ≡ false → b ≡ true
-kept_in true true e h = refl
-kept_in true false e h = absurd (false≢true (sym h))
-kept_in false b e h = absurd (false≢true e)
-
-pub none_outside : (nodes set outside : List ℕ) (to : ℕ) → ((n : ℕ) → has outside n ≡ (has nodes n && not (has set n))) → length outside ≡ 0 → has nodes to ≡ true → has set to ≡ true
-none_outside nodes set outside to rest none i =
-    let missing : has outside to ≡ false = ap (λ z. has z to) (nil_from_length outside none) in
-    kept_in (has nodes to) (has set to) i (sym (rest to) ∙ missing)

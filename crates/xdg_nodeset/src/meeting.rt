@@ -19,7 +19,7 @@ pub fn overlap(a: NodeSet, b: NodeSet) -> bool
 }
 
 /// A set, with what a second one adds to it where it has the node in the middle.
-#[tactic(auto, using(crate::proofs::TableSets::extended_yes, crate::proofs::TableSets::extended_no))]
+#[tactic(auto, using(xdg_facts::proofs::Sets::extended_yes, xdg_facts::proofs::Sets::extended_no))]
 pub fn extended(set: NodeSet, middle: u8, beyond: NodeSet) -> NodeSet
     requires { middle < 128 }
     ensures { (b : ℕ) → (has result b ≡ true) ↔ ((has set b ≡ true) ⊎ ((has set middle ≡ true) × (has beyond b ≡ true))) }

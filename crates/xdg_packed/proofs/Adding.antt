@@ -1,7 +1,7 @@
 -- An entry is added to a packed lexicon, or stands there already.
 use Rattle.std.proofs.Common.{◌≡◌, ℕ, suc, ◌+◌, ◌-◌, ◌<◌, ◌≤◌, true, false, List, [], ◌∷◌, ◌++◌, ◌⊎◌, length, get_or, map, take, refl, sym, ap, ap₂, subst, inl, inr, ◌∙◌, arith, true≢false}
 use Rattle.std.proofs.lemmas.Bool.{cases_lt}
-use Rattle.std.proofs.lemmas.List.{ext_get_or, map-append, length-map, length-append, get_or-map, get_or_past, take_more}
+use Rattle.std.proofs.lemmas.List.{map-append, length-map, length-append, get_or-map, get_or_past, take_more}
 use Rattle.std.proofs.lemmas.List.Elements.{All-take}
 use Rattle.std.proofs.Math.ListN.{get_or-append}
 use Rattle.std.proofs.Math.Seq.{get_or-append_seam}
@@ -12,27 +12,16 @@ use Rattle.xdg_packed.specs.Rows.{shown, IsTable, AreSpelled}
 use Rattle.xdg_packed.specs.Spelling.{numbers}
 use Rattle.xdg_packed.specs.Tables.{no_table, records, IsRight, AreTables, AddsEntry, IsWithoutLast, places_at, key, AreKeys}
 use Rattle.xdg_packed.specs.declared.table.Table.{Table}
-use Rattle.xdg_packed.proofs.Firsts.{each_pushed, in_shown, same_row}
-use Rattle.xdg_packed.proofs.Growing.{empty_right, cut_last}
+use Rattle.xdg_packed.proofs.Firsts.{in_shown, same_row}
+use Rattle.xdg_packed.proofs.Growing.{empty_right}
 use Rattle.xdg_packed.proofs.Packs.{taken_back}
 use Rattle.xdg_packed.proofs.Prefixes.{numbers_alone}
-use Rattle.xdg_packed.proofs.Unpacked.{all_places, row_back, columns_wide, columns_at, long_places}
+use Rattle.xdg_packed.proofs.Unpacked.{row_back, columns_wide, columns_at, long_places}
 use Rattle.xdg_facts.proofs.In.{in_get, in_index, map_in}
 use Rattle.xdg_facts.specs.Membership.{In}
-
--- ---- lists by their places
-
--- what two functions make of two lists is the same where it is at each place
-maps_agree : {A B : Type 0} (f g : A → B) (xs ys : List A) (d : A) → length xs ≡ length ys → ((i : ℕ) → i < length xs → f (get_or xs i d) ≡ g (get_or ys i d)) → map f xs ≡ map g ys
-maps_agree f g xs ys d size same =
-    let long = length-map xs f in
-    ext_get_or (f d) (map f xs) (map g ys) (long ∙ size ∙ sym (length-map ys g)) (λ i inside.
-    let within : i < length xs = omega (arith, long, inside) in
-    get_or-map f xs i d (f d) within ∙ same i within ∙ sym (get_or-map g ys i d (f d) (omega (arith, size, within))))
-
--- and then it is at each place
-at_place : {A B : Type 0} (f g : A → B) (xs : List A) (d : A) (i : ℕ) → i < length xs → map f xs ≡ map g xs → f (get_or xs i d) ≡ g (get_or xs i d)
-at_place f g xs d i within e = sym (get_or-map f xs i d (f d) within) ∙ ap (λ l. get_or l i (f d)) e ∙ get_or-map g xs i d (f d) within
+use Rattle.xdg_facts.proofs.Each.{each_pushed}
+use Rattle.xdg_facts.proofs.Lists.{all_places, maps_agree, map_place}
+use Rattle.xdg_facts.proofs.Fronts.{cut_last}
 
 -- ---- rows of tables
 
@@ -50,7 +39,7 @@ module _ (tables : List Table) (m k : ℕ) (one : Reach tables m) (other : Reach
   rows_told e = maps_agree (λ table. get_or (records table) m []) (λ table. get_or (records table) k []) tables tables no_table refl (λ dim within.
       let table = get_or tables dim no_table in
       in_shown table.rows table.places m (one dim within)
-      ∙ ap (λ p. get_or table.rows p []) (at_place (λ (t : Table). get_or t.places m 0) (λ t. get_or t.places k 0) tables no_table dim within e)
+      ∙ ap (λ p. get_or table.rows p []) (map_place (λ (t : Table). get_or t.places m 0) (λ t. get_or t.places k 0) tables no_table dim within e)
       ∙ sym (in_shown table.rows table.places k (other dim within)))
 
   -- and equal entries stand at equal places
@@ -59,7 +48,7 @@ module _ (tables : List Table) (m k : ℕ) (one : Reach tables m) (other : Reach
       let table = get_or tables dim no_table in
       same_row table.rows (right dim).kept.once (get_or table.places m 0) (get_or table.places k 0) ((right dim).within m 0 (one dim within)) ((right dim).within k 0 (other dim within))
       (sym (in_shown table.rows table.places m (one dim within))
-      ∙ at_place (λ table. get_or (records table) m []) (λ table. get_or (records table) k []) tables no_table dim within e
+      ∙ map_place (λ table. get_or (records table) m []) (λ table. get_or (records table) k []) tables no_table dim within e
       ∙ in_shown table.rows table.places k (other dim within)))
 
 -- ---- tables of entries

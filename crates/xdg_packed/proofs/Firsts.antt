@@ -1,30 +1,17 @@
 -- The first entry with each record of a dimension.
-use Rattle.std.proofs.Common.{◌≡◌, ℕ, ◌<◌, ◌≤◌, List, [], ◌∷◌, ◌++◌, length, get_or, Some, inl, inr, sym, ap, subst, ◌∙◌, arith, All}
-use Rattle.std.proofs.lemmas.Bool.{cases_lt}
-use Rattle.std.proofs.lemmas.List.{length-append, length-map, get_or-map}
+use Rattle.std.proofs.Common.{◌≡◌, ℕ, ◌<◌, ◌≤◌, List, [], ◌∷◌, ◌++◌, length, get_or, Some, sym, ap, subst, ◌∙◌, arith, All}
+use Rattle.std.proofs.lemmas.List.{length-map, get_or-map}
 use Rattle.std.proofs.lemmas.Option.{slice_get-get_or}
 use Rattle.std.proofs.Math.ListN.{get_or-append}
 use Rattle.std.proofs.Math.Seq.{get_or-append_seam}
 use Rattle.xdg_packed.specs.Lexicon.{Record, Entry, Lexicon, column, IsFirstAlike}
 use Rattle.xdg_packed.specs.Rows.{shown, AreFirsts, IsTable, IsFirst}
 use Rattle.xdg_facts.proofs.In.{differ_once}
-use Rattle.xdg_facts.proofs.Lists.{length_more}
+use Rattle.xdg_facts.proofs.Lists.{length_more, still}
 use Rattle.xdg_facts.specs.Membership.{Differ}
+use Rattle.xdg_facts.proofs.Each.{each_pushed}
 
 -- ---- one entry more
-
--- what holds of what stands at each place of a list, and of what is pushed, holds of what stands at each place then
-pub each_pushed : {A : Type 0} (P : ℕ → A → Type 0) (xs : List A) (x d : A) → ((k : ℕ) → k < length xs → P k (get_or xs k d)) → P (length xs) x → (k : ℕ) → k < length (xs ++ x ∷ []) → P k (get_or (xs ++ x ∷ []) k d)
-each_pushed P xs x d below here k within = elim (cases_lt k (length xs)) [
-  | inl inside ↦ subst (P k) (sym (get_or-append xs (x ∷ []) d k inside)) (below k inside)
-  | inr past ↦
-      let last : length xs ≡ k = (let size = length-append xs (x ∷ []) in omega (arith, size, within, past)) in
-      subst (λ n. P n (get_or (xs ++ x ∷ []) n d)) last (subst (P (length xs)) (sym (get_or-append_seam xs x [] d)) here)
-]
-
--- an entry with the place of a row keeps it
-still : (places : List ℕ) (place row first : ℕ) → (first < length places) × (get_or places first 0 ≡ row) → (first < length (places ++ place ∷ [])) × (get_or (places ++ place ∷ []) first 0 ≡ row)
-still places place row first (within, is) = (let size = length_more places place in omega (arith, size, within), get_or-append places (place ∷ []) 0 first within ∙ is)
 
 pub firsts_known : (firsts places : List ℕ) (place : ℕ) → place < length firsts → AreFirsts firsts places → AreFirsts firsts (places ++ place ∷ [])
 firsts_known firsts places place known are = record {

@@ -1,29 +1,13 @@
 -- The tables of a lexicon, while an entry is added, and taken back.
-use Rattle.std.proofs.Common.{◌≡◌, ℕ, zero, suc, ◌+◌, ◌<◌, ◌≤◌, ◌≢◌, List, [], ◌∷◌, ◌++◌, length, get_or, slice_set, reverse, refl, sym, ap, ap₂, subst, inl, inr, ◌∙◌, arith}
-use Rattle.std.proofs.lemmas.Bool.{cases_eq}
-use Rattle.std.proofs.lemmas.List.{append_assoc, append_cancel_right, reverse-append, length-append, length-set, get_or-set_same, get_or-set_other}
+use Rattle.std.proofs.Common.{◌≡◌, ℕ, ◌+◌, ◌<◌, ◌≤◌, ◌≢◌, List, [], ◌∷◌, ◌++◌, length, get_or, slice_set, refl, sym, ap, ap₂, subst, ◌∙◌, arith}
+use Rattle.std.proofs.lemmas.List.{append_assoc, length-append, length-set, get_or-set_same, get_or-set_other}
 use Rattle.std.proofs.Math.Seq.{get_or-append_seam}
 use Rattle.xdg_packed.specs.Lexicon.{Record, Entry}
 use Rattle.xdg_packed.specs.Rows.{IsTable, AreSpelled}
 use Rattle.xdg_packed.specs.Tables.{no_table, IsRight, AreTables, AddsRecord, IsWithoutLast}
 use Rattle.xdg_packed.specs.declared.table.Table.{Table}
-use Rattle.xdg_facts.proofs.Lists.{any_default, head_of}
-
--- ---- one place of a list
-
--- what holds of each place of a list in which one is set
-pub set_each : {A : Type 0} (P : ℕ → A → Type 0) (xs : List A) (i : ℕ) (x d : A) → i < length xs → P i x → ((j : ℕ) → j ≢ i → P j (get_or xs j d)) → (j : ℕ) → P j (get_or (slice_set xs i x) j d)
-set_each P xs i x d within here others j = elim (cases_eq j i) [
-  | inl e ↦ subst (λ k. P k (get_or (slice_set xs i x) k d)) (sym e) (subst (P i) (sym (get_or-set_same xs i x d within)) here)
-  | inr n ↦ subst (P j) (sym (get_or-set_other xs i j x d n)) (others j n)
-]
-
--- a default that is pushed changes nothing
-pub default_pushed : {A : Type 0} (xs : List A) (d : A) (j : ℕ) → get_or (xs ++ d ∷ []) j d ≡ get_or xs j d
-default_pushed [] d zero = refl
-default_pushed [] d (suc j) = refl
-default_pushed (x ∷ xs) d zero = refl
-default_pushed (x ∷ xs) d (suc j) = default_pushed xs d j
+use Rattle.xdg_facts.proofs.Lists.{any_default, default_pushed}
+use Rattle.xdg_facts.proofs.Each.{set_each}
 
 -- ---- as many tables as records
 
@@ -122,12 +106,6 @@ module _ (old : List Table) (entry rest more : Entry) (fields : Record) (tables 
         }
 
 -- ---- an entry is taken back
-
--- lists with one last element more that are equal
-pub cut_last : {A : Type 0} (xs ys : List A) (x y : A) → xs ++ x ∷ [] ≡ ys ++ y ∷ [] → (xs ≡ ys) × (x ≡ y)
-cut_last xs ys x y e =
-    let last : x ≡ y = head_of x y (reverse xs) (reverse ys) (sym (reverse-append xs (x ∷ [])) ∙ ap reverse e ∙ reverse-append ys (y ∷ [])) in
-    (append_cancel_right xs ys (x ∷ []) (e ∙ ap (λ z. ys ++ z ∷ []) (sym last)), last)
 
 -- what is known while the last entry is taken out of the first tables
 abbrev pub Shortened : List Table → List Table → ℕ → Type 0

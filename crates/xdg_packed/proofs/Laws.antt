@@ -11,13 +11,15 @@ use Rattle.xdg_domain.specs.Defaults.{field_and_defaults, record_of_defaults, Is
 use Rattle.xdg_domain.specs.declared.values.Value.{Value, out-Value}
 use Rattle.xdg_domain.specs.declared.values.Value.TheOpen.{Value-F}
 use Rattle.xdg_domain.specs.declared.values.Value.TheVariants as v
-use Rattle.xdg_domain.proofs.DefaultLaws.{default_is_value, zero_alone, each_wider, IsRight, IsAt, by_layer, differ, taken}
-use Rattle.xdg_domain.proofs.Each.{keyed, keyed_rises, keyed_each, keyed_said}
+use Rattle.xdg_domain.proofs.DefaultLaws.{default_is_value, zero_alone, each_wider, IsRight, IsAt, by_layer, taken}
+use Rattle.xdg_domain.proofs.Each.{keyed_rises, keyed_each, keyed_said}
 use Rattle.xdg_domain.proofs.Keyed.{at_head, after_head, said_right}
 use Rattle.xdg_domain.proofs.Made.{none_and}
 use Rattle.xdg_packed.specs.Filled.{cards_in, cards_said, keys_in, keys_said, fields_in, fields_said, or_zero, each_key, filled_cards, filled, filled_fields, Lacks, SomeLacks, IsSaid, AreValuesOf, AreSaid}
-use Rattle.xdg_facts.proofs.Options.{some_same}
+use Rattle.xdg_facts.proofs.Options.{some_same, not_both_ways}
 use Rattle.xdg_domain.specs.Joined.{of_map}
+use Rattle.xdg_facts.proofs.Each.{keyed}
+use Rattle.xdg_facts.proofs.Lists.{if_some}
 
 -- ---- what is said
 
@@ -122,7 +124,7 @@ mutual
 -- nothing is filled exactly where a plain part lacks
 pub none_lacks : (s : Shape) → IsType s → (said : Option Value) → (filled s said ≡ None) ↔ Lacks s said
 none_lacks s h said = (
-  λ e. elim (decided s h said) [ inl none ↦ none.1 | inr some ↦ absurd (differ (filled s said) some.1.0 e some.1.1) ],
+  λ e. elim (decided s h said) [ inl none ↦ none.1 | inr some ↦ absurd (not_both_ways (filled s said) some.1.0 e some.1.1) ],
   λ p. elim (decided s h said) [ inl none ↦ none.0 | inr some ↦ absurd (some.0 p) ],
 )
 
@@ -154,7 +156,7 @@ mutual
         λ key below. subst (λ o. MatchOption o ⊥ (λ w. IsFilledIn u (out-Value w))) (sym (keyed_said g 0 (count k) key (omega arith) (omega (arith, below)))) (holds key).1,
       )
   filled_right (fields fs) h said given x e = elim (all_decided fs h.1 0 (fields_said said)) [
-    | inl none ↦ absurd (differ (record_of_defaults (filled_fields 0 fs (fields_said said))) x (ap record_of_defaults none.0) e)
+    | inl none ↦ absurd (not_both_ways (record_of_defaults (filled_fields 0 fs (fields_said said))) x (ap record_of_defaults none.0) e)
     | inr some ↦
         let all = some.1.0 in
         let told = fields_right fs h.1 0 (fields_said said) (record_said fs said given).1 all some.1.1 in
@@ -187,10 +189,6 @@ mutual
 pub told_lacks : (s : Shape) → IsType s → (said : Option Value) (told : Result (Option Value) AllocError) → IfOk told (λ o. o ≡ filled s said) → IfOk told (λ o. (o ≡ None) ↔ Lacks s said)
 told_lacks s h said (Ok o) is = subst (λ p. (p ≡ None) ↔ Lacks s said) (sym is) (none_lacks s h said)
 told_lacks s h said (Err e) is = tt
-
-pub if_some : {A : Type 0} (P : A → Type 0) (o : Option A) → ((x : A) → o ≡ Some x → P x) → IfSome o P
-if_some P None h = tt
-if_some P (Some x) h = h x refl
 
 pub told_right : (s : Shape) → IsType s → (said : Option Value) → IsSaid s said → (told : Result (Option Value) AllocError) → IfOk told (λ o. o ≡ filled s said) → IfOk told (λ o. IfSome o (λ x. IsValue s x × IsFilled s x))
 told_right s h said given (Ok o) is = if_some (λ x. IsValue s x × IsFilled s x) o (λ x e. filled_right s h said given x (sym is ∙ e))

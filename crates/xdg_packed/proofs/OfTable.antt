@@ -1,7 +1,6 @@
 -- Entries of a grammar with these types: the one at a place, and the one place of their words.
 use Rattle.std.proofs.Common.{◌≡◌, ℕ, ◌<◌, List, [], length, get_or, map, Option, None, Some, refl, sym, ap, ap₂, ◌∙◌, subst}
-use Rattle.std.specs.Prelude.{slice_get, option_map}
-use Rattle.std.proofs.lemmas.Option.{slice_get-map}
+use Rattle.std.specs.Prelude.{slice_get}
 use Rattle.xdg_domain.specs.declared.types.Ty.{Ty}
 use Rattle.xdg_domain.specs.Shapes.{Shape, shape, text}
 use Rattle.xdg_types.specs.declared.table.DimType.{DimType}
@@ -10,18 +9,16 @@ use Rattle.xdg_packed.specs.Lexicon.{Entry}
 use Rattle.xdg_packed.specs.Entries.{IsUsed, IsEntry, AreEntries, IsWordPlace, TellsWordPlace}
 use Rattle.xdg_facts.specs.Membership.{Differ}
 use Rattle.xdg_facts.proofs.In.{differ_once}
-use Rattle.xdg_facts.proofs.Lists.{any_default, fused}
+use Rattle.xdg_facts.proofs.Lists.{any_default, fused, map_at}
 use Rattle.xdg_facts.proofs.Options.{some_same}
 use Rattle.xdg_types.proofs.Places.{places_once}
-use Rattle.xdg_types.proofs.Kept.{at_place, keeps_found}
+use Rattle.xdg_types.proofs.Kept.{keeps_found}
+use Rattle.xdg_facts.proofs.Each.{at_place}
 
 pub entry_at : (table : Table) (entries : List Entry) (n : ℕ) (entry : Entry) → AreEntries table entries → n < length entries → entry ≡ get_or entries n [] → IsEntry table entry
 entry_at table entries n entry are within is = at_place (AreEntries table) (IsEntry table) (λ _ _ h. h) entries n entry are within (is ∙ any_default entries n [] entry within)
 
 -- ---- the place of the words
-
-map_at : {A B : Type 0} (f : A → B) (xs : List A) (k : ℕ) (x : A) → slice_get xs k ≡ Some x → slice_get (map f xs) k ≡ Some (f x)
-map_at f xs k x is = slice_get-map f xs k ∙ ap (option_map f) is
 
 -- used dimensions of one name are one dimension at one place
 pub used_once : (table : Table) → IsTable table → (d e : ℕ) (one other : DimType) → IsUsed table d one → IsUsed table e other → one.name ≡ other.name → (d ≡ e) × (one ≡ other)

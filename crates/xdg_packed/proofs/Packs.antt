@@ -2,7 +2,7 @@
 use Rattle.std.proofs.Common.{◌≡◌, ℕ, ◌+◌, ◌<◌, ◌≤◌, List, [], ◌∷◌, ◌++◌, ◌⊎◌, length, get_or, map, Bool, true, false, true≢false, not, if◌then◌else◌, refl, sym, ap, ap₂, inl, inr, subst, ◌∙◌, arith, Some, None, All}
 use Rattle.std.specs.Prelude.{◌↔◌}
 use Rattle.std.proofs.lemmas.Bool.{not-false, not-true}
-use Rattle.std.proofs.lemmas.List.{map-append, length-map, length-append, get_or-map}
+use Rattle.std.proofs.lemmas.List.{map-append, length-map, get_or-map}
 use Rattle.std.proofs.lemmas.List.Elements.{All-push, All-tail, All-head, All-weaker}
 use Rattle.std.proofs.Math.ListN.{get_or-append}
 use Rattle.std.proofs.Math.Seq.{get_or-append_seam}
@@ -11,12 +11,12 @@ use Rattle.xdg_names.proofs.Texts.{among_has, place_of-Some, place_of-None, AllD
 use Rattle.xdg_packed.specs.Lexicon.{Record, KeepsEachOnce}
 use Rattle.xdg_packed.specs.Rows.{shown, IsTable, AddsFirst, AreSpelled, IsKnownRow, IsNewRow}
 use Rattle.xdg_packed.specs.Spelling.{spelling_of_fields}
-use Rattle.xdg_packed.proofs.Counted.{no_more}
 use Rattle.xdg_packed.proofs.Firsts.{firsts_known, firsts_new, same_row as same_place, in_shown, long_shown}
 use Rattle.xdg_packed.proofs.Prefixes.{fields_told}
 use Rattle.xdg_facts.proofs.In.{in_append, in_left, in_right, in_get, in_index, map_in}
-use Rattle.xdg_facts.proofs.Lists.{all_before, any_default}
+use Rattle.xdg_facts.proofs.Lists.{all_before, any_default, length_more}
 use Rattle.xdg_facts.specs.Membership.{Differ, In}
+use Rattle.xdg_facts.proofs.Counted.{no_more}
 
 -- ---- different records
 
@@ -66,9 +66,6 @@ same_row rows seen spellings fields place same is told holds =
     record { rows_stay = refl; spellings_stay = refl; within = stands.0; stands = stands.1 }
 
 -- ---- one record more
-
-longer : (A : Type 0) (xs : List A) (x : A) → length (xs ++ x ∷ []) ≡ length xs + 1
-longer A xs x = length-append xs (x ∷ [])
 
 -- no more rows than entries
 pub rows_few : (rows : List Record) (firsts places : List ℕ) → IsTable rows firsts places → length rows ≤ length places
@@ -122,7 +119,7 @@ added_new : (rows : List Record) (spellings : List (List ℕ)) (firsts places : 
     → place ≡ length rows → number ≡ length places → Added (shown rows places ++ fields ∷ []) (rows ++ fields ∷ []) (spellings ++ spelling_of_fields fields ∷ []) (firsts ++ number ∷ []) (places ++ place ∷ [])
 added_new rows spellings firsts places fields place number table spelled fresh last next =
     let more = rows ++ fields ∷ [] in
-    let size = longer Record rows fields in
+    let size = length_more rows fields in
     let grown : AreSpelled more (spellings ++ spelling_of_fields fields ∷ []) = record {
       spelled = map-append spelling_of_fields rows (fields ∷ []) ∙ ap (λ ts. ts ++ spelling_of_fields fields ∷ []) spelled.spelled;
       differ = AllDiffer-append spellings (spelling_of_fields fields) spelled.differ fresh;
@@ -136,7 +133,7 @@ added_new rows spellings firsts places fields place number table spelled fresh l
       right = record {
         within = within;
         kept = stands_once more (shown rows places ++ fields ∷ []) (spellings ++ spelling_of_fields fields ∷ []) (places ++ place ∷ []) grown within shows (λ x h. by x (in_append rows (fields ∷ []) x h));
-        as_many = let added = longer ℕ firsts number in let same = table.as_many in omega (arith, size, added, same);
+        as_many = let added = length_more firsts number in let same = table.as_many in omega (arith, size, added, same);
         firsts_are = firsts_new firsts places place number (last ∙ sym table.as_many) next (subst (λ n. All (λ k. k < n) places) (sym table.as_many) table.within) table.firsts_are;
       };
       spelled = grown;
@@ -177,7 +174,7 @@ taken_back rows firsts before place table known = record {
         let has = table.firsts_are.have row inside in
         let below = early row (subst (λ n. row < n) table.as_many inside) in
         (below, sym (get_or-append before (place ∷ []) 0 (get_or firsts row 0) below) ∙ has.1);
-    least = λ entry inside. subst (λ p. get_or firsts p 0 ≤ entry) (get_or-append before (place ∷ []) 0 entry inside) (table.firsts_are.least entry (omega (arith, inside, longer ℕ before place)));
+    least = λ entry inside. subst (λ p. get_or firsts p 0 ≤ entry) (get_or-append before (place ∷ []) 0 entry inside) (table.firsts_are.least entry (omega (arith, inside, length_more before place)));
   };
 }
   where
@@ -197,7 +194,7 @@ taken_back rows firsts before place table known = record {
         (subst (λ xs. In xs x) (map-append (λ k. get_or rows k []) before (place ∷ [])) (table.kept.only x (in_get rows row [] inside))))) in
         let at : found.0 < length before = (let size = long_shown rows before in let h = found.1.0 in omega (arith, size, h)) in
         let one : get_or before found.0 0 ≡ row = same_place rows table.kept.once (get_or before found.0 0) row (within found.0 0 at) inside (sym (in_shown rows before found.0 at) ∙ found.1.1) in
-        let low = subst (λ p. get_or firsts p 0 ≤ found.0) (get_or-append before (place ∷ []) 0 found.0 at ∙ one) (table.firsts_are.least found.0 (omega (arith, at, longer ℕ before place))) in
+        let low = subst (λ p. get_or firsts p 0 ≤ found.0) (get_or-append before (place ∷ []) 0 found.0 at ∙ one) (table.firsts_are.least found.0 (omega (arith, at, length_more before place))) in
         omega (arith, low, at)
 
 -- a text that is asked for stands there, or is added last

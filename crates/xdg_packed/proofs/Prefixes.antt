@@ -8,6 +8,7 @@ use Rattle.xdg_domain.specs.declared.values.Value.TheFolds.{ind-Value}
 use Rattle.xdg_packed.specs.Spelling.{number, each, numbers, keyed, text, layer, truth, spelling, spelling_of_fields}
 use Rattle.xdg_packed.proofs.Digits.{apart, number_told}
 use Rattle.xdg_facts.proofs.Lists.{head_of, tail_of}
+use Rattle.xdg_facts.proofs.Fronts.{fronts_same}
 use Rattle.xdg_domain.proofs.JoinLaws.{same_out}
 
 -- what stands at the front of a text with this spelling is this element, and the rest is told
@@ -41,19 +42,10 @@ pair_told code k x told y r s e =
     let value = told y.1 r s key.1 in
     (ap₂ (λ a b. (a, b)) key.0 value.0, value.1)
 
--- texts of one length
-long : (a b r s : List ℕ) → length a ≡ length b → a ++ r ≡ b ++ s → (a ≡ b) × (r ≡ s)
-long [] [] r s same e = (refl, e)
-long (x ∷ a) (y ∷ b) r s same e =
-    let shorter : length a ≡ length b = omega (arith, same) in
-    let rest = long a b r s shorter (tail_of x y (a ++ r) (b ++ s) e) in
-    (ap₂ (λ d ds. d ∷ ds) (head_of x y (a ++ r) (b ++ s) e) rest.0, rest.1)
-long _ _ r s same e = absurd (omega (arith, same))
-
 text_told : (t : List ℕ) → Told text t
 text_told t u r s e =
     let size = number_told (length t) (length u) (t ++ r) (u ++ s) (sym (append_assoc (number (length t)) t r) ∙ e ∙ append_assoc (number (length u)) u s) in
-    long t u r s size.0 size.1
+    fronts_same t u r s size.0 size.1
 
 numbers_told : (ns : List ℕ) → Told numbers ns
 numbers_told ns = list_told number ns (each_of_all number (λ n m r s e. number_told n m r s e) ns)

@@ -11,8 +11,8 @@ use Rattle.xdg_domain.specs.Joined.{behind}
 use Rattle.xdg_domain.specs.Defaults.{field_and_defaults, record_of_defaults}
 use Rattle.xdg_domain.proofs.Made.{seen, after_more, next_field, one_type, none_and}
 use Rattle.xdg_domain.proofs.Keyed.{after_head, unsaid}
-use Rattle.xdg_domain.proofs.Sorting.{range_more}
 use Rattle.xdg_packed.specs.Filled.{filled, filled_fields, filled_cards, each_key, or_zero, IsSaid, AreSaid}
+use Rattle.xdg_facts.proofs.Sorting.{range_more}
 
 after_nothing : (o : Option (List (ℕ × Value))) → behind [] o ≡ o
 after_nothing None = refl

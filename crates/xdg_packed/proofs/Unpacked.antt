@@ -1,7 +1,7 @@
 -- Packed entries are the entries.
 use Rattle.std.proofs.Common.{◌≡◌, ℕ, ◌+◌, ◌-◌, ◌^◌, ◌<◌, ◌≤◌, List, [], ◌∷◌, ◌++◌, length, get_or, map, take, refl, sym, ap, subst, ◌∙◌, arith, All}
 use Rattle.std.specs.List.{range_with_len}
-use Rattle.std.proofs.lemmas.List.{ext_get_or, length-map, get_or-map, map-append, take_more}
+use Rattle.std.proofs.lemmas.List.{length-map, get_or-map}
 use Rattle.std.proofs.lemmas.List.FromFn.{length-map-range_with_len, get_or-map-range_with_len}
 use Rattle.xdg_base.specs.declared.ids.EntryNo.{EntryNo}
 use Rattle.xdg_packed.specs.Lexicon.{Record, Entry, Lexicon, HasWord, word_of, AreAsLong, width, column, columns, CountsDifferent, CountsRows}
@@ -10,22 +10,8 @@ use Rattle.xdg_packed.specs.Tables.{records, no_table, IsRight}
 use Rattle.xdg_packed.specs.Words.{IsWordIndex}
 use Rattle.xdg_packed.specs.declared.table.Table.{Table}
 use Rattle.xdg_packed.proofs.Firsts.{in_column, long_shown}
-use Rattle.xdg_facts.proofs.Lists.{fused, any_default}
-
--- ---- lists by their places
-
-pub from_zero : (i : ℕ) → 0 + i ≡ i
-from_zero i = omega arith
-
-pub all_places : {X : Type 0} (f : ℕ → X) (d : X) (xs : List X) (count : ℕ) → count ≡ length xs → ((i : ℕ) → i < length xs → f i ≡ get_or xs i d) → map f (range_with_len 0 count) ≡ xs
-all_places f d xs count size each =
-    let long = length-map-range_with_len f 0 count in
-    ext_get_or d (map f (range_with_len 0 count)) xs (long ∙ size)
-    (λ i within. get_or-map-range_with_len f 0 count i i d (omega (arith, within, long)) (from_zero i) ∙ each i (omega (arith, within, long, size)))
-
--- what a function makes of the first elements, and of one more
-pub map_next : {A B : Type 0} (f : A → B) (xs : List A) (i : ℕ) (x : A) → i < length xs → x ≡ get_or xs i x → map f (take (i + 1) xs) ≡ map f (take i xs) ++ f x ∷ []
-map_next f xs i x within is = ap (map f) (take_more xs i x within ∙ ap (λ y. take i xs ++ y ∷ []) (sym is)) ∙ map-append f (take i xs) (x ∷ [])
+use Rattle.xdg_facts.proofs.Lists.{fused, any_default, all_places, from_zero}
+use Rattle.xdg_facts.proofs.Fronts.{map_next}
 
 -- ---- entries
 

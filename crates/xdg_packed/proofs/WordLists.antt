@@ -15,11 +15,11 @@ use Rattle.xdg_names.proofs.Texts.{has_text-append, place_of-Some, place_of-None
 use Rattle.xdg_packed.specs.Lexicon.{Entry, number, places_of, numbers_of, word_of}
 use Rattle.xdg_packed.specs.Words.{IsWordIndex}
 use Rattle.xdg_packed.proofs.Packs.{added_last}
-use Rattle.xdg_packed.proofs.Unpacked.{map_next}
-use Rattle.xdg_domain.proofs.Sorting.{range_more}
 use Rattle.xdg_facts.proofs.Texts.{either_way}
 use Rattle.xdg_facts.proofs.Truths.{agree_in, none_in, none_or}
 use Rattle.xdg_facts.proofs.Lists.{any_default}
+use Rattle.xdg_facts.proofs.Fronts.{map_next}
+use Rattle.xdg_facts.proofs.Sorting.{range_more}
 
 -- ---- places and numbers
 

@@ -1,13 +1,12 @@
 -- What is written of a spelling, piece by piece.
-use Rattle.std.proofs.Common.{◌≡◌, ℕ, zero, suc, ◌+◌, ◌-◌, ◌/◌, ◌%◌, ◌<◌, ◌≤◌, Bool, true, false, cond, List, [], ◌∷◌, ◌++◌, filter, refl, sym, ap, subst, ◌∙◌, arith}
+use Rattle.std.proofs.Common.{◌≡◌, ℕ, ◌+◌, ◌/◌, ◌%◌, ◌<◌, ◌≤◌, true, List, [], ◌∷◌, ◌++◌, refl, sym, ap, ◌∙◌, arith}
 use Rattle.std.proofs.lemmas.List.{append_assoc}
 use Rattle.std.specs.Prelude.{codes}
-use Rattle.std.specs.List.{range_with_len}
 use Rattle.xdg_domain.specs.Cards.{IsCards}
-use Rattle.xdg_facts.proofs.Truths.{agree_in, none_in}
 use Rattle.xdg_packed.specs.Spelling.{digits, number, numbers, each}
 use Rattle.xdg_packed.proofs.Digits.{digits_next}
 use Rattle.xdg_facts.specs.Rises.{has, numbers_below}
+use Rattle.xdg_facts.proofs.Members.{members_from, next_member, none_behind, before_least}
 
 -- ---- numbers
 
@@ -48,52 +47,19 @@ end_written code now after whole rest none e h = e ∙ ap (λ l. now ++ each cod
 
 -- ---- cardinalities
 
--- the numbers that are allowed, from one on and below a bound
-unfoldable pub cards_from : ℕ → List ℕ → ℕ → List ℕ
-cards_from bound s n = filter (has s) (range_with_len n (bound - n))
-
-never_true : (b : Bool) → (b ≡ true → ⊥) → b ≡ false
-never_true true h = absurd (h refl)
-never_true false h = refl
-
-from_next : (bound : ℕ) (s : List ℕ) (n : ℕ) → n < bound → cards_from bound s n ≡ cond (has s n) (n ∷ cards_from bound s (n + 1)) (cards_from bound s (n + 1))
-unfolding cards_from
-from_next bound s n within = ap (λ size. filter (has s) (range_with_len n size)) (let size : bound - n ≡ suc (bound - (n + 1)) = omega (arith, within) in size)
-
--- what holds of the numbers from one on holds of that number, if it is allowed, and of those from the next on
-pub next_card : (P : List ℕ → Type 0) (bound : ℕ) (s : List ℕ) (n : ℕ) (allowed : Bool) → n < bound → has s n ≡ allowed → P (cards_from bound s n) → P (cond allowed (n ∷ cards_from bound s (n + 1)) (cards_from bound s (n + 1)))
-next_card P bound s n allowed within is h = subst P (from_next bound s n within ∙ ap (λ b. cond b (n ∷ cards_from bound s (n + 1)) (cards_from bound s (n + 1))) is) h
-
 pub card_written : (bound : ℕ) (s now marked after whole : List ℕ) (n : ℕ) → n < bound → has s n ≡ true → marked ≡ now ++ codes "," → after ≡ marked ++ number n
-    → now ++ numbers (cards_from bound s n) ≡ whole → after ++ numbers (cards_from bound s (n + 1)) ≡ whole
+    → now ++ numbers (members_from bound s n) ≡ whole → after ++ numbers (members_from bound s (n + 1)) ≡ whole
 card_written bound s now marked after whole n within is m e h =
-    element_written number now marked after whole n (cards_from bound s (n + 1)) m e (next_card (λ l. now ++ numbers l ≡ whole) bound s n true within is h)
+    element_written number now marked after whole n (members_from bound s (n + 1)) m e (next_member (λ l. now ++ numbers l ≡ whole) bound s n true within is h)
 
--- no number stands before the least
-before_least : (bound : ℕ) (s : List ℕ) (n : ℕ) → n ≤ bound → ((k : ℕ) → has s k ≡ true → n ≤ k) → cards_from bound s n ≡ cards_from bound s 0
-before_least bound s zero within least = refl
-before_least bound s (suc n) within least =
-    let none : has s n ≡ false = never_true (has s n) (λ is. let late = least n is in omega (arith, late)) in
-    let next : suc n ≡ n + 1 = omega arith in
-    ap (cards_from bound s) next
-    ∙ next_card (λ l. l ≡ cards_from bound s n) bound s n false (omega (arith, within)) none refl
-    ∙ before_least bound s n (omega (arith, within)) (λ k is. let late = least k is in omega (arith, late))
-
-pub cards_begin : (s out : List ℕ) (n : ℕ) → n < 128 → ((k : ℕ) → has s k ≡ true → n ≤ k) → out ++ numbers (cards_from 128 s n) ≡ out ++ numbers (cards_from 128 s 0)
+pub cards_begin : (s out : List ℕ) (n : ℕ) → n < 128 → ((k : ℕ) → has s k ≡ true → n ≤ k) → out ++ numbers (members_from 128 s n) ≡ out ++ numbers (members_from 128 s 0)
 cards_begin s out n within least = ap (λ l. out ++ numbers l) (before_least 128 s n (omega (arith, within)) least)
 
--- no number stands behind the greatest
-none_from : (bound last n : ℕ) (s : List ℕ) → last < n → ((k : ℕ) → has s k ≡ true → k ≤ last) → cards_from bound s n ≡ []
-unfolding cards_from
-none_from bound last n s over greatest =
-    agree_in (has s) (λ _. false) n (bound - n) (λ k above _. never_true (has s k) (λ is. let early = greatest k is in omega (arith, above, over, early)))
-    ∙ none_in (λ _. false) n (bound - n) (λ _. refl)
-
-pub all_from : (s : List ℕ) → IsCards s → s ≡ cards_from 128 s 0
-unfolding cards_from numbers_below
+pub all_from : (s : List ℕ) → IsCards s → s ≡ members_from 128 s 0
+unfolding members_from numbers_below
 all_from s is = is.whole
 
-pub cards_end : (s before now after : List ℕ) (last n : ℕ) → last < n → ((k : ℕ) → has s k ≡ true → k ≤ last) → IsCards s → after ≡ now ++ codes ";" → now ++ numbers (cards_from 128 s n) ≡ before ++ numbers (cards_from 128 s 0) → after ≡ before ++ numbers s
+pub cards_end : (s before now after : List ℕ) (last n : ℕ) → last < n → ((k : ℕ) → has s k ≡ true → k ≤ last) → IsCards s → after ≡ now ++ codes ";" → now ++ numbers (members_from 128 s n) ≡ before ++ numbers (members_from 128 s 0) → after ≡ before ++ numbers s
 cards_end s before now after last n over greatest is e h =
-    end_written number now after (before ++ numbers (cards_from 128 s 0)) (cards_from 128 s n) (none_from 128 last n s over greatest) e h
+    end_written number now after (before ++ numbers (members_from 128 s 0)) (members_from 128 s n) (none_behind 128 last n s over greatest) e h
     ∙ ap (λ l. before ++ numbers l) (sym (all_from s is))

@@ -2,7 +2,6 @@
 use Rattle.std.proofs.Common.{◌≡◌, ◌≢◌, ℕ, ◌<◌, ◌⊎◌, ◌↔◌, ◌&&◌, ◌||◌, IsTrue, inl, inr, Bool, true, List, [], ◌∷◌, sym, ◌∙◌, subst}
 use Rattle.std.specs.Prelude.{slice_index_or}
 use Rattle.std.proofs.lemmas.Bool.{cases_eq, false≢true}
-use Rattle.xdg_nodeset.proofs.TableSets.{both, either}
 use Rattle.xdg_problem.specs.declared.analysis.Edge.{Edge}
 use Rattle.xdg_problem.specs.declared.parts.Parts.{Parts}
 use Rattle.xdg_problem.specs.Boxes.{May}
@@ -12,8 +11,8 @@ use Rattle.xdg_rules.specs.Rules.{IsPlaceOn}
 use Rattle.xdg_propcore.specs.declared.touched.Touched.{Touched}
 use Rattle.xdg_graph.specs.Every.{IsEvery}
 use Rattle.xdg_pagree.specs.Untouched.{AreMothersOf, HasMothers, HasOwn}
-use Rattle.xdg_propcore.proofs.Turns.{not_left}
 use Rattle.xdg_facts.specs.Rises.{has}
+use Rattle.xdg_facts.proofs.Sets.{both, either, not_left}
 
 -- ---- those that have lost something themselves
 

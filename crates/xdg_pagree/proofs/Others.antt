@@ -2,7 +2,6 @@
 use Rattle.std.proofs.Common.{◌≡◌, ◌≢◌, ℕ, ◌<◌, ◌↔◌, ◌&&◌, IsTrue, inl, inr, Bool, true, List, [], length, refl, sym, ◌∙◌, arith, subst}
 use Rattle.std.proofs.lemmas.Bool.{false≢true}
 use Rattle.std.proofs.lemmas.List.{nil_from_length}
-use Rattle.xdg_nodeset.proofs.TableSets.{both, none_in}
 use Rattle.xdg_problem.specs.declared.analysis.Edge.{Edge}
 use Rattle.xdg_problem.specs.declared.parts.Group.{Group}
 use Rattle.xdg_problem.specs.declared.parts.Parts.{Parts}
@@ -34,6 +33,7 @@ use Rattle.xdg_propcore.proofs.Losing.{entry_kept, kept_or_lost, must_kept}
 use Rattle.xdg_problem.proofs.AttrPlaces.{attr_dim_within}
 use Rattle.xdg_store.proofs.Daughters.{out_is_place}
 use Rattle.xdg_problem.specs.Principles.{attr_arguments}
+use Rattle.xdg_facts.proofs.Sets.{both, none_in}
 
 -- ---- what was closed is done where nothing was lost
 

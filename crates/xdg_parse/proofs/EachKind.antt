@@ -7,7 +7,7 @@ use Rattle.xdg_ast.specs.Language.{Kinds, number, is, token}
 use Rattle.xdg_ast.specs.Brackets.{is_opening, is_closing}
 use Rattle.xdg_parse.specs.Laws.{Alive}
 use Rattle.xdg_parse.proofs.Combinators.{Apart, Plain}
-use Rattle.xdg_facts.proofs.Truths.{if_says}
+use Rattle.xdg_facts.proofs.Truths.{if_says, if-true, not_both-says}
 
 abbrev pub kinds : List Kind
 kinds =
@@ -31,10 +31,6 @@ at_number : (k : Kind) → kind_at kinds (number k) ≡ k
 at_number k.Name = refl
 at_number other = refl
 
-if-true : (a b : Bool) → (if a then b else false) ≡ true → (a ≡ true) × (b ≡ true)
-if-true true b h = (refl, h)
-if-true false b h = absurd (cc)
-
 all-at : (p : Kinds) → p k.Name ≡ true → (ks : List Kind) (i : ℕ) → each_of p ks ≡ true → p (kind_at ks i) ≡ true
 all-at p c [] i h = c
 all-at p c (k ∷ ks) zero h = (if-true (p k) (each_of p ks) h).0
@@ -45,11 +41,6 @@ each_kind p h x = subst (λ y. p y ≡ true) (at_number x) (all-at p (if-true (p
 
 abbrev pub not_both : Kinds → Kinds → Kinds
 not_both p q = λ k. if q k then not (p k) else true
-
-not_both-says : (a b : Bool) → (if b then not a else true) ≡ true → b ≡ true → a ≡ false
-not_both-says true true h g = absurd (cc)
-not_both-says false b h g = refl
-not_both-says true false h g = absurd (cc)
 
 pub apart_by : (p q : Kinds) → each_of (not_both p q) kinds ≡ true → Apart p q
 apart_by p q h = λ k g. not_both-says (p k) (q k) (each_kind (not_both p q) h k) g

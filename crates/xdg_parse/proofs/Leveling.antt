@@ -11,6 +11,7 @@ use Rattle.xdg_parse.proofs.EachKind.{opens_by, closes_by, some, is_self}
 use Rattle.xdg_parse.proofs.Nested.{nested_none, nested_deep, nested_inner, group-alive}
 use Rattle.xdg_parse.proofs.SteadyParts.{full_steady, room_steady}
 use Rattle.xdg_parse.proofs.RuleParts.{Rule}
+use Rattle.xdg_facts.proofs.Levels.{Below}
 
 -- ---- brackets
 
@@ -32,19 +33,6 @@ pub group_alive : {A : Type 0} {L : Type 1} {op cl : Kind} → Matching op cl �
 group_alive {A} {L} {op} {cl} by body j a = group-alive (is op) (is cl) body by.opens by.closes (some op) (is_self op) (some cl) (is_self cl) j a
 
 -- ---- levels
-
--- what is known of the rules in brackets, where one fewer may be opened, as they are read and as they are meant
-abbrev pub Below : (ℕ → ℕ → Type 0) → ℕ → ℕ → Type 0
-Below Levels zero zero = Unit {0}
-Below Levels zero (suc n) = Levels zero n
-Below Levels (suc d) zero = Levels d zero
-Below Levels (suc d) (suc n) = Levels d n
-
-pub below : (Levels : ℕ → ℕ → Type 0) → ((d n : ℕ) → Below Levels d n → Levels d n) → (d n : ℕ) → Below Levels d n
-below Levels step zero zero = tt
-below Levels step zero (suc n) = step zero n (below Levels step zero n)
-below Levels step (suc d) zero = step d zero (below Levels step d zero)
-below Levels step (suc d) (suc n) = step d n (below Levels step d n)
 
 -- nothing more may be opened under no level, and under one more what is inside there
 module _ {L : Type 1} (under : ℕ → Within L) (inside : Within L → L) (Levels : ℕ → ℕ → Type 0)

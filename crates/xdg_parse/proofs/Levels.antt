@@ -6,7 +6,8 @@ use Rattle.xdg_ast.specs.Grammar.{Params, Inside, gen, elems, terms, expr, type_
 use Rattle.xdg_parse.specs.Laws.{Alive}
 use Rattle.xdg_parse.proofs.Combinators.{Apart}
 use Rattle.xdg_parse.proofs.RuleParts.{Rule}
-use Rattle.xdg_parse.proofs.Leveling.{Matching, Below, group_rule}
+use Rattle.xdg_parse.proofs.Leveling.{Matching, group_rule}
+use Rattle.xdg_facts.proofs.Levels.{Below}
 
 -- the rule, where so many brackets may be opened
 abbrev pub RuleAt : {A : Type 0} → Params → ℕ → ℕ → (Within Inside → Language A) → Type 0

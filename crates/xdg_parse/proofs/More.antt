@@ -9,8 +9,9 @@ use Rattle.xdg_parse.specs.Laws.{Says, Alive, Law}
 use Rattle.xdg_parse.proofs.Items.{Shortens, turn, none_at}
 use Rattle.xdg_parse.proofs.Ended.{ended-append}
 use Rattle.xdg_parse.proofs.Laws.{walk-both, walk-split, balanced, says_as, bind_says}
-use Rattle.xdg_parse.proofs.SteadyParts.{either-of, shortens_of}
+use Rattle.xdg_parse.proofs.SteadyParts.{shortens_of}
 use Rattle.xdg_parse.proofs.Combinators.{holds-left, holds-right, holds-same, Apart, not-empty, first-holds, heads}
+use Rattle.xdg_facts.proofs.Truths.{either-of}
 
 -- ---- either
 

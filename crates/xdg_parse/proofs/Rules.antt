@@ -4,10 +4,11 @@ use Rattle.xdg_ast.specs.declared.token.Kind.TheVariants as k
 use Rattle.xdg_ast.specs.Grammar.{Params, in_parentheses, inside, under, braced, braced_tail, braced_terms, conj, conjs, dim, expr, keyed_name, keyed_names, keyed_type, keyed_types, more_types, name, names, next_conj, next_prim, part, part_kind, parts, prim, prims, principle, principle_args, principle_dims, two_types, type_kind, type_term, use_of_class}
 use Rattle.xdg_parse.proofs.EachKind.{apart_by, plain_by}
 use Rattle.xdg_parse.proofs.RuleParts.{Rule, behind_rule, both_rule, chain_rule, either_rule, made_rule, many_rule, nothing_rule, optional_rule, pair_rule, spanned_rule, word_rule}
-use Rattle.xdg_parse.proofs.Leveling.{braces, parentheses, below}
+use Rattle.xdg_parse.proofs.Leveling.{braces, parentheses}
 use Rattle.xdg_parse.proofs.Levels.{RuleAt, Levels, LevelsBelow, nested_rule}
 use Rattle.xdg_parse.proofs.Bodies.{braced_alive, dims_alive, expr_alive, more_types_alive, principle_alive, two_types_alive, type_alive}
 use Rattle.xdg_parse.proofs.RulesTerms.{braced_terms_rule, elems_rule, gen_rule, name_rule, names_rule, terms_rule}
+use Rattle.xdg_facts.proofs.Levels.{below}
 
 module _ (params : Params) (d n : ℕ) (b : LevelsBelow params d n) where
   -- ---- expressions

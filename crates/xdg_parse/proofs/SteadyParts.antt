@@ -1,12 +1,12 @@
 -- Each combinator reads what it means, if its parts do so.
-use Rattle.std.proofs.Common.{◌≡◌, ℕ, zero, suc, ◌<◌, Bool, true, false, ◌||◌, ◌&&◌, ◌⊎◌, if◌then◌else◌, List, [], ◌∷◌, ◌++◌, length, Ok, Err, refl, sym, ◌∙◌, ap, inl, inr, subst, append_assoc, length-append, arith}
+use Rattle.std.proofs.Common.{◌≡◌, ℕ, zero, suc, ◌<◌, Bool, true, false, ◌&&◌, if◌then◌else◌, List, [], ◌∷◌, ◌++◌, length, Ok, Err, refl, sym, ◌∙◌, ap, inl, inr, subst, append_assoc, length-append, arith}
 use Rattle.xdg_base.specs.declared.places.Span.{Span}
 use Rattle.xdg_ast.specs.Lexemes.{Lexeme}
 use Rattle.xdg_ast.specs.Language.{Language, Kinds, kind_of, sees, start_of, ended_by, span_of, State, Outcome, ◌>>=◌, skip, next, read_token, token, nothing, bind, both, either, items, many, full, room, nested, spanned}
 use Rattle.xdg_parse.specs.Steadiness.{at, Taken, Steady}
 use Rattle.xdg_parse.proofs.Ended.{ended-append}
 use Rattle.xdg_parse.proofs.Items.{Shortens}
-use Rattle.xdg_facts.proofs.Truths.{or_here, either_true}
+use Rattle.xdg_facts.proofs.Truths.{either-of}
 
 -- ---- outcomes
 
@@ -29,10 +29,6 @@ pub empty-both : (P Q : List Lexeme → Type 0) (v w : Bool) → (P [] → v ≡
 empty-both P Q v w p q [] [] e a b = rw (p a, q b) refl
 empty-both P Q v w p q [] (t ∷ vs) e a b = absurd (cc)
 empty-both P Q v w p q (t ∷ us) vs e a b = absurd (cc)
-
-pub either-of : {P Q : Type 0} (v w : Bool) → (P → v ≡ true) → (Q → w ≡ true) → P ⊎ Q → (v || w) ≡ true
-either-of v w p q (inl h) = or_here v w (p h)
-either-of v w p q (inr h) = either_true v w (q h)
 
 -- what lacks the empty list takes a token
 pub shortens_of : {A : Type 0} (l : Language A) → Steady l → l.empty ≡ false → Shortens l.read

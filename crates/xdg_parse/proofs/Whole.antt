@@ -10,6 +10,7 @@ use Rattle.xdg_ast.specs.Derives.{Family, DerivesWithin, Derives, IsShallow, pla
 use Rattle.xdg_parse.specs.Steadiness.{at, Steady}
 use Rattle.xdg_parse.specs.Laws.{Says, Law}
 use Rattle.xdg_parse.proofs.Laws.{one, some-same, some-from}
+use Rattle.xdg_facts.proofs.Lists.{head_of}
 
 -- ---- more room
 
@@ -35,9 +36,6 @@ left-of (Err e) = []
 values-of : {A : Type 0} → Outcome A → List A
 values-of (Ok x) = x.0 ∷ []
 values-of (Err e) = []
-
-first-same : {A : Type 0} (x y : A) → ◌≡◌ {A = List A} (x ∷ []) (y ∷ []) → x ≡ y
-first-same x y h = cc
 
 none-left : (ts : List Lexeme) → kind_of ts ≡ None → ts ≡ []
 unfolding kind_of
@@ -185,4 +183,4 @@ module _ {A B : Type 0} (l : ℕ → Language A) (means : Family B) (is : Readab
       let g = is.back b.0 ts z b.1 in
       let p = read-in a.0 b.0 ts (is.part y) f.0 in
       let q = read-in b.0 a.0 ts (is.part z) g.0 in
-      f.1 ∙ ap (is.made ts) (first-same (is.part y) (is.part z) (ap values-of (sym p ∙ (rw e at q)))) ∙ sym g.1
+      f.1 ∙ ap (is.made ts) (head_of (is.part y) (is.part z) [] [] (ap values-of (sym p ∙ (rw e at q)))) ∙ sym g.1

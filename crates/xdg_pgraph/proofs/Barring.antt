@@ -1,11 +1,10 @@
 -- The entries of some classes that allow no number between two.
-use Rattle.std.proofs.Common.{◌≡◌, ◌≢◌, ℕ, ◌<◌, ◌≤◌, ◌+◌, ◌-◌, ◌*◌, ◌⊎◌, ◌↔◌, inl, inr, List, length, slice_index_or, get_or, refl, sym, subst, arith}
+use Rattle.std.proofs.Common.{◌≡◌, ◌≢◌, ℕ, ◌<◌, ◌≤◌, ◌+◌, ◌-◌, ◌*◌, ◌↔◌, inl, inr, List, length, slice_index_or, get_or, refl, sym, subst, arith}
 use Rattle.std.specs.Prelude.{[], ◌∷◌}
 use lib.Bits.{bit_or}
 use Rattle.std.specs.Int.{bit_at}
-use Rattle.std.proofs.lemmas.Bool.{cases_eq}
-use Rattle.std.proofs.lemmas.Nat.Bits.{bit_at-lt, bit_at-zero, bit_at_or}
-use Rattle.xdg_facts.proofs.Bits.{has_right, or_left_bit}
+use Rattle.std.proofs.lemmas.Nat.Bits.{bit_at-zero}
+use Rattle.xdg_facts.proofs.Bits.{has_right, or_left_bit, either_bit}
 use Rattle.xdg_problem.specs.declared.parts.Group.{Group}
 use Rattle.xdg_problem.specs.declared.parts.Parts.{Parts}
 use Rattle.xdg_problem.specs.Boxes.{entry_decision}
@@ -22,12 +21,6 @@ use Rattle.xdg_pgraph.specs.Allowances.{AreClasses, HasClasses}
 use Rattle.xdg_pgraph.specs.Bounding.{AreBarred}
 use Rattle.xdg_pgraph.specs.Bundles.{Barred, numbers_of}
 use Rattle.xdg_pgraph.proofs.Classed.{IsIn, class_is, each_in, in_last, in_more, last_or, none_in}
-
-either_bit : (a b i : ℕ) → bit_at (bit_or a b) i ≡ 1 → (bit_at a i ≡ 1) ⊎ (bit_at b i ≡ 1)
-either_bit a b i h = elim (cases_eq (bit_at a i) 1) [
-  | inl is ↦ inl is
-  | inr other ↦ inr (let e = bit_at_or a b i in let l = bit_at-lt a i in let m = bit_at-lt b i in omega (arith, e, h, l, m, other))
-]
 
 -- a word has the entries of the first classes that are so
 abbrev pub Gathers : Group → Bundle → ℕ → ℕ → List Class → ℕ → ℕ → Type 0

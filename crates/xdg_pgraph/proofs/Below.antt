@@ -1,11 +1,7 @@
 -- Edges with a number below a bound.
 use Rattle.std.proofs.Common.{◌≡◌, ℕ, ◌+◌, ◌<◌, ◌⊎◌, inl, inr, arith}
-use Rattle.std.proofs.lemmas.Bool.{cases_eq}
 use Rattle.xdg_problem.specs.declared.analysis.Edge.{Edge}
-
--- what is below the next number is below this one, or is this one
-pub up_to : (k n : ℕ) → n < k + 1 → (n < k) ⊎ (n ≡ k)
-up_to k n less = elim (cases_eq n k) [ inl same ↦ inr same | inr other ↦ inl (omega (arith, less, other)) ]
+use Rattle.xdg_facts.proofs.Numbers.{up_to}
 
 -- something holds of an edge, whose number is below a bound
 abbrev pub Below : (Edge → ℕ) → (Edge → Type 0) → ℕ → Edge → Type 0

@@ -3,7 +3,6 @@ use Rattle.std.proofs.Common.{◌≡◌, ◌≢◌, ℕ, ◌+◌, ◌<◌, ◌�
 use Rattle.std.specs.Prelude.{Contains}
 use Rattle.std.proofs.lemmas.Bool.{false≢true}
 use Rattle.xdg_facts.specs.Rises.{has}
-use Rattle.xdg_nodeset.proofs.TableSets.{both}
 use Rattle.xdg_problem.specs.declared.analysis.Edge.{Edge}
 use Rattle.xdg_problem.specs.declared.parts.Group.{Group}
 use Rattle.xdg_problem.specs.declared.parts.Parts.{Parts}
@@ -22,9 +21,10 @@ use Rattle.xdg_pgraph.specs.Entering.{Leaving, Tells}
 use Rattle.xdg_pgraph.specs.Planes.{IsOnPlane, IsPlane}
 use Rattle.xdg_pgraph.specs.Ruling.{RunsFor, OneLabelOf}
 use Rattle.xdg_pgraph.specs.Seeking.{Aims, Doubled, Finds, FromTo, Into, IsOther, ToNode}
-use Rattle.xdg_pgraph.proofs.Below.{up_to}
-use Rattle.xdg_pgraph.proofs.Ruled.{AtNode, AtThose, Outside, Rule, RunsPart, node_cleared, nodes_all, part_like, part_none, part_then, still_out}
+use Rattle.xdg_pgraph.proofs.Ruled.{AtNode, AtThose, Outside, Rule, RunsPart, node_cleared, nodes_all, part_like, part_none, part_then}
 use Rattle.xdg_pgraph.proofs.Skipped.{must_may, place_may}
+use Rattle.xdg_facts.proofs.Numbers.{up_to}
+use Rattle.xdg_facts.proofs.Sets.{both, still_out}
 
 -- ---- an edge beside which another was found
 

@@ -4,7 +4,6 @@ use Rattle.std.proofs.lemmas.Bool.{cases_eq, cases_lt}
 use Rattle.std.proofs.lemmas.List.{get_or_append_left, get_or_past, get_or_push, length_push}
 use Rattle.xdg_problem.specs.declared.parts.Group.{Group}
 use Rattle.xdg_problem.specs.declared.parts.Parts.{Parts}
-use Rattle.xdg_store.proofs.Renewed.{same_row}
 use Rattle.xdg_pgraph.specs.declared.allowances.Class.{Class}
 use Rattle.xdg_pgraph.specs.declared.bundle.Bundle.{Bundle}
 use Rattle.xdg_pgraph.specs.declared.bundle.Way.{Way}
@@ -12,6 +11,7 @@ use Rattle.xdg_pgraph.specs.declared.bundle.Way.TheVariants as ways
 use Rattle.xdg_pgraph.specs.declared.allowances.Allowances.{Allowances}
 use Rattle.xdg_pgraph.specs.Allowances.{AreAllowances, AreRows, HasClasses, class_place}
 use Rattle.xdg_pgraph.specs.Bundles.{argument_of}
+use Rattle.xdg_facts.proofs.Numbers.{same_row}
 
 -- ---- a place is that of one bundle
 

@@ -5,14 +5,15 @@ use Rattle.std.specs.Int.{bit_at, trailing_zeros, w64}
 use Rattle.std.proofs.lemmas.Bool.{cases_eq}
 use Rattle.std.proofs.lemmas.List.{get_or_default}
 use Rattle.std.proofs.lemmas.Nat.{and_le_r}
-use Rattle.std.proofs.lemmas.Nat.Bits.{bit_at-lt, bit_at-trailing_zeros, bit_at-zero, bit_at_and}
+use Rattle.std.proofs.lemmas.Nat.Bits.{bit_at-trailing_zeros, bit_at-zero}
 use Rattle.xdg_problem.specs.declared.parts.Group.{Group}
 use Rattle.xdg_problem.specs.Boxes.{Has, entry_decision}
 use Rattle.xdg_pgraph.specs.declared.allowances.Class.{Class}
 use Rattle.xdg_pgraph.specs.declared.bundle.Bundle.{Bundle}
 use Rattle.xdg_pgraph.specs.Allowances.{AreClasses, IsClass}
 use Rattle.xdg_pgraph.specs.Bundles.{numbers_of}
-use Rattle.xdg_pgraph.proofs.Below.{up_to}
+use Rattle.xdg_facts.proofs.Bits.{both_bits}
+use Rattle.xdg_facts.proofs.Numbers.{up_to}
 
 -- one of the first classes has an entry
 pub record IsIn (classes : List Class) (k c : ℕ) : Type 0 where
@@ -28,14 +29,6 @@ none_in classes c i = (let l = i.before in omega (arith, l))
 
 pub in_more : (classes : List Class) (k c : ℕ) → IsIn classes k c → IsIn classes (k + 1) c
 in_more classes k c i = record { class = i.class; place = i.place; before = (let l = i.before in omega (arith, l)); within = i.within; is = i.is; member = i.member }
-
--- a bit is set of two numbers together where it is set of both
-pub both_bits : (a b i : ℕ) → (bit_at (bit_and a b) i ≡ 1) ↔ ((bit_at a i ≡ 1) × (bit_at b i ≡ 1))
-both_bits a b i =
-    let m = bit_at_and a b i in
-    let x = bit_at-lt a i in
-    let y = bit_at-lt b i in
-    (λ h. (omega (arith, m, h, x, y), omega (arith, m, h, x, y)), λ (j, k). omega (arith, m, j, k))
 
 module _ (count : ℕ) (group : Group) (bundle : Bundle) (classes : List Class) (are : AreClasses count group bundle classes) where
   -- each candidate is in one of them

@@ -14,7 +14,7 @@ use Rattle.xdg_problem.specs.Paths.{IsDaughterBy, edges_out_of}
 use Rattle.xdg_problem.specs.Places.{edge, places}
 use Rattle.xdg_problem.proofs.Edges.{edge_equal}
 use Rattle.xdg_facts.proofs.Filters.{filter_contained}
-use Rattle.xdg_facts.proofs.Contained.{any_of, contains_filter, contains_map}
+use Rattle.xdg_facts.proofs.Contained.{any_of, contains_filter, contains_map, map_contained}
 use Rattle.xdg_facts.proofs.InOrder.{Ordered, ordered_filter}
 use Rattle.xdg_facts.proofs.Each.{each_both, each_filter, each_passed}
 use Rattle.xdg_problem.proofs.PlaceOrder.{places_ordered}
@@ -29,9 +29,10 @@ use Rattle.xdg_pgraph.specs.Bundles.{edge_to, near_node, far_node, count_of}
 use Rattle.xdg_pgraph.specs.Planes.{IsPlane}
 use Rattle.xdg_graph.specs.Edges.{edge_labels, edges_of}
 use Rattle.xdg_pgraph.proofs.PlaneFacts.{which_on, which_place}
-use Rattle.xdg_pgraph.proofs.Rising.{AreRising, rising_same, nodes_rising, map_contained, map_rising}
+use Rattle.xdg_pgraph.proofs.Rising.{nodes_rising}
 use Rattle.xdg_facts.specs.Rises.{has}
 use Rattle.xdg_facts.proofs.Rising.{contains_of_has, contains_has}
+use Rattle.xdg_facts.proofs.Merging.{AreRising, rising_same, map_rising}
 
 -- ---- an edge is told by its two nodes
 

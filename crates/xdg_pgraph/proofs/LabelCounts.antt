@@ -5,7 +5,7 @@ use Rattle.std.specs.Prelude.{Contains}
 use Rattle.std.specs.Int.{bit_at, bit_not, trailing_zeros, w32}
 use Rattle.std.proofs.lemmas.Bool.{cases_eq, cases_lt}
 use Rattle.std.proofs.lemmas.Nat.{and_le_l}
-use Rattle.std.proofs.lemmas.Nat.Bits.{bit_at-trailing_zeros, bit_at-zero, bit_at_above, bit_at_clear_other, bit_at_clear_same}
+use Rattle.std.proofs.lemmas.Nat.Bits.{bit_at-zero, bit_at_above, bit_at_clear_other, bit_at_clear_same}
 use Rattle.xdg_problem.specs.declared.analysis.Edge.{Edge}
 use Rattle.xdg_problem.specs.declared.parts.Parts.{Parts}
 use Rattle.xdg_problem.specs.Analyses.{IsPlace}
@@ -19,13 +19,9 @@ use Rattle.xdg_pgraph.specs.declared.entered.Count.{Count}
 use Rattle.xdg_pgraph.specs.declared.entered.Count.TheVariants as counts
 use Rattle.xdg_pgraph.specs.Incomings.{HaveLabels, IsCount}
 use Rattle.xdg_pgraph.specs.Seeking.{Into}
-use Rattle.xdg_pgraph.proofs.Classed.{both_bits}
+use Rattle.xdg_facts.proofs.Bits.{both_bits, lowest_label_bit}
 
 -- ---- bits
-
--- the lowest bit of a number that isn't 0
-pub lowest_bit : (n : ℕ) → (n ≡ 0 → ⊥) → n < 2 ^ 32 → (trailing_zeros w32 n < 32) × (bit_at n (trailing_zeros w32 n) ≡ 1)
-lowest_bit n some small = (let t = bit_at-trailing_zeros w32 n (elim (cases_eq n 0) [ inl none ↦ absurd (some none) | inr other ↦ omega (arith, other) ]) small in (t.0, t.1))
 
 module _ (n first : ℕ) (small : n < 2 ^ 32) (within : first < 32) where
   abbrev others : ℕ
@@ -35,7 +31,7 @@ module _ (n first : ℕ) (small : n < 2 ^ 32) (within : first < 32) where
   pub other_bit : (others ≡ 0 → ⊥) → (l : ℕ) × (l ≢ first) × (bit_at n l ≡ 1)
   other_bit some =
       let fewer : others ≤ n = and_le_l n (bit_not w32 (1 * 2 ^ first % 2 ^ 32)) in
-      let found = lowest_bit others some (omega (arith, fewer, small)) in
+      let found = lowest_label_bit others some (omega (arith, fewer, small)) in
       let l : ℕ = trailing_zeros w32 others in (
         l,
         λ same. (let gone : bit_at others first ≡ 0 = bit_at_clear_same w32 n first within in let here : bit_at others first ≡ 1 = subst (λ k. bit_at others k ≡ 1) same found.1 in omega (arith, gone, here)),

@@ -3,7 +3,6 @@ use Rattle.std.proofs.Common.{◌≡◌, ℕ, ◌<◌, inl, inr, Bool, true, Lis
 use Rattle.std.specs.Prelude.{IsTrue, nat_lt, slice_index_or, ◌&&◌, ◌||◌, ◌↔◌}
 use Rattle.std.proofs.lemmas.Bool.{cases_lt}
 use Rattle.std.proofs.lemmas.List.{get_or_past}
-use Rattle.xdg_nodeset.proofs.TableSets.{both, either as one_of}
 use Rattle.xdg_problem.specs.declared.analysis.Edge.{Edge}
 use Rattle.xdg_problem.specs.declared.parts.DimPlan.{DimPlan}
 use Rattle.xdg_problem.specs.declared.parts.Group.{Group}
@@ -32,6 +31,7 @@ use Rattle.xdg_facts.proofs.Rising.{no_member}
 use Rattle.xdg_facts.proofs.Truths.{either}
 use Rattle.xdg_facts.specs.Rises.{has as has_node}
 use Rattle.xdg_propcore.proofs.Losing.{kept_or_lost}
+use Rattle.xdg_facts.proofs.Sets.{both, either as one_of}
 
 -- ---- what is lost of a bundle
 

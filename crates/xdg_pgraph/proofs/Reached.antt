@@ -3,7 +3,6 @@ use Rattle.std.proofs.Common.{◌≡◌, ◌≢◌, ℕ, ◌<◌, ◌≤◌, ◌
 use Rattle.std.specs.Prelude.{Contains}
 use Rattle.xdg_facts.specs.Rises.{has}
 use Rattle.xdg_nodeset.specs.Tables.{In}
-use Rattle.xdg_nodeset.proofs.TableSets.{both, none_in}
 use Rattle.xdg_problem.specs.declared.analysis.Edge.{Edge}
 use Rattle.xdg_problem.specs.declared.parts.Parts.{Parts}
 use Rattle.xdg_problem.specs.Paths.{Above, IsDaughter}
@@ -21,6 +20,7 @@ use Rattle.xdg_pgraph.specs.Seeking.{Aims, Backs, BacksInto, FromTo}
 use Rattle.xdg_propcore.proofs.Passing.{clears_none}
 use Rattle.xdg_pgraph.proofs.RuledRoots.{all_cleared}
 use Rattle.xdg_pgraph.proofs.Taken.{aims_all}
+use Rattle.xdg_facts.proofs.Sets.{both, none_in}
 
 -- what is cleared by a table of paths is what the rule takes
 pub cycles_run : (plane : Plane) (p q : Progress) (old new : State) (far : List (List ℕ)) → IsPlane old.parts plane → ((a b : ℕ) → In far a b ↔ Above (must_edges old.parts old.now plane.dim.0) a b) → Clears (Aims old.parts plane.dim.0 founds.More (Backs far)) p old q new → RunsFor NoCycle plane.dim.0 p old q new

@@ -6,7 +6,6 @@ use Rattle.std.proofs.lemmas.List.{nil_from_length}
 use Rattle.xdg_facts.specs.Rises.{has}
 use Rattle.xdg_facts.proofs.Rising.{contains_has, contains_of_has}
 use Rattle.xdg_nodeset.specs.Nodes.{IsNodes}
-use Rattle.xdg_nodeset.proofs.TableSets.{both}
 use Rattle.xdg_problem.specs.declared.analysis.Edge.{Edge}
 use Rattle.xdg_problem.specs.Paths.{roots}
 use Rattle.xdg_problem.specs.Places.{below}
@@ -15,9 +14,11 @@ use Rattle.xdg_rules.proofs.Among.{free_root, is_root, root_contained, root_free
 use Rattle.xdg_pgraph.specs.declared.entered.Roots.TheVariants as rootss
 use Rattle.xdg_pgraph.specs.Entering.{Enters}
 use Rattle.xdg_pgraph.specs.Seeking.{RootsAre}
-use Rattle.xdg_pgraph.proofs.Rising.{node_below, nodes_rising, rising_same}
+use Rattle.xdg_pgraph.proofs.Rising.{node_below, nodes_rising}
 use Rattle.xdg_facts.proofs.Contained.{contains_filter}
 use Rattle.xdg_facts.proofs.InOrder.{ordered_filter}
+use Rattle.xdg_facts.proofs.Merging.{rising_same}
+use Rattle.xdg_facts.proofs.Sets.{both}
 
 module _ (edges : List Edge) (n : ℕ) (all some set : List ℕ) (whole : (k : ℕ) → has all k ≡ nat_lt k n) (free : (k : ℕ) → has set k ≡ (has all k && not (has some k))) (is : IsNodes set) (t : (k : ℕ) → IsTrue (has some k) ↔ Enters (Contains edges) k) where
   set_root : (v : ℕ) → Contains set v → Contains (roots n edges) v

@@ -1,6 +1,5 @@
 -- What a rule takes, part by part.
-use Rattle.std.proofs.Common.{◌≡◌, ℕ, ◌⊎◌, ◌||◌, inl, inr, Bool, true, false, List, ◌∷◌, refl, ap, sym, ◌∙◌, subst}
-use Rattle.std.proofs.lemmas.Bool.{cases_eq, ne_eqb}
+use Rattle.std.proofs.Common.{◌≡◌, ℕ, ◌⊎◌, inl, inr, Bool, true, false, List, refl, sym, subst}
 use Rattle.xdg_facts.specs.Rises.{has}
 use Rattle.xdg_problem.specs.declared.parts.Group.{Group}
 use Rattle.xdg_problem.specs.declared.parts.Parts.{Parts}
@@ -90,13 +89,6 @@ module _ (dim : ℕ) (p q r : Progress) (old mid new : State) where
       Now parts group box d v = (box ≡ mid.now) × Aim d v
 
 -- ---- over nodes
-
--- what isn't behind the first isn't there, or is the first
-pub still_out : (left rest : List ℕ) (v : ℕ) → left ≡ v ∷ rest → (w : ℕ) → has rest w ≡ false → (has left w ≡ false) ⊎ (w ≡ v)
-still_out left rest v is w out = elim (cases_eq w v) [
-  | inl same ↦ inr same
-  | inr other ↦ inl (subst (λ s. has s w ≡ false) (sym is) (ap (λ b. b || has rest w) (ne_eqb v w (λ e. other (sym e))) ∙ out))
-]
 
 -- what a rule takes at a node, of each value that it takes
 abbrev pub AtNode : Rule → Type 0

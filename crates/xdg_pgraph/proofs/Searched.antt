@@ -1,10 +1,8 @@
 -- Searches for edges, step by step.
-use Rattle.std.proofs.Common.{◌≡◌, ◌≢◌, ℕ, ◌+◌, ◌<◌, ◌≤◌, ◌⊎◌, ◌↔◌, ◌==◌, inl, inr, Bool, true, IsTrue, List, [], ◌∷◌, length, refl, sym, ◌∙◌, ap, subst, arith}
+use Rattle.std.proofs.Common.{◌≡◌, ℕ, ◌+◌, ◌<◌, ◌≤◌, ◌⊎◌, ◌↔◌, inl, inr, Bool, true, IsTrue, List, [], ◌∷◌, length, refl, sym, ◌∙◌, ap, subst, arith}
 use Rattle.std.specs.Prelude.{Contains}
-use Rattle.std.proofs.lemmas.Bool.{eq-eqb}
 use Rattle.std.proofs.lemmas.List.{nil_from_length}
 use Rattle.xdg_facts.proofs.Rising.{head_in, head_or_tail, no_member}
-use Rattle.xdg_facts.proofs.Truths.{either_true, or_here}
 use Rattle.xdg_nodeset.specs.Nodes.{IsNodes}
 use Rattle.xdg_problem.specs.declared.analysis.Edge.{Edge}
 use Rattle.xdg_problem.specs.declared.parts.Parts.{Parts}
@@ -20,7 +18,8 @@ use Rattle.xdg_pgraph.specs.Seeking.{Finds, IsMore, Joins, Into, IntoWith, found
 use Rattle.xdg_pgraph.proofs.Below.{Below, below_apart, below_cases, below_last, below_more}
 use Rattle.xdg_pgraph.proofs.Looked.{finds_like, finds_with, finds_merged}
 use Rattle.xdg_pgraph.proofs.PlaneFacts.{which_on, which_place}
-use Rattle.xdg_facts.specs.Rises.{has, Rises}
+use Rattle.xdg_facts.specs.Rises.{has}
+use Rattle.xdg_facts.proofs.Sets.{two_in}
 
 -- those with one of the first labels
 abbrev pub FirstLabels : (Edge → Type 0) → ℕ → Edge → Type 0
@@ -34,17 +33,6 @@ pub into_two : (P : Edge → Type 0) (l : ℕ) (found : Found) → IsMore found 
 into_two P l founds.Nothing more f = absurd more
 into_two P l (founds.One e) more f = absurd more
 into_two P l founds.More more f = (f.0, f.1, f.2.0, f.3.0, f.4)
-
-pub two_in : (s : List ℕ) → Rises 0 128 s → 1 < length s → (a : ℕ) × (b : ℕ) × (has s a ≡ true) × (has s b ≡ true) × (a ≢ b)
-two_in [] rises two = absurd (omega (arith, two))
-two_in (a ∷ []) rises two = absurd (omega (arith, two))
-two_in (a ∷ b ∷ s) rises two = (
-  a,
-  b,
-  or_here (a == a) (has (b ∷ s) a) (eq-eqb a a refl),
-  either_true (a == b) (has (b ∷ s) b) (or_here (b == b) (has s b) (eq-eqb b b refl)),
-  λ same. (let up = rises.2.0 in omega (arith, up, same)),
-)
 
 -- ---- as the code goes
 

@@ -33,10 +33,11 @@ use Rattle.xdg_pgraph.specs.Planes.{IsPlane}
 use Rattle.xdg_pgraph.specs.Seeking.{Finds, Into, NoneOnly, Only, RootsAre}
 use Rattle.xdg_pgraph.specs.Ruling.{RunsFor, ForOthers}
 use Rattle.xdg_pgraph.proofs.PlaneFacts.{which_place}
-use Rattle.xdg_pgraph.proofs.Ruled.{AtNode, Outside, RunsPart, node_cleared, part_none, still_out}
+use Rattle.xdg_pgraph.proofs.Ruled.{AtNode, Outside, RunsPart, node_cleared, part_none}
 use Rattle.xdg_pgraph.proofs.RuledRoots.{all_cleared, roots_same}
 use Rattle.xdg_pgraph.proofs.TreeTests.{two_of}
 use Rattle.xdg_facts.specs.Rises.{has}
+use Rattle.xdg_facts.proofs.Sets.{still_out}
 
 -- ---- how many edges lead into a node
 

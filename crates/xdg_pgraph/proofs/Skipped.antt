@@ -2,7 +2,6 @@
 use Rattle.std.proofs.Common.{◌≡◌, ℕ, ◌<◌, ◌&&◌, Bool, true, false, List, ◌∷◌, sym, ◌∙◌, subst}
 use Rattle.std.specs.Prelude.{Contains}
 use Rattle.std.proofs.lemmas.Bool.{false≢true}
-use Rattle.xdg_nodeset.proofs.TableSets.{both}
 use Rattle.xdg_problem.specs.declared.analysis.Edge.{Edge}
 use Rattle.xdg_problem.specs.declared.parts.Parts.{Parts}
 use Rattle.xdg_problem.specs.Boxes.{Has, edge_decision}
@@ -23,6 +22,7 @@ use Rattle.xdg_pgraph.specs.Seeking.{Aims, ToNode}
 use Rattle.xdg_pgraph.proofs.Told.{entered_within}
 use Rattle.xdg_facts.proofs.Rising.{head_in}
 use Rattle.xdg_facts.specs.Rises.{has}
+use Rattle.xdg_facts.proofs.Sets.{both}
 
 -- where nothing was taken, the box is the same
 abbrev pub Stays : Progress → State → Progress → State → Type 0

@@ -1,10 +1,9 @@
 -- The nodes into which edges lead, one after another.
 use Rattle.std.proofs.Common.{◌≡◌, ◌≢◌, ℕ, ◌+◌, ◌<◌, ◌||◌, ◌&&◌, ◌==◌, inl, inr, Bool, true, false, not, List, [], ◌∷◌, refl, sym, ◌∙◌, ap, ap₂, subst, arith}
 use Rattle.std.specs.Prelude.{Contains, nat_lt}
-use Rattle.std.proofs.lemmas.Bool.{cases_Bool, cases_eq, eq-eqb, ne_eqb, false_from_ne_true, false≢true, lt-ltb, ltb-true}
+use Rattle.std.proofs.lemmas.Bool.{cases_Bool, cases_eq, eq-eqb, ne_eqb, false_from_ne_true, false≢true, lt-ltb}
 use Rattle.xdg_facts.proofs.Truths.{or_false}
 use Rattle.xdg_facts.specs.Rises.{has}
-use Rattle.xdg_nodeset.proofs.TableSets.{both}
 use Rattle.xdg_problem.specs.declared.analysis.Edge.{Edge}
 use Rattle.xdg_problem.specs.declared.parts.Parts.{Parts}
 use Rattle.xdg_problem.specs.Boxes.{Has, edge_decision}
@@ -22,10 +21,9 @@ use Rattle.xdg_pgraph.specs.Musts.{IsSettled}
 use Rattle.xdg_pgraph.specs.Seeking.{Into, NoneOnly}
 use Rattle.xdg_pgraph.proofs.Single.{not_more}
 use Rattle.xdg_pgraph.proofs.Skipped.{must_may}
-use Rattle.xdg_pgraph.proofs.Ruled.{still_out}
-use Rattle.xdg_facts.proofs.Rising.{head_in}
 use Rattle.xdg_pgraph.proofs.Below.{Below}
 use Rattle.xdg_pgraph.proofs.Told.{TellsAt, all_told, at_like}
+use Rattle.xdg_facts.proofs.Sets.{both, still_out}
 
 -- ---- a node more
 
@@ -101,10 +99,6 @@ settled_next parts box dim w first left rest is here before v there out = elim (
   | inl left_out ↦ before v there left_out
   | inr same ↦ subst (IsSettled parts box dim) (sym same) here
 ]
-
--- the next of some nodes of the sentence
-pub next_within : (n : ℕ) (some all here first left rest : List ℕ) (v : ℕ) → ((k : ℕ) → has all k ≡ nat_lt k n) → ((k : ℕ) → has here k ≡ (has some k && has all k)) → first ≡ here → ((k : ℕ) → has left k ≡ true → has first k ≡ true) → left ≡ v ∷ rest → v < n
-next_within n some all here first left rest v whole met first_is within is = ltb-true v n (sym (whole v) ∙ ((both (has some v) (has all v)).0 (sym (met v) ∙ ap (λ s. has s v) (sym first_is) ∙ within v (head_in left rest v is))).1)
 
 pub all_settled : (parts : Parts) (box : List (List Bool)) (dim n : ℕ) (some all here first left : List ℕ) → ((k : ℕ) → has all k ≡ nat_lt k n) → ((k : ℕ) → has here k ≡ (has some k && has all k)) → first ≡ here → left ≡ [] → AreSettled parts box dim first left → (v : ℕ) → v < n → has some v ≡ true → IsSettled parts box dim v
 all_settled parts box dim n some all here first left whole met first_is none settled v l there = settled v (ap (λ s. has s v) first_is ∙ met v ∙ (both (has some v) (has all v)).1 (there, whole v ∙ lt-ltb v n l)) (ap (λ s. has s v) none)

@@ -2,7 +2,6 @@
 use Rattle.std.proofs.Common.{◌≡◌, ◌≢◌, ℕ, ◌+◌, ◌<◌, ◌≤◌, ◌⊎◌, ◌↔◌, ◌||◌, ◌&&◌, inl, inr, Bool, true, IsTrue, List, [], refl, sym, ◌∙◌, subst, arith}
 use Rattle.std.specs.Prelude.{Contains}
 use Rattle.std.proofs.lemmas.Bool.{false≢true}
-use Rattle.xdg_nodeset.proofs.TableSets.{either, both}
 use Rattle.xdg_problem.specs.declared.analysis.Edge.{Edge}
 use Rattle.xdg_problem.specs.declared.parts.Parts.{Parts}
 use Rattle.xdg_problem.specs.Places.{edge}
@@ -18,6 +17,7 @@ use Rattle.xdg_pgraph.proofs.Below.{At, Below, below_apart, below_cases, below_l
 use Rattle.xdg_pgraph.proofs.PlaneFacts.{which_on, which_place}
 use Rattle.xdg_facts.proofs.Truths.{either_true, or_here}
 use Rattle.xdg_facts.specs.Rises.{has}
+use Rattle.xdg_facts.proofs.Sets.{either, both}
 
 -- whether one of some edges leads into a node, and whether two do
 abbrev pub TellsAt : (Edge → Type 0) → ℕ → Bool → Bool → Type 0

@@ -1,6 +1,5 @@
 -- The daughters of a node by a label, one after another, and those near which nothing was lost.
 use Rattle.std.proofs.Common.{◌≡◌, ◌≢◌, ℕ, ◌<◌, ◌↔◌, ◌&&◌, IsTrue, Bool, true, List, length, refl, sym, ◌∙◌, subst}
-use Rattle.xdg_nodeset.proofs.TableSets.{both, none_in}
 use Rattle.xdg_problem.specs.declared.parts.Group.{Group}
 use Rattle.xdg_problem.specs.declared.parts.Parts.{Parts}
 use Rattle.xdg_problem.specs.Analyses.{IsPlace}
@@ -22,6 +21,7 @@ use Rattle.xdg_plink.specs.declared.near.Near.{Near}
 use Rattle.xdg_plink.proofs.Present.{takes_present}
 use Rattle.xdg_facts.specs.Rises.{has}
 use Rattle.xdg_problem.proofs.Edges.{edge_equal}
+use Rattle.xdg_facts.proofs.Sets.{both, none_in}
 
 -- ---- a set without nodes
 

@@ -65,7 +65,7 @@ fn others(store: &Store, dim: DimId, way: Linking, u: NodeId, v: NodeId, label: 
 }
 
 /// Whether an edge with one of some labels may link v to u, by a table.
-#[tactic(auto, using(xdg_nodeset::proofs::Meetings::none_start))]
+#[tactic(auto, using(xdg_facts::proofs::Meetings::none_start))]
 fn is_led(
     store: &Store,
     dim: DimId,

@@ -1,39 +1,17 @@
 -- The nodes up to the last node of a set, and from its first on.
-use Rattle.std.proofs.Common.{◌≡◌, ℕ, ◌<◌, ◌≤◌, ◌+◌, ◌++◌, ◌↔◌, inl, inr, true, false, List, [], ◌∷◌, sym, ◌∙◌, arith, subst}
+use Rattle.std.proofs.Common.{◌≡◌, ℕ, ◌<◌, ◌≤◌, ◌+◌, ◌++◌, ◌↔◌, inl, inr, true, List, [], ◌∷◌, sym, ◌∙◌, arith, subst}
 use Rattle.std.specs.Prelude.{not, ◌≢◌, ◌==◌, ◌||◌, ◌&&◌}
-use Rattle.std.proofs.lemmas.Bool.{eqb-true, eq-eqb, false≢true}
-use Rattle.xdg_nodeset.proofs.TableSets.{both, either}
+use Rattle.std.proofs.lemmas.Bool.{eqb-true, eq-eqb}
 use Rattle.xdg_nodeset.specs.Nodes.{IsNodes}
 use Rattle.xdg_porder.specs.Across.{Crosses}
 use Rattle.xdg_porder.proofs.Gathering.{nodes_small}
 use Rattle.xdg_facts.proofs.Truths.{left_out}
-use Rattle.xdg_facts.proofs.Rising.{has_next, head_in, no_member}
+use Rattle.xdg_facts.proofs.Rising.{has_next, head_in}
 use Rattle.xdg_facts.specs.Rises.{has, Rises}
-
-least : (low bound v : ℕ) (s : List ℕ) → Rises low bound s → has s v ≡ true → low ≤ v
-least low bound v [] rises h = absurd (false≢true h)
-least low bound v (n ∷ s) rises h = elim ((either (n == v) (has s v)).0 h) [
-  | inl same ↦ (let e = eqb-true n v same in let m = rises.0 in omega (arith, m, e))
-  | inr later ↦ (let r = least (n + 1) bound v s rises.2 later in let m = rises.0 in omega (arith, r, m))
-]
-
-greatest : (low bound v : ℕ) (front : List ℕ) (end : ℕ) → Rises low bound (front ++ end ∷ []) → has (front ++ end ∷ []) v ≡ true → v ≤ end
-greatest low bound v [] end rises h = elim ((either (end == v) false).0 h) [
-  | inl same ↦ (let e = eqb-true end v same in omega (arith, e))
-  | inr none ↦ absurd (false≢true none)
-]
-greatest low bound v (n ∷ front) end rises h = elim ((either (n == v) (has (front ++ end ∷ []) v)).0 h) [
-  | inl same ↦ (let e = eqb-true n v same in let m = least (n + 1) bound end (front ++ end ∷ []) rises.2 (has_next front [] end) in omega (arith, e, m))
-  | inr later ↦ greatest (n + 1) bound v front end rises.2 later
-]
+use Rattle.xdg_facts.proofs.Sets.{both, either, end_exact, least, greatest}
 
 pub last_small : (ends front : List ℕ) (end : ℕ) → IsNodes ends → ends ≡ front ++ end ∷ [] → end < 128
 last_small ends front end nodes is = nodes_small ends nodes end (subst (λ s. has s end ≡ true) (sym is) (has_next front [] end))
-
--- what is beside one of some nodes is beside the one that is beside the most
-end_exact : (R : ℕ → ℕ → Type 0) (ends set : List ℕ) (end : ℕ) → has ends end ≡ true → ((v w : ℕ) → has ends w ≡ true → R v w → R v end) → ((v : ℕ) → (has set v ≡ true) ↔ R v end) → (v : ℕ) →
-    (has set v ≡ true) ↔ ((w : ℕ) × (has ends w ≡ true) × R v w)
-end_exact R ends set end among most exact v = (λ h. (end, among, (exact v).0 h), λ (w, there, at). (exact v).1 (most v w there at))
 
 pub left_exact : (ends front set : List ℕ) (end : ℕ) → IsNodes ends → ends ≡ front ++ end ∷ [] → ((v : ℕ) → (has set v ≡ true) ↔ (v ≤ end))
     → (v : ℕ) → (has set v ≡ true) ↔ ((w : ℕ) × (has ends w ≡ true) × (v ≤ w))
@@ -47,9 +25,6 @@ right_exact ends rest set end nodes is = end_exact (λ v w. (w ≤ v) × (v < 12
     let m = least end 128 w (end ∷ rest) (omega arith, rises.1, rises.2) (subst (λ s. has s w ≡ true) is there) in
     let l = at.0 in
     (omega (arith, l, m), at.1))
-
-pub none_exact : (Q : ℕ → ℕ → Type 0) (ends set : List ℕ) → ends ≡ [] → set ≡ [] → (v : ℕ) → (has set v ≡ true) ↔ ((w : ℕ) × (has ends w ≡ true) × Q v w)
-none_exact Q ends set none empty v = (λ h. absurd (no_member set v empty h), λ (w, there, q). absurd (no_member ends w none there))
 
 -- ---- crossing
 

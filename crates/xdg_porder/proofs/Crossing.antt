@@ -1,6 +1,5 @@
 -- Edges across nodes, taken by a table.
 use Rattle.std.proofs.Common.{◌≡◌, ℕ, ◌<◌, ◌↔◌, ◌&&◌, inl, inr, Bool, true, List, [], get_or, refl, sym, ◌∙◌, arith, subst}
-use Rattle.xdg_nodeset.proofs.TableSets.{both}
 use Rattle.xdg_nodeset.specs.Tables.{In}
 use Rattle.xdg_problem.specs.declared.analysis.Edge.{Edge}
 use Rattle.xdg_problem.specs.declared.parts.Group.{Group}
@@ -27,6 +26,7 @@ use Rattle.xdg_porder.specs.Across.{AreLabelsDone, Crosses, IsAcrossNode, IsLabe
 use Rattle.xdg_porder.specs.Items.{MayFollow, NoneFollow, TakesEdges, edge_to}
 use Rattle.xdg_porder.proofs.Removing.{ready_later}
 use Rattle.xdg_facts.specs.Rises.{has}
+use Rattle.xdg_facts.proofs.Sets.{both}
 
 -- a node between two nodes of the sentence is one
 pub between_within : (u v w n : ℕ) → IsBetween u v w → u < n → v < n → w < n

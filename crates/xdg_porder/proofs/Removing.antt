@@ -2,7 +2,6 @@
 use Rattle.std.proofs.Common.{◌≡◌, ◌≢◌, ℕ, ◌<◌, ◌==◌, ◌&&◌, inl, inr, Bool, true, false, List, refl, sym, ap, ◌∙◌, arith, subst}
 use Rattle.std.specs.Prelude.{not}
 use Rattle.std.proofs.lemmas.Bool.{ne_eqb, false≢true, eq-eqb}
-use Rattle.xdg_nodeset.proofs.TableSets.{both}
 use Rattle.xdg_problem.specs.declared.parts.Group.{Group}
 use Rattle.xdg_problem.specs.declared.parts.Parts.{Parts}
 use Rattle.xdg_problem.specs.Analyses.{IsPlace}
@@ -22,6 +21,7 @@ use Rattle.xdg_graph.specs.Slots.{IsSlot, decision_of}
 use Rattle.xdg_graph.specs.declared.slot.Slot.{Slot}
 use Rattle.xdg_graph.proofs.SlotValues.{slot_below}
 use Rattle.xdg_facts.specs.Rises.{has}
+use Rattle.xdg_facts.proofs.Sets.{both}
 
 -- what is ready stays so
 pub ready_later : (group : Group) (Done : List (List Bool) → Type 0) (p : Progress) (old : State) (q : Progress) (new : State) → IsReady group old → Sweeps group Done p old q new → IsReady group new

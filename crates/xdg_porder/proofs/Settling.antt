@@ -3,7 +3,6 @@ use Rattle.std.proofs.Common.{◌≡◌, ℕ, ◌<◌, ◌≤◌, ◌+◌, ◌�
 use Rattle.std.specs.Prelude.{not}
 use Rattle.std.proofs.lemmas.Bool.{cases_Bool, cases_lt, false≢true}
 use Rattle.xdg_nodeset.specs.Tables.{In, Meet}
-use Rattle.xdg_nodeset.proofs.TableSets.{either}
 use Rattle.xdg_problem.specs.declared.parts.Group.{Group}
 use Rattle.xdg_problem.specs.declared.parts.Parts.{Parts}
 use Rattle.xdg_porder.specs.Items.{MayFollow, MustFollow}
@@ -11,6 +10,7 @@ use Rattle.xdg_porder.specs.Yields.{IsLabelSettled}
 use Rattle.xdg_facts.proofs.Truths.{left_out}
 use Rattle.xdg_facts.proofs.Rising.{no_member}
 use Rattle.xdg_facts.specs.Rises.{has}
+use Rattle.xdg_facts.proofs.Sets.{either}
 
 -- where no node is left that may follow and needn't
 pub settled_exact : (parts : Parts) (group : Group) (box : List (List Bool)) (u label : ℕ) (may must free : List ℕ) (b : Bool) → ((v : ℕ) → (has may v ≡ true) ↔ MayFollow parts group box u label v) → ((v : ℕ) → (has must v ≡ true) ↔ MustFollow parts group box u label v) → ((v : ℕ) → has free v ≡ (has may v && not (has must v))) → IsTrue b ↔ ((v : ℕ) → has free v ≡ true → ⊥) → IsTrue b ↔ IsLabelSettled parts group u label box

@@ -2,7 +2,6 @@
 use Rattle.std.proofs.Common.{◌≡◌, ℕ, ◌<◌, ◌≤◌, ◌+◌, ◌-◌, ◌↔◌, ◌&&◌, ◌||◌, inl, inr, Bool, true, List, length, sym, ap, ◌∙◌, arith, subst}
 use Rattle.std.proofs.lemmas.Bool.{cases_lt}
 use Rattle.std.proofs.lemmas.List.{length-map}
-use Rattle.xdg_nodeset.proofs.TableSets.{both, either}
 use Rattle.xdg_problem.specs.declared.parts.Group.{Group}
 use Rattle.xdg_problem.specs.declared.parts.Parts.{Parts}
 use Rattle.xdg_problem.specs.Boxes.{Has, IsOnly, LiesIn, edge_decision}
@@ -21,6 +20,8 @@ use Rattle.xdg_porder.specs.declared.sides.Side.TheVariants as sides
 use Rattle.xdg_porder.proofs.Pairing.{comes, items_go}
 use Rattle.xdg_facts.specs.Rises.{has}
 use Rattle.xdg_problem.proofs.BoxPlaces.{has_decision}
+use Rattle.xdg_facts.proofs.Numbers.{counted_back}
+use Rattle.xdg_facts.proofs.Sets.{both, either}
 
 -- ---- the wrong side of an item
 
@@ -145,16 +146,13 @@ module _ (group : Group) (u : ℕ) (side : Side) (k label : ℕ) (is : label ≡
 
 -- ---- both sides
 
-back : (n k : ℕ) → k < n → n - 1 - (n - 1 - k) ≡ k
-back n k within = omega (arith, within)
-
 -- what is done from both sides is done at each two labels
 sides_done : (parts : Parts) (group : Group) (u : ℕ) (box : List (List Bool)) → IsSideDone parts group u sides.Left (length group.order) box → IsSideDone parts group u sides.Right (length group.order) box → IsNodeDone parts group u box
 sides_done parts group u box left right i j less within = (
   λ v w may must far. left i j v w less within may must far,
   λ v w may must far. right (length group.order - 1 - j) (length group.order - 1 - i) v w (omega (arith, less, within)) (omega (arith, less, within))
-      (subst (λ k. MayStand parts group box u (label_at group k) v) (sym (back (length group.order) i (omega (arith, less, within)))) may)
-      (subst (λ k. MustStand parts group box u (label_at group k) w) (sym (back (length group.order) j within)) must)
+      (subst (λ k. MayStand parts group box u (label_at group k) v) (sym (counted_back (length group.order) i (omega (arith, less, within)))) may)
+      (subst (λ k. MustStand parts group box u (label_at group k) w) (sym (counted_back (length group.order) j within)) must)
       far,
 )
 

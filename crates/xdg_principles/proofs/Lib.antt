@@ -7,7 +7,6 @@ pub mod MemberPlaces
 pub mod NameLaw
 pub mod OneUse
 pub mod Rows
-pub mod Sides
 pub mod Tables
 pub mod TypedArgs
 pub mod TypedLaw

@@ -13,7 +13,6 @@ use Rattle.xdg_ast.specs.Misnamed.{IsUnknown, IsTwice}
 use Rattle.xdg_types.specs.Parts.{Statement, dim_names, used_names, keys}
 use Rattle.xdg_names.proofs.Listing.{lists_tell, lists_unknown}
 use Rattle.xdg_types.proofs.Listings.{joined_each, nested, regrouped}
-use Rattle.xdg_types.proofs.Optional.{lists_one, lists_option, lists_if}
 use Rattle.xdg_types.proofs.Distinct.{same_known}
 use Rattle.xdg_names.proofs.Texts.{has_among, among_has}
 use Rattle.xdg_types.proofs.NamesAgain.{all_twice}
@@ -27,7 +26,7 @@ use Rattle.xdg_problem.specs.Names.{named}
 use Rattle.xdg_principles.specs.Uses.{Use, principle_uses, values}
 use Rattle.xdg_facts.specs.Membership.{In}
 use Rattle.xdg_ast.specs.Texts.{texts}
-use Rattle.xdg_facts.proofs.Parts.{Lists, lists_as, lists_both, lists_each}
+use Rattle.xdg_facts.proofs.Parts.{Lists, lists_as, lists_both, lists_each, lists_one, lists_option, lists_if}
 
 -- ---- the keys of a principle
 

@@ -20,21 +20,19 @@ use Rattle.xdg_problem.specs.declared.forms.Which.{Which}
 use Rattle.xdg_problem.specs.Forms.{dims_in, form_of, parameters}
 use Rattle.xdg_principles.specs.Settings.{Setting, setting_of, dim_texts, dim_place, labels, term_in, constant_at, list_at, names_at}
 use Rattle.xdg_principles.specs.Uses.{Use, principle_uses}
-use Rattle.xdg_principles.proofs.Sides.{zip_once}
 use Rattle.xdg_principles.specs.Made.{IsMember, IsLabelList, IsTruth, IsArg, IsUse, AreUses, ArePrincipleUses, place_called, member_number, label_number, truth_of, arg, args, places, built_with, built}
-
-number : {place : Option ℕ} {n : ℕ} → place ≡ Some n → n ≡ unwrap_or place 0
-number is = sym (ap (λ o. unwrap_or o 0) is)
+use Rattle.xdg_facts.proofs.Options.{number_is}
+use Rattle.xdg_facts.proofs.Zips.{zip_once}
 
 -- ---- one argument
 
 one_member : (setting : Setting) (parameter : Parameter) (sort : Sort) (which : Which) (k : ℕ) → IsMember setting parameter sort which k → k ≡ member_number setting parameter sort which
-one_member setting parameter sort which k h = number (ap (place_called setting sort which) h.1.0 ∙ h.1.1)
+one_member setting parameter sort which k h = number_is (ap (place_called setting sort which) h.1.0 ∙ h.1.1)
 
 one_label_list : (known : List (List ℕ)) (o : Option Term) (ns : List ℕ) → IsLabelList known o ns → ns ≡ map (label_number known) (list_at o)
 one_label_list known None ns h = absurd h
 one_label_list known (Some term) ns h =
-    zip_once (λ (name : Name) n. place_of known name.text ≡ Some n) (label_number known) h.0 ns (λ name n is. number is) h.1.1 ∙ sym (ap (λ (o : Option (List Name)). map (label_number known) (names_at o)) h.1.0)
+    zip_once (λ (name : Name) n. place_of known name.text ≡ Some n) (label_number known) h.0 ns (λ name n is. number_is is) h.1.1 ∙ sym (ap (λ (o : Option (List Name)). map (label_number known) (names_at o)) h.1.0)
 
 truth_told : (b : Bool) → b ≡ bytes_eq (truth_text b) (codes "true")
 truth_told true = refl
@@ -57,9 +55,9 @@ one_use : (dims : List DimType) (one : Use) (made : PrincipleUse) → IsUse dims
 one_use dims one made h =
     let p = made.principle in
     let here : Setting = setting_of dims one p in
-    let home : made.home ≡ unwrap_or (place_of (dim_texts dims) one.within.text) 0 = number h.home in
+    let home : made.home ≡ unwrap_or (place_of (dim_texts dims) one.within.text) 0 = number_is h.home in
     let given : made.dims ≡ places here =
-    zip_once (λ which k. dim_place here which ≡ Some k) (λ which. unwrap_or (dim_place here which) 0) (dims_in (form_of p).dims) made.dims (λ which k is. number is) h.dimensions in
+    zip_once (λ which k. dim_place here which ≡ Some k) (λ which. unwrap_or (dim_place here which) 0) (dims_in (form_of p).dims) made.dims (λ which k is. number_is is) h.dimensions in
     let filled : made.args ≡ args here (parameters (form_of p)) =
     zip_once (λ (x : Parameter) made. IsArg here x x.wanted made) (λ x. arg here x x.wanted) (parameters (form_of p)) made.args (λ x. one_arg here x x.wanted) h.arguments in
     let same : made ≡ built_with dims one (Some p) = λ i. record { principle = p; home = home i; dims = given i; args = filled i; at = h.at i } in

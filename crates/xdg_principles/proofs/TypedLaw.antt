@@ -22,7 +22,6 @@ use Rattle.xdg_principles.specs.Made.{IsArg, IsUse, ArePrincipleUses, built}
 use Rattle.xdg_principles.specs.Typed.{number_of, dim_at, IsTypedArg, IsTypedUse, AreTypedUses}
 use Rattle.xdg_facts.proofs.Lists.{zip_length}
 use Rattle.xdg_principles.proofs.Rows.{of_texts}
-use Rattle.xdg_principles.proofs.Sides.{zip_first, zip_second, zip_weaker}
 use Rattle.xdg_principles.proofs.Tables.{has_dims}
 use Rattle.xdg_principles.proofs.TypedArgs.{shared_or, small_shared, fixes, typed_arg}
 use Rattle.xdg_principles.proofs.TypedPlaces.{place_in, name_of_dim, place_below, used_text, used_place}
@@ -30,6 +29,7 @@ use Rattle.xdg_principles.proofs.TypedRows.{HasWhich, which_at, FixesShared, fix
 use Rattle.xdg_principles.proofs.UseLaw.{stands_here, value_under, are_uses}
 use Rattle.xdg_facts.specs.Membership.{In}
 use Rattle.xdg_ast.specs.Texts.{texts}
+use Rattle.xdg_facts.proofs.Zips.{zip_first, zip_second, zip_weaker}
 
 -- ---- lists
 

@@ -13,10 +13,10 @@ use Rattle.xdg_types.proofs.Elements.{all_differ, in_texts}
 use Rattle.xdg_problem.specs.declared.forms.Which.{Which}
 use Rattle.xdg_principles.specs.Settings.{Setting, dim_texts, dim_place, place_named}
 use Rattle.xdg_principles.specs.Made.{AreLabels, ArePlaces}
-use Rattle.xdg_principles.proofs.Sides.{zip_second}
 use Rattle.xdg_facts.proofs.Options.{none_some, some_same}
 use Rattle.xdg_facts.specs.Membership.{In, Differ}
 use Rattle.xdg_ast.specs.Texts.{texts}
+use Rattle.xdg_facts.proofs.Zips.{zip_second}
 
 -- ---- labels
 

@@ -40,12 +40,12 @@ use Rattle.xdg_principles.specs.Settings.{Setting, Called, setting_of, setting_i
 use Rattle.xdg_principles.specs.Settings.{term_in, constant_in, constant_at, list_of, list_at, listed_in, called_in, called_or, called_at, called_by, names_at}
 use Rattle.xdg_principles.specs.Arguments.{OneOffends, ArgumentOffends, has_form, truths}
 use Rattle.xdg_principles.specs.Made.{HasDims, IsMember, AreLabels, IsLabelList, IsTruth, IsArg, IsUse, ArePrincipleUses, place_called, member_number, label_number, truth_of, arg, args, built_with, built}
-use Rattle.xdg_principles.proofs.Sides.{zip_map}
 use Rattle.xdg_principles.proofs.Rows.{IsDefaulted, sound_parameter}
 use Rattle.xdg_facts.specs.Membership.{In}
 use Rattle.xdg_facts.proofs.In.{in_flat_map, flat_map_in, map_in}
 use Rattle.xdg_ast.specs.Texts.{texts}
 use Rattle.xdg_terms.proofs.Right.{told}
+use Rattle.xdg_facts.proofs.Zips.{zip_map}
 
 -- ---- lists
 

@@ -1,10 +1,10 @@
 -- The test of a default is exact.
-use Rattle.std.proofs.Common.{◌≡◌, ℕ, ◌+◌, List, [], ◌∷◌, Bool, true, false, Some, length, map, refl, sym, ap, ap₂, ◌∙◌, inl, inr, true≢false}
+use Rattle.std.proofs.Common.{◌≡◌, ℕ, ◌+◌, List, [], ◌∷◌, Bool, true, Some, length, map, refl, sym, ap, ap₂, ◌∙◌, inl, inr, true≢false}
 use Rattle.std.specs.Prelude.{◌==◌, ◌&&◌}
 use Rattle.std.specs.Bool.{Decides}
 use Rattle.std.specs.List.{range_with_len}
 use Rattle.std.specs.Str.{bytes_eq}
-use Rattle.std.proofs.lemmas.Bool.Decides.{same_from_decides, Decides-and, Decides-eqb, Decides-like}
+use Rattle.std.proofs.lemmas.Bool.Decides.{Decides-and, Decides-eqb, Decides-like}
 use Rattle.std.proofs.lemmas.List.{length-map}
 use Rattle.std.proofs.lemmas.List.FromFn.{length-range_with_len}
 use Rattle.std.proofs.lemmas.Slice.Eq.{bytes_eq-Decides}
@@ -87,8 +87,3 @@ default_law (mapping k u) mapped right x = elim (decided u right.1.1) [
 default_law _ mapped right x = absurd mapped
 
 -- ---- full sets
-
--- a list that isn't so long isn't the list of the numbers below a count
-pub other_length : (ns : List ℕ) (n : ℕ) → (length ns ≡ n → ⊥) → false ≡ bytes_eq ns (range_with_len 0 n)
-other_length ns n other =
-    same_from_decides {P = ns ≡ range_with_len 0 n} false (bytes_eq ns (range_with_len 0 n)) ((λ e. absurd (true≢false (sym e))), (λ e. absurd (other (ap length e ∙ length-range_with_len 0 n)))) (bytes_eq-Decides ns (range_with_len 0 n))

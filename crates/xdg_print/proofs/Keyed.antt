@@ -17,11 +17,11 @@ use Rattle.xdg_print.specs.Printed.{put}
 use Rattle.xdg_print.proofs.Put.{put_append, next_of}
 use Rattle.xdg_print.proofs.Written.{put_mark, put_braces}
 use Rattle.xdg_types.specs.Table.{typed}
-use Rattle.xdg_types.proofs.Kept.{at_place}
 use Rattle.xdg_print.specs.Defaulted.{is_default}
 use Rattle.xdg_print.specs.ValueWords.{member_words, card_words, counted_words, keyed_words, words_in, words_of, field_words}
 use Rattle.xdg_print.proofs.Layered.{of_map, of_record}
 use Rattle.xdg_print.proofs.Stood.{braces_done}
+use Rattle.xdg_facts.proofs.Each.{at_place}
 
 -- ---- maps
 

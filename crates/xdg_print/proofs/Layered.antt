@@ -13,8 +13,8 @@ use Rattle.xdg_domain.specs.declared.values.Value.TheOpen.{Value-F}
 use Rattle.xdg_domain.specs.declared.values.Value.TheVariants as v
 use Rattle.xdg_types.specs.Table.{typed}
 use Rattle.xdg_domain.proofs.Shaped.{by_layer}
-use Rattle.xdg_types.proofs.Kept.{at_place}
 use Rattle.xdg_facts.proofs.Lists.{any_default}
+use Rattle.xdg_facts.proofs.Each.{at_place}
 
 -- ---- types
 

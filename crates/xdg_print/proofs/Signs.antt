@@ -1,21 +1,15 @@
 -- Cardinalities that a sign stands for, and the numbers of the others.
-use Rattle.std.proofs.Common.{◌≡◌, ℕ, ◌<◌, ◌≤◌, ◌+◌, ◌-◌, List, [], ◌∷◌, Bool, true, false, nat_lt, map, filter, refl, sym, ap, ◌∙◌, true≢false, arith}
+use Rattle.std.proofs.Common.{◌≡◌, ℕ, ◌<◌, ◌≤◌, ◌+◌, List, [], ◌∷◌, Bool, true, false, nat_lt, map, refl, sym, ap, ◌∙◌, true≢false, arith}
 use Rattle.std.specs.Prelude.{◌↔◌, ◌||◌, ◌==◌}
-use Rattle.std.specs.List.{range_with_len}
-use Rattle.std.specs.Str.{bytes_eq}
-use Rattle.std.proofs.lemmas.Bool.Decides.{same_from_decides, nat_tests}
-use Rattle.std.proofs.lemmas.Slice.Eq.{bytes_eq-Decides}
+use Rattle.std.proofs.lemmas.Bool.Decides.{nat_tests}
 use Rattle.xdg_ast.specs.Words.{number}
 use Rattle.xdg_domain.specs.Cards.{cards, with_card, IsCards}
 use Rattle.xdg_print.specs.declared.printer.Printer.{Printer}
 use Rattle.xdg_print.specs.Printed.{put}
-use Rattle.xdg_packed.proofs.Writing.{cards_from, next_card, all_from}
+use Rattle.xdg_packed.proofs.Writing.{all_from}
 use Rattle.xdg_facts.specs.Rises.{has, numbers_below}
 use Rattle.xdg_facts.proofs.Rising.{numbers_agree, has_of}
-
--- a test that is exact is the test of the two lists
-pub same_test : (b : Bool) (ns ms : List ℕ) → (b ≡ true) ↔ (ns ≡ ms) → b ≡ bytes_eq ns ms
-same_test b ns ms exact = same_from_decides b (bytes_eq ns ms) (exact.0, exact.1) (bytes_eq-Decides ns ms)
+use Rattle.xdg_facts.proofs.Members.{members_from, next_member, none_from}
 
 pub zero_and_one : with_card (0 ∷ []) 1 ≡ 0 ∷ 1 ∷ []
 unfolding numbers_below
@@ -49,16 +43,10 @@ zero_refused s with_it b is none with exact = (
 
 -- ---- numbers
 
-pub card_put : (bound : ℕ) (s : List ℕ) (n m : ℕ) (p q end : Printer) → n < bound → has s n ≡ true → m ≡ n → q ≡ put (number m ∷ []) p → put (map number (cards_from bound s n)) p ≡ end → put (map number (cards_from bound s (n + 1))) q ≡ end
+pub card_put : (bound : ℕ) (s : List ℕ) (n m : ℕ) (p q end : Printer) → n < bound → has s n ≡ true → m ≡ n → q ≡ put (number m ∷ []) p → put (map number (members_from bound s n)) p ≡ end → put (map number (members_from bound s (n + 1))) q ≡ end
 card_put bound s n m p q end within some same added before =
-    ap (put (map number (cards_from bound s (n + 1)))) (added ∙ ap (λ k. put (number k ∷ []) p) same) ∙ next_card (λ l. put (map number l) p ≡ end) bound s n true within some before
+    ap (put (map number (members_from bound s (n + 1)))) (added ∙ ap (λ k. put (number k ∷ []) p) same) ∙ next_member (λ l. put (map number l) p ≡ end) bound s n true within some before
 
-none_from : (bound n : ℕ) (s : List ℕ) → bound ≤ n → cards_from bound s n ≡ []
-unfolding cards_from
-none_from bound n s over =
-    let size : bound - n ≡ 0 = omega (arith, over) in
-    ap (λ k. filter (has s) (range_with_len n k)) size
-
-pub cards_end : (s : List ℕ) (n : ℕ) (p start : Printer) → 128 ≤ n → IsCards s → put (map number (cards_from 128 s n)) p ≡ put (map number (cards_from 128 s 0)) start → p ≡ put (map number s) start
+pub cards_end : (s : List ℕ) (n : ℕ) (p start : Printer) → 128 ≤ n → IsCards s → put (map number (members_from 128 s n)) p ≡ put (map number (members_from 128 s 0)) start → p ≡ put (map number s) start
 cards_end s n p start over is before =
     ap (λ l. put (map number l) p) (sym (none_from 128 n s over)) ∙ before ∙ ap (λ l. put (map number l) start) (sym (all_from s is))

@@ -10,10 +10,11 @@ use Rattle.xdg_ast.specs.Kinds.{sign_of}
 use Rattle.xdg_ast.specs.Lexemes.{Lexeme, lexeme}
 use Rattle.xdg_ast.specs.Tokenizes.{IsToken, name, number, quoted, sign, Tokenizes, finished, last_comment, gap, token, Spells}
 use Rattle.xdg_ast.specs.Words.{word_of, IsSpellable, AreSpellable}
-use Rattle.xdg_print.proofs.SpelledTexts.{scalars_split, all_pass}
+use Rattle.xdg_print.proofs.SpelledTexts.{all_pass}
 use Rattle.xdg_print.proofs.SpelledNames.{IsMark, named_spelled}
 use Rattle.xdg_print.proofs.SpelledNumbers.{number_spelled}
 use Rattle.xdg_print.proofs.SpelledQuotes.{quoted_spelled}
+use Rattle.xdg_facts.proofs.Encoded.{scalars_split}
 
 sign_mark : (c : ℕ) → IsMark (sign_of c)
 unfolding sign_of

@@ -20,9 +20,10 @@ use Rattle.xdg_ast.specs.Words.{Word, word_of, AreSpellable}
 use Rattle.xdg_ast.specs.Canon.{Line, indented, part_words, statement_lines, spelling, is_tight_behind, is_tight, gap, joined, line_text, lines_of, canon}
 use Rattle.xdg_facts.proofs.Each.{each_append, each_map, each_of_all}
 use Rattle.xdg_print.proofs.AgainWritten.{spellable-split}
-use Rattle.xdg_print.proofs.SpelledTexts.{AreBytesOf, no_bytes, bytes_append, bytes_utf8, ascii_bytes, all_pass, weaker_test}
+use Rattle.xdg_print.proofs.SpelledTexts.{all_pass}
 use Rattle.xdg_print.proofs.SpelledNames.{Says}
 use Rattle.xdg_print.proofs.SpelledWords.{characters, word_bytes, word_says, tight_closing, closing_stops}
+use Rattle.xdg_facts.proofs.Encoded.{AreBytesOf, no_bytes, bytes_append, bytes_utf8, ascii_bytes, weaker_test}
 
 -- ---- white space
 

@@ -15,7 +15,8 @@ use Rattle.xdg_ast.specs.Lexemes.{Lexeme, lexeme}
 use Rattle.xdg_ast.specs.Tokenizes.{size_of, StopsBefore, IsToken, name, Tokenizes, token}
 use Rattle.xdg_ast.specs.Words.{Word, word_of, IsSpellable}
 use Rattle.xdg_facts.proofs.Texts.{either_way}
-use Rattle.xdg_print.proofs.SpelledTexts.{AreBytesOf, ascii_bytes, each_passes, weaker_test, bytes_utf8}
+use Rattle.xdg_print.proofs.SpelledTexts.{each_passes}
+use Rattle.xdg_facts.proofs.Encoded.{AreBytesOf, ascii_bytes, weaker_test, bytes_utf8}
 
 -- ---- the tokens of characters that begin at a place
 

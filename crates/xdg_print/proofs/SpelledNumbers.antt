@@ -11,9 +11,10 @@ use Rattle.xdg_ast.specs.Contents.{with_digit, value_from, value_of}
 use Rattle.xdg_ast.specs.Lexemes.{lexeme}
 use Rattle.xdg_ast.specs.Tokenizes.{StopsBefore, IsToken, number, value_after, greatest_number}
 use Rattle.xdg_ast.specs.Words.{Word, word_of, IsSpellable}
-use Rattle.xdg_print.proofs.SpelledTexts.{AreBytesOf, ascii_bytes, each_passes, weaker_test}
+use Rattle.xdg_print.proofs.SpelledTexts.{each_passes}
 use Rattle.xdg_print.proofs.SpelledNames.{Says, says_more, continue_ascii, digit_continues}
 use Rattle.xdg_lex.proofs.Pending.{value_more}
+use Rattle.xdg_facts.proofs.Encoded.{AreBytesOf, ascii_bytes, weaker_test}
 
 from_append : (value : ℕ) (cs : List ℕ) (c : ℕ) → value_from value (cs ++ c ∷ []) ≡ with_digit (value_from value cs) c
 from_append value [] c = refl

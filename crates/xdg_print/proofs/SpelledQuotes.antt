@@ -14,8 +14,8 @@ use Rattle.xdg_ast.specs.Tokenizes.{size_of, IsInside, nothing, plain, escaped, 
 use Rattle.std.proofs.Math.Logic.{inl, inr}
 use Rattle.xdg_ast.specs.Words.{Word, word_of, IsShortText, IsSpellable}
 use Rattle.xdg_print.proofs.Escaping.{escape, escapable_low, escape_taken, escape_left, character_kept}
-use Rattle.xdg_print.proofs.SpelledTexts.{AreBytesOf, scalars_append, scalars_split}
 use Rattle.xdg_print.proofs.SpelledNames.{Says, says_more}
+use Rattle.xdg_facts.proofs.Encoded.{AreBytesOf, scalars_append, scalars_split}
 
 -- ---- characters that are escaped
 

@@ -14,10 +14,10 @@ use Rattle.xdg_ast.specs.Tokenizes.{StopsBefore, sign}
 use Rattle.xdg_ast.specs.Language.{is}
 use Rattle.xdg_ast.specs.Words.{Word, word_of, mark, IsSpellable}
 use Rattle.xdg_ast.specs.Canon.{text_of, spelling, is_tight_behind, is_tight_before, takes_types, is_tight}
-use Rattle.xdg_print.proofs.SpelledTexts.{AreBytesOf, ascii_bytes, utf8_bytes}
 use Rattle.xdg_print.proofs.SpelledNames.{Says, says_more, is_named, named_says, name_says, name_bytes, digit_continues}
 use Rattle.xdg_print.proofs.SpelledNumbers.{decimal_bytes, number_says}
 use Rattle.xdg_print.proofs.SpelledQuotes.{quote_bytes, quoted_says}
+use Rattle.xdg_facts.proofs.Encoded.{AreBytesOf, ascii_bytes, utf8_bytes}
 
 -- the characters of a word
 abbrev pub characters : Kind → List ℕ → ℕ → List ℕ

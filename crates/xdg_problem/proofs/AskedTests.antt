@@ -17,12 +17,13 @@ use Rattle.xdg_problem.specs.Arguments.{first_dim, second_dim, label_count, orde
 use Rattle.xdg_problem.specs.Asking.{first, second, third, AsksLink, AsksOf, Asks, IsBetween, IsInItem, IsLinked, attr_places}
 use Rattle.xdg_problem.specs.Relations.{IsKept}
 use Rattle.xdg_problem.specs.Tests.{Test, one_label, ordered_daughters, ordered_yields, projective, allowed_value, agreeing, governed, climbing, not_blocked, linked, unlinked, looks_first, looks_at}
-use Rattle.xdg_problem.proofs.Looking.{asked_alike, any_same, count_same, on_same, placed}
+use Rattle.xdg_problem.proofs.Looking.{any_same, count_same, on_same, placed}
 use Rattle.xdg_problem.proofs.LinkTests.{linked_same, unlinked_same}
 use Rattle.xdg_problem.proofs.Tuples.{tuples}
 use Rattle.xdg_problem.proofs.Passing.{PassesAt}
 use Rattle.xdg_problem.proofs.EachTest.{EachNode, EachPair, EachTriple}
 use Rattle.xdg_facts.proofs.Truths.{and_2, either_true, or_here, and_3}
+use Rattle.xdg_facts.proofs.Facts.{asked_alike}
 
 -- what stands in an item by some edges stands in it by others
 item_alike : (few many : List Edge) (yields : Type 0) (own u label z : ℕ) → (IsDaughterBy few u label z → IsDaughterBy many u label z) → (yields → few ≡ many) → IsInItem few yields own u label z → IsInItem many yields own u label z

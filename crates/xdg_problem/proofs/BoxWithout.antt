@@ -1,20 +1,9 @@
 -- A box without a value has all that the box has, but that value.
-use Rattle.std.proofs.Common.{◌≡◌, ◌↔◌, ℕ, ◌≤◌, inl, inr, Bool, true, false, List, [], ◌∷◌, length, get_or, set, zero, suc, refl, sym, ◌∙◌, subst, arith}
-use Rattle.std.proofs.lemmas.Bool.{cases_eq, false≢true}
+use Rattle.std.proofs.Common.{◌≡◌, ◌↔◌, ℕ, inl, inr, Bool, false, List, [], get_or, set, refl, subst}
+use Rattle.std.proofs.lemmas.Bool.{cases_eq}
 use Rattle.std.proofs.lemmas.List.{get_or_past, get_or-set_other}
 use Rattle.xdg_problem.specs.Boxes.{Has, LiesIn, without}
-
--- what was set is read, also past the end where the default is the same
-set_read : {X : Type 0} (xs : List X) (at : ℕ) (x default : X) → (length xs ≤ at → default ≡ x) → get_or (set xs at x) at default ≡ x
-set_read [] at x default past = past (omega arith)
-set_read (y ∷ xs) zero x default past = refl
-set_read (y ∷ xs) (suc at) x default past = set_read xs at x default (λ behind. past (omega arith))
-
-row_without : (row : List Bool) (v w : ℕ) → (get_or (set row v false) w false ≡ true) ↔ ((get_or row w false ≡ true) × (w ≡ v → ⊥))
-row_without row v w = elim (cases_eq w v) [
-  | inl same ↦ (λ h. absurd (false≢true (sym (set_read row v false false (λ past. refl)) ∙ subst (λ k. get_or (set row v false) k false ≡ true) same h)), λ h. absurd (h.1 same))
-  | inr other ↦ rw (get_or-set_other row v w false false other) (λ h. (h, other), λ h. h.0)
-]
+use Rattle.xdg_facts.proofs.Lists.{set_read, row_without}
 
 pub without_has : (box : List (List Bool)) (d v e w : ℕ) → Has (without box d v) e w ↔ (Has box e w × (e ≡ d → w ≡ v → ⊥))
 without_has box d v e w =

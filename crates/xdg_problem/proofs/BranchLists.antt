@@ -1,6 +1,6 @@
 -- Lists of nodes, of which the first has one member alone.
 use Rattle.std.proofs.Common.{◌≡◌, ℕ, ◌<◌, List, [], ◌∷◌, length, get_or, zero, suc, refl, arith}
-use Rattle.std.specs.Prelude.{All, None, slice_get}
+use Rattle.std.specs.Prelude.{All}
 use Rattle.std.proofs.lemmas.List.Elements.{All-nil, All-cons, All-tail}
 use Rattle.xdg_problem.specs.Branches.{first_alone}
 
@@ -25,9 +25,3 @@ pub members_alone : {A : Type 0} (P : List A → Type 0) (lists : List (List (Li
 members_alone P [] place n v some within each l = All-nil P
 members_alone P (xs ∷ lists) place n zero some within each l = All-cons P (get_or xs place []) [] (each 0 some place [] within) (All-nil P)
 members_alone P (xs ∷ lists) place n (suc v) some within each l = each (suc v) l
-
--- where there is no member at a place
-pub none_at : {A : Type 0} (members : List A) (place : ℕ) (none : A) → slice_get members place ≡ None → get_or members place none ≡ none
-none_at [] place none is = refl
-none_at (x ∷ members) zero none is = absurd cc
-none_at (x ∷ members) (suc place) none is = none_at members place none is

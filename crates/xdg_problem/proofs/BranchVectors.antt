@@ -1,5 +1,5 @@
 -- The analyses of a branch are those of the problem that begin with its candidate, and their vectors differ in the first number alone.
-use Rattle.std.proofs.Common.{◌≡◌, ◌↔◌, ℕ, ◌<◌, ◌+◌, inl, inr, List, [], ◌∷◌, ◌++◌, length, get_or, map, refl, ap, sym, ◌∙◌, subst, arith}
+use Rattle.std.proofs.Common.{◌≡◌, ◌↔◌, ℕ, ◌<◌, ◌+◌, inl, inr, List, [], ◌∷◌, ◌++◌, length, get_or, map, ap, sym, ◌∙◌, subst, arith}
 use Rattle.std.specs.Prelude.{AllPairs, Contains}
 use Rattle.std.proofs.lemmas.List.Elements.{Contains-get_or}
 use Rattle.xdg_base.specs.declared.ids.EntryNo.{EntryNo}
@@ -16,6 +16,7 @@ use Rattle.xdg_problem.proofs.EntryPlaces.{EntryBefore, place_back, place_within
 use Rattle.xdg_problem.proofs.OtherTruths.{analysis_still}
 use Rattle.xdg_facts.proofs.Contained.{contains_cases, contains_head, contains_none}
 use Rattle.xdg_facts.proofs.InOrder.{ordered_from_pairs}
+use Rattle.xdg_facts.proofs.Ordered.{less_same}
 
 -- ---- entries
 
@@ -56,11 +57,6 @@ entries_differ (c ∷ candidates) place (e ∷ entries) rising within has =
     }
 entries_differ candidates place entries rising within has = absurd (grind arith)
 
--- vectors whose first numbers are the same are ordered by what follows, whatever these are
-pub less_behind : (n m : ℕ) (x y : List ℕ) → Less (n ∷ x) (n ∷ y) → Less (m ∷ x) (m ∷ y)
-less_behind n m x y (inl less) = absurd (omega (arith, less))
-less_behind n m x y (inr (same, less)) = inr (refl, less)
-
 -- ---- analyses
 
 module _ (parts : Parts) (place : ℕ) (is : IsProblem parts) (within : place < length (first_candidates parts)) where
@@ -91,6 +87,6 @@ module _ (parts : Parts) (place : ℕ) (is : IsProblem parts) (within : place < 
   branch_order a b ha hb =
       let x = branch_vectors a ha in
       let y = branch_vectors b hb in (
-        λ less. subst (λ v. Less v (vector parts b)) (sym x.whole) (subst (Less (place ∷ x.more)) (sym y.whole) (less_behind 0 place x.more y.more (subst (Less (0 ∷ x.more)) y.branch (subst (λ v. Less v (vector (branch_of parts place) b)) x.branch less)))),
-        λ less. subst (λ v. Less v (vector (branch_of parts place) b)) (sym x.branch) (subst (Less (0 ∷ x.more)) (sym y.branch) (less_behind place 0 x.more y.more (subst (Less (place ∷ x.more)) y.whole (subst (λ v. Less v (vector parts b)) x.whole less)))),
+        λ less. subst (λ v. Less v (vector parts b)) (sym x.whole) (subst (Less (place ∷ x.more)) (sym y.whole) (less_same 0 place x.more y.more (subst (Less (0 ∷ x.more)) y.branch (subst (λ v. Less v (vector (branch_of parts place) b)) x.branch less)))),
+        λ less. subst (λ v. Less v (vector (branch_of parts place) b)) (sym x.branch) (subst (Less (0 ∷ x.more)) (sym y.branch) (less_same place 0 x.more y.more (subst (Less (place ∷ x.more)) y.whole (subst (λ v. Less v (vector parts b)) x.whole less)))),
       )

@@ -12,9 +12,9 @@ use Rattle.xdg_problem.specs.BranchLaws.{AreBranchLists, BranchesJoin, BranchLaw
 use Rattle.xdg_problem.specs.Problems.{IsProblem}
 use Rattle.xdg_problem.specs.Solutions.{IsSolution, IsSolutionList, SolutionsRise}
 use Rattle.xdg_problem.specs.Vectors.{place_among}
-use Rattle.xdg_problem.proofs.BranchVectors.{less_behind}
 use Rattle.xdg_problem.proofs.BranchSolutions.{branch_laws}
 use Rattle.xdg_problem.proofs.EntryPlaces.{entry_back, place_within}
+use Rattle.xdg_facts.proofs.Ordered.{less_same}
 
 -- the place of an entry among the candidates of the first node
 entry_place : (candidates : List (List EntryNo)) (entries : List EntryNo) → 0 < length candidates → HasCandidates candidates entries → (place : ℕ) × (place < length (get_or candidates 0 [])) × (get_or entries 0 no_entry ≡ get_or (get_or candidates 0 []) place no_entry)
@@ -50,7 +50,7 @@ module _ (parts : Parts) (is : IsProblem parts) where
         let x = differ a (All-head (IsSolution branch) a list each) in
         let less : Less (0 ∷ u) (0 ∷ x.more) = subst (Less (0 ∷ u)) x.branch rises.0 in
         let behind : SolutionsRise branch (0 ∷ x.more) list = subst (λ v. SolutionsRise branch v list) x.branch rises.1 in
-        (subst (Less (place ∷ u)) (sym x.whole) (less_behind 0 place u x.more less), subst (λ v. SolutionsRise parts v (list ++ rest)) (sym x.whole) (rise_on list rest x.more (All-tail (IsSolution branch) a list each) behind later))
+        (subst (Less (place ∷ u)) (sym x.whole) (less_same 0 place u x.more less), subst (λ v. SolutionsRise parts v (list ++ rest)) (sym x.whole) (rise_on list rest x.more (All-tail (IsSolution branch) a list each) behind later))
 
     rise_from : (list rest : List Analysis) (after : List ℕ) → All (IsSolution branch) list → SolutionsRise branch [] list → UpTo place after → ((more : List ℕ) → Below place more → SolutionsRise parts more rest) → SolutionsRise parts after (list ++ rest)
     rise_from [] rest after each rises up_to later = later after (λ q more less. up_to q more (omega (arith, less)))

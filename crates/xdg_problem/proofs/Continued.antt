@@ -1,5 +1,5 @@
 -- The analysis of a whole vector is that of whatever continues it.
-use Rattle.std.proofs.Common.{◌≡◌, ℕ, ◌≤◌, ◌-◌, cond, List, [], ◌∷◌, ◌++◌, length, take, drop, refl, ap, ◌∙◌, arith, zero, suc, length-drop}
+use Rattle.std.proofs.Common.{◌≡◌, ℕ, ◌≤◌, ◌-◌, cond, List, [], ◌∷◌, ◌++◌, length, take, drop, refl, ap, ◌∙◌, arith, length-drop}
 use Rattle.std.specs.Prelude.{◌==◌, slice_index_or}
 use Rattle.std.proofs.lemmas.List.{take-append-le}
 use Rattle.xdg_base.specs.declared.ids.EntryNo.{EntryNo}
@@ -8,11 +8,7 @@ use Rattle.xdg_problem.specs.declared.parts.Parts.{Parts}
 use Rattle.xdg_problem.specs.Places.{nodes, places}
 use Rattle.xdg_problem.specs.Vectors.{attr_sizes, shape, first_place, entries_at, edges_in, chosen, analysis_of}
 use Rattle.xdg_problem.proofs.VectorFacts.{length_shape}
-
-pub drop_joined : (n : ℕ) (xs ys : List ℕ) → drop n (xs ++ ys) ≡ drop n xs ++ drop (n - length xs) ys
-drop_joined zero xs ys = let e : 0 - length xs ≡ 0 = omega arith in rw e refl
-drop_joined (suc n) [] ys = let e : suc n - 0 ≡ suc n = omega arith in rw e refl
-drop_joined (suc n) (x ∷ xs) ys = let e : suc n - suc (length xs) ≡ n - length xs = omega arith in rw e (drop_joined n xs ys)
+use Rattle.xdg_facts.proofs.Fronts.{drop_joined}
 
 -- entries that stand in a prefix are the same in whatever continues it
 pub entries_same : (candidates : List (List EntryNo)) (p t : List ℕ) → length candidates ≤ length p → entries_at candidates (p ++ t) ≡ entries_at candidates p

@@ -1,5 +1,5 @@
 -- What a rule or a bound asks of all decisions together can be decided.
-use Rattle.std.proofs.Common.{ℕ, ◌<◌, inl, inr, List}
+use Rattle.std.proofs.Common.{ℕ, inl, inr, List}
 use Rattle.std.specs.Prelude.{slice_index}
 use Rattle.xdg_problem.specs.declared.analysis.Edge.{Edge}
 use Rattle.xdg_problem.specs.declared.parts.Parts.{Parts}
@@ -13,15 +13,8 @@ use Rattle.xdg_problem.specs.Paths.{edges_on}
 use Rattle.xdg_problem.specs.Places.{nodes}
 use Rattle.xdg_problem.specs.Truths.{bound, unbound, says, IsTrueOf, EachTrueOf, SomeTrueOf}
 use Rattle.xdg_problem.specs.Vectors.{entries_at}
-use Rattle.xdg_facts.proofs.Decided.{first_below, Decided, decided_both, decided_equal, decided_less, decided_below, decided_either, decided_true, decided_not}
+use Rattle.xdg_facts.proofs.Decided.{Decided, decided_both, decided_equal, decided_less, decided_below, decided_either, decided_true, decided_not, decided_some_below}
 use Rattle.xdg_problem.proofs.DecidingPaths.{decided_daughter_by, decided_above}
-
--- that something holds of a number below a bound
-pub decided_some : (P : ℕ → Type 0) (n : ℕ) → ((k : ℕ) → Decided (P k)) → Decided ((k : ℕ) × (k < n) × P k)
-decided_some P n each = elim (first_below P each n) [
-  | inl never ↦ inr (λ found. never found.0 found.1 found.2)
-  | inr found ↦ inl (found.0, found.1, found.2)
-]
 
 module _ (parts : Parts) (entries attrs : List ℕ) (edges : List Edge) where
   mutual
@@ -30,7 +23,7 @@ module _ (parts : Parts) (entries attrs : List ℕ) (edges : List Edge) where
     decided_claim (conjunction cs) b = decided_each cs b
     decided_claim (disjunction cs) b = decided_one cs b
     decided_claim (every name c) b = decided_below (λ node. IsTrueOf parts entries attrs edges c (bound b name node)) (nodes parts) (λ node. decided_claim c (bound b name node))
-    decided_claim (some name c) b = decided_some (λ node. IsTrueOf parts entries attrs edges c (bound b name node)) (nodes parts) (λ node. decided_claim c (bound b name node))
+    decided_claim (some name c) b = decided_some_below (λ node. IsTrueOf parts entries attrs edges c (bound b name node)) (nodes parts) (λ node. decided_claim c (bound b name node))
     decided_claim (joined dim mother label daughter) b = decided_daughter_by (edges_on dim edges) (b mother) label (b daughter)
     decided_claim (above dim upper lower) b = decided_above (edges_on dim edges) (b upper) (b lower)
     decided_claim (left first second) b = decided_less (b first) (b second)

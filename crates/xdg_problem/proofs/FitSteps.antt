@@ -1,9 +1,8 @@
 -- Steps of the loops that judge an analysis.
-use Rattle.std.proofs.Common.{◌≡◌, ℕ, ◌<◌, ◌≤◌, ◌+◌, ◌-◌, ◌*◌, List, [], ◌∷◌, ◌++◌, length, get_or, take, drop, ap, sym, ◌∙◌, arith, subst, zero, suc, map, Bool, true, false, length-append, length-drop}
+use Rattle.std.proofs.Common.{◌≡◌, ℕ, ◌<◌, ◌≤◌, ◌+◌, ◌-◌, ◌*◌, List, [], ◌∷◌, ◌++◌, length, get_or, take, drop, ap, sym, ◌∙◌, arith, subst, suc, map, length-append, length-drop}
 use Rattle.std.specs.Prelude.{◌↔◌, Contains}
 use Rattle.std.specs.List.{flat_map}
 use Rattle.std.proofs.lemmas.List.{drop_more, drop_all, length-map, get_or_default, get_or-map, get_or-drop}
-use Rattle.std.proofs.lemmas.Bool.{false≢true}
 use Rattle.xdg_base.specs.declared.ids.EntryNo.{EntryNo}
 use Rattle.xdg_facts.specs.Fits.{Fits}
 use Rattle.xdg_problem.specs.declared.analysis.Edge.{Edge}
@@ -16,6 +15,8 @@ use Rattle.xdg_problem.specs.EdgeOrder.{RisesAt}
 use Rattle.xdg_problem.specs.Values.{AreValues, value_counts}
 use Rattle.xdg_problem.proofs.Counted.{length_attrs_of}
 use Rattle.xdg_problem.proofs.EntryPlaces.{length_entries}
+use Rattle.xdg_facts.proofs.Fitting.{fits_refused, fits_split, fits_step}
+use Rattle.xdg_facts.proofs.Numbers.{left_after, wide_enough}
 
 -- candidates
 
@@ -36,36 +37,9 @@ pub entries_end : (candidates : List (List EntryNo)) (entries : List EntryNo) (k
 entries_end candidates entries k e l =
     subst (λ z. HasCandidates z (drop k entries)) (sym (drop_all k candidates (omega arith))) (subst (λ z. HasCandidates [] z) (sym (drop_all k entries l)) tt)
 
-pub refuses : {A : Type 0} (r : Bool) → r ≡ false → (r ≡ true ↔ A) → A → ⊥
-refuses r n h a = false≢true (sym n ∙ h.1 a)
-
-pub accepts : {A : Type 0} (r : Bool) → r ≡ true → (r ≡ true ↔ A) → A
-accepts r y h = h.0 y
-
 -- values of a node
 
-fits_at : (shape x : List ℕ) (k : ℕ) → k < length shape → k < length x → Fits (drop k shape) (drop k x) ↔ ((get_or x k 0 < get_or shape k 0) × Fits (drop (k + 1) shape) (drop (k + 1) x))
-fits_at shape x k l m =
-    subst (λ z. Fits z (drop k x) ↔ ((get_or x k 0 < get_or shape k 0) × Fits (drop (k + 1) shape) (drop (k + 1) x))) (sym (drop_more shape k 0 l))
-    (subst (λ z. Fits (get_or shape k 0 ∷ drop (k + 1) shape) z ↔ ((get_or x k 0 < get_or shape k 0) × Fits (drop (k + 1) shape) (drop (k + 1) x))) (sym (drop_more x k 0 m)) (λ h. h, λ h. h))
-
-pub fits_step : (shape x : List ℕ) (k : ℕ) → k < length shape → k < length x → get_or x k 0 < get_or shape k 0 → Fits (drop (k + 1) shape) (drop (k + 1) x) ↔ Fits (drop k shape) (drop k x)
-fits_step shape x k l m c = let h = fits_at shape x k l m in (λ r. h.1 (c, r), λ r. (h.0 r).1)
-
-pub fits_refused : (shape x : List ℕ) (k : ℕ) → k < length shape → k < length x → get_or shape k 0 ≤ get_or x k 0 → Fits (drop k shape) (drop k x) → ⊥
-fits_refused shape x k l m n r = let h = ((fits_at shape x k l m).0 r).0 in omega (arith, h)
-
-pub fits_end : (shape x : List ℕ) (k : ℕ) → length x ≤ k → Fits (drop k shape) (drop k x)
-fits_end shape x k l = subst (λ z. Fits (drop k shape) z) (sym (drop_all k x l)) tt
-
 -- values of dimensions
-
-pub fits_split : (front rest x : List ℕ) (n : ℕ) → length front ≡ n → n ≤ length x → Fits (front ++ rest) x ↔ (Fits front (take n x) × Fits rest (drop n x))
-fits_split [] rest x zero e l = (λ f. (tt, f), λ f. f.1)
-fits_split (s ∷ front) rest (a ∷ x) (suc n) e l =
-    let h = fits_split front rest x n (omega arith) (omega arith) in
-    (λ f. ((f.0, (h.0 f.1).0), (h.0 f.1).1), λ f. (f.0.0, h.1 (f.0.1, f.1)))
-fits_split front rest x n e l = absurd (omega arith)
 
 pub node_step : (attrs : List AttrPlan) (x : List ℕ) (k : ℕ) (d : AttrPlan) → k < length attrs → k < length x → get_or x k 0 < length (get_or attrs k d).values → Fits (drop (k + 1) (map (λ (attr : AttrPlan). length attr.values) attrs)) (drop (k + 1) x) ↔ Fits (drop k (map (λ (attr : AttrPlan). length attr.values) attrs)) (drop k x)
 node_step attrs x k d l m n = fits_step (map (λ (attr : AttrPlan). length attr.values) attrs) x k (subst (λ i. k < i) (sym (length-map attrs (λ (attr : AttrPlan). length attr.values))) l) m (subst (λ i. get_or x k 0 < i) (sym (get_or-map (λ (attr : AttrPlan). length attr.values) attrs k d 0 l)) n)
@@ -74,20 +48,6 @@ pub node_refused : (attrs : List AttrPlan) (x : List ℕ) (k : ℕ) (d : AttrPla
 node_refused attrs x k d l m n = fits_refused (map (λ (attr : AttrPlan). length attr.values) attrs) x k (subst (λ i. k < i) (sym (length-map attrs (λ (attr : AttrPlan). length attr.values))) l) m (subst (λ i. i ≤ get_or x k 0) (sym (get_or-map (λ (attr : AttrPlan). length attr.values) attrs k d 0 l)) n)
 
 -- values of a dimension, node by node
-
-pub wide_enough : (n k w r : ℕ) → r ≡ (n - k) * w → k < n → w ≤ r
-wide_enough n k w r e l =
-    let q : n - k ≡ suc (n - (k + 1)) = omega arith in
-    let p : r ≡ suc (n - (k + 1)) * w = subst (λ i. r ≡ i * w) q e in
-    let m : suc (n - (k + 1)) * w ≡ w + (n - (k + 1)) * w = grind arith in
-    omega (arith, p, m)
-
-pub left_after : (n k w r s : ℕ) → r ≡ (n - k) * w → k < n → s + w ≡ r → s ≡ (n - (k + 1)) * w
-left_after n k w r s e l t =
-    let q : n - k ≡ suc (n - (k + 1)) = omega arith in
-    let p : r ≡ suc (n - (k + 1)) * w = subst (λ i. r ≡ i * w) q e in
-    let m : suc (n - (k + 1)) * w ≡ w + (n - (k + 1)) * w = grind arith in
-    omega (arith, p, m, t)
 
 dim_at : (plan : DimPlan) (n k w : ℕ) (x : List ℕ) → k < n → w ≡ length plan.attrs → w ≤ length x → Fits (flat_map (λ (node : ℕ). value_counts plan) (numbers_from k (n - k))) x ↔ (Fits (value_counts plan) (take w x) × Fits (flat_map (λ (node : ℕ). value_counts plan) (numbers_from (k + 1) (n - (k + 1)))) (drop w x))
 dim_at plan n k w x l e m =

@@ -1,8 +1,8 @@
 -- What a problem keeps with rules, or with a bound.
-use Rattle.std.proofs.Common.{◌≡◌, ◌↔◌, ℕ, ◌<◌, ◌+◌, List, [], ◌∷◌, ◌++◌, refl, sym, ap, ◌∙◌, subst}
+use Rattle.std.proofs.Common.{◌≡◌, ◌↔◌, ℕ, ◌<◌, ◌+◌, List, [], ◌++◌, refl, sym, ap, ◌∙◌, subst}
 use Rattle.std.specs.Prelude.{All}
 use Rattle.std.proofs.lemmas.List.{append-nil}
-use Rattle.std.proofs.lemmas.List.Elements.{All-nil, All-cons, All-tail, All-append, All-map, All-weaker}
+use Rattle.std.proofs.lemmas.List.Elements.{All-nil, All-cons, All-append, All-map, All-weaker}
 use Rattle.xdg_problem.specs.declared.analysis.Analysis.{Analysis}
 use Rattle.xdg_problem.specs.declared.conditions.Condition.TheVariants as conditions
 use Rattle.xdg_problem.specs.declared.formula.Formula.{Formula}
@@ -21,13 +21,9 @@ use Rattle.xdg_problem.specs.Vectors.{entry_places, entries_at}
 use Rattle.xdg_problem.proofs.EntryPlaces.{entry_places_back}
 use Rattle.xdg_problem.proofs.FurtherUses.{rule_is, bound_is, problem_still, fits_still, relation_still}
 use Rattle.xdg_facts.proofs.Each.{all_mapped, one_kept}
-use Rattle.xdg_facts.proofs.Lists.{all_before}
+use Rattle.xdg_facts.proofs.Lists.{all_before, all_behind}
 
 -- what holds of each of two lists, one behind the other
-
-all_right : {X : Type 0} (P : X → Type 0) (xs ys : List X) → All P (xs ++ ys) → All P ys
-all_right P [] ys all = all
-all_right P (x ∷ xs) ys all = all_right P xs ys (All-tail P x (xs ++ ys) all)
 
 -- the entries whose places among the candidates an analysis gives are its entries
 pub entries_same : (parts : Parts) (analysis : Analysis) → IsAnalysis parts analysis → entries_at parts.candidates (entry_places parts.candidates analysis.entries) ≡ analysis.entries
@@ -57,7 +53,7 @@ module _ (parts : Parts) (uses : List Group) (More : Analysis → Type 0) (probl
   solution_before analysis solution =
       let fits = (fits_still parts uses analysis).0 solution.fits in
       let all = All-weaker (λ group. Relation (with_uses parts uses) group analysis) (λ group. Relation parts group analysis) (λ group relation. (relation_still parts uses group analysis).0 relation) (parts.groups ++ uses) solution.each in
-      (record { fits = fits; each = all_before (λ group. Relation parts group analysis) parts.groups uses all }, (more analysis fits).0 (all_right (λ group. Relation parts group analysis) parts.groups uses all))
+      (record { fits = fits; each = all_before (λ group. Relation parts group analysis) parts.groups uses all }, (more analysis fits).0 (all_behind (λ group. Relation parts group analysis) parts.groups uses all))
 
   solution_still : (analysis : Analysis) → IsSolution parts analysis × More analysis → IsSolution (with_uses parts uses) analysis
   solution_still analysis both = record {

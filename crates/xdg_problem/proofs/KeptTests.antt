@@ -17,8 +17,7 @@ use Rattle.xdg_problem.proofs.Passing.{PassesAt}
 use Rattle.xdg_problem.proofs.EachTest.{Each}
 use Rattle.xdg_problem.proofs.TreeTests.{cycle_tests, root_tests, mother_tests, in_tests, out_tests}
 use Rattle.xdg_problem.proofs.AskedTests.{pair_tests, order_tests, between_tests, agr_tests, agree_tests, govern_tests, below_tests, blocked_tests, linked_tests, unlinked_tests}
-use Rattle.xdg_problem.proofs.Looking.{asked_alike}
-use Rattle.xdg_facts.proofs.Facts.{both_steps}
+use Rattle.xdg_facts.proofs.Facts.{both_steps, asked_alike}
 use Rattle.xdg_problem.specs.Principles.{conditions_for, linking_of, way_in}
 
 module _ (parts : Parts) (group : Group) (candidates attrs : List ℕ) (edges : List Edge) (some : 0 < nodes parts) (mothers : All (λ e. e.mother.0 < nodes parts) edges) (daughters : All (λ e. e.daughter.0 < nodes parts) edges) where

@@ -1,12 +1,12 @@
 -- The order of analyses, part by part.
-use Rattle.std.proofs.Common.{◌≡◌, ℕ, ◌<◌, ◌⊎◌, inl, inr, List, [], ◌∷◌, ◌++◌, length, get_or, refl, ap, sym, ◌∙◌, arith, subst, map, cond, rules}
+use Rattle.std.proofs.Common.{◌≡◌, ℕ, ◌<◌, ◌⊎◌, inl, inr, List, [], ◌∷◌, ◌++◌, get_or, refl, ap, sym, ◌∙◌, arith, subst, map, cond, rules}
 use Rattle.std.specs.Prelude.{Contains, ◌↔◌}
 use Rattle.std.specs.List.{AllByRecursion}
 use Rattle.std.proofs.lemmas.Bool.{cases_order}
 use Rattle.std.proofs.lemmas.List.Elements.{recursion_from_All}
 use Rattle.xdg_base.specs.declared.ids.EntryNo.{EntryNo}
 use Rattle.xdg_facts.specs.Order.{Less}
-use Rattle.xdg_facts.proofs.Ordered.{less_irreflexive, not_less}
+use Rattle.xdg_facts.proofs.Ordered.{less_irreflexive, not_less, less_behind, less_front}
 use Rattle.xdg_problem.specs.declared.analysis.Edge.{Edge}
 use Rattle.xdg_problem.specs.declared.analysis.Analysis.{Analysis}
 use Rattle.xdg_problem.specs.declared.parts.Parts.{Parts}
@@ -26,16 +26,6 @@ use Rattle.xdg_problem.proofs.PlaceOrder.{places_ordered}
 use Rattle.xdg_problem.proofs.VectorFacts.{edges_placed}
 
 -- lists with a common front, and lists of which the fronts decide
-
-pub less_behind : (front x y : List ℕ) → Less x y → Less (front ++ x) (front ++ y)
-less_behind [] x y l = l
-less_behind (a ∷ front) x y l = inr (refl, less_behind front x y l)
-
-pub less_front : (x y v w : List ℕ) → length x ≡ length y → Less x y → Less (x ++ v) (y ++ w)
-less_front [] (b ∷ y) v w e l = absurd (omega arith)
-less_front (a ∷ x) (b ∷ y) v w e (inl l) = inl l
-less_front (a ∷ x) (b ∷ y) v w e (inr (s, l)) = inr (s, less_front x y v w (omega arith) l)
-less_front x y v w e l = absurd l
 
 -- entries
 

@@ -49,7 +49,3 @@ pub placed : (group : Group) (edges : List Edge) (test : Test) (u l v : ℕ) →
     → IsDaughterBy (edges_on (first_dim group) (filter (looks_at group test) edges)) u l v ↔ IsDaughterBy (edges_on (first_dim group) edges) u l v
 placed group edges test u l v looks = any_same (looks_at group test) (first_dim group) edges (λ e. (e.mother.0 ≡ u) × (e.label.0 ≡ l) × (e.daughter.0 ≡ v))
     (λ e here on. either_true (looks_second (second_dim group) test e) (looks_first (first_dim group) test e) (looks e ∙ sees_place (first_dim group) u l v e here on))
-
--- what is asked where something holds goes by what holds alike
-pub asked_alike : (A B C D : Type 0) → A ↔ B → C ↔ D → (A → C) ↔ (B → D)
-asked_alike A B C D where_same same = (λ f b. same.0 (f (where_same.1 b)), λ f a. same.1 (f (where_same.0 a)))

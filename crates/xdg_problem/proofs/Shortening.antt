@@ -13,7 +13,8 @@ use Rattle.xdg_problem.specs.Tests.{Test, looks_at, entry_node, test_attrs, Pass
 use Rattle.xdg_problem.specs.Live.{open_places, EntryStands, entry_in, AttrStands, attr_in, Stands, Holds, IsLiveFor, Live}
 use Rattle.xdg_problem.specs.Relations.{IsKeptWhole}
 use Rattle.xdg_facts.proofs.Each.{map_alike}
-use Rattle.xdg_problem.proofs.Continued.{drop_joined, analysis_same}
+use Rattle.xdg_problem.proofs.Continued.{analysis_same}
+use Rattle.xdg_facts.proofs.Fronts.{drop_joined}
 
 filter_put : (test : Edge → Bool) (chooses : Bool) (e : Edge) (xs ys : List Edge) → filter test xs ≡ filter test ys → filter test (cond chooses (e ∷ xs) xs) ≡ filter test (cond chooses (e ∷ ys) ys)
 filter_put test true e xs ys same = ap (λ z. cond (test e) (e ∷ z) z) same

@@ -5,7 +5,7 @@ use Rattle.std.specs.List.{AllByRecursion}
 use Rattle.std.proofs.lemmas.List.Elements.{All-nil, All-cons, All-head, All-tail}
 use Rattle.xdg_facts.specs.Order.{Less}
 use Rattle.xdg_facts.specs.Fits.{Fits}
-use Rattle.xdg_facts.specs.Listing.{Member, RisesFrom, IsListing}
+use Rattle.xdg_facts.specs.Listing.{RisesFrom, IsListing}
 use Rattle.xdg_facts.specs.Whole.{Whole}
 use Rattle.xdg_facts.proofs.Unique.{listing_unique}
 use Rattle.xdg_problem.specs.declared.analysis.Analysis.{Analysis}
@@ -19,15 +19,16 @@ use Rattle.xdg_facts.proofs.Contained.{contains_head, contains_cases, contains_n
 use Rattle.xdg_problem.proofs.VectorFacts.{analysis_fits, vector_analysis, vector_fits, length_vector, analysis_vector}
 use Rattle.xdg_problem.proofs.WholeTests.{whole_live, relations_live}
 use Rattle.xdg_facts.proofs.Lists.{contains_more}
+use Rattle.xdg_facts.specs.Membership.{In}
 
-contains_mapped : (parts : Parts) (xs : List (List ℕ)) (x : List ℕ) → Member xs x → Contains (map (analysis_of parts) xs) (analysis_of parts x)
+contains_mapped : (parts : Parts) (xs : List (List ℕ)) (x : List ℕ) → In xs x → Contains (map (analysis_of parts) xs) (analysis_of parts x)
 contains_mapped parts [] x m = absurd m
-contains_mapped parts (y ∷ ys) x (inl e) = subst (λ z. Contains (map (analysis_of parts) (y ∷ ys)) (analysis_of parts z)) (sym e) (contains_head (analysis_of parts y) (map (analysis_of parts) ys))
+contains_mapped parts (y ∷ ys) x (inl e) = subst (λ z. Contains (map (analysis_of parts) (y ∷ ys)) (analysis_of parts z)) e (contains_head (analysis_of parts y) (map (analysis_of parts) ys))
 contains_mapped parts (y ∷ ys) x (inr m) = contains_more (analysis_of parts y) (map (analysis_of parts) ys) (analysis_of parts x) (contains_mapped parts ys x m)
 
-member_mapped : (parts : Parts) (list : List Analysis) (a : Analysis) → Contains list a → Member (map (vector parts) list) (vector parts a)
+member_mapped : (parts : Parts) (list : List Analysis) (a : Analysis) → Contains list a → In (map (vector parts) list) (vector parts a)
 member_mapped parts [] a c = contains_none a c
-member_mapped parts (b ∷ list) a c = elim (contains_cases b list a c) [ inl e ↦ inl (ap (vector parts) (sym e)) | inr later ↦ inr (member_mapped parts list a later) ]
+member_mapped parts (b ∷ list) a c = elim (contains_cases b list a c) [ inl e ↦ inl (ap (vector parts) e) | inr later ↦ inr (member_mapped parts list a later) ]
 
 vectors_rise : (parts : Parts) (after : List ℕ) (list : List Analysis) → SolutionsRise parts after list → RisesFrom after (map (vector parts) list)
 vectors_rise parts after [] rises = tt
@@ -75,7 +76,7 @@ module _ (parts : Parts) (is : IsProblem parts) where
   solution_listing after list solutions = record {
     rises = vectors_rise parts after list solutions.rises;
     each = vectors_each list solutions.each;
-    all = λ x fits whole above. (let back = vector_analysis parts x is fits whole.1 in subst (Member (map (vector parts) list)) back (member_mapped parts list (analysis_of parts x) (solutions.all (analysis_of parts x) (solution_of x fits whole) (subst (Less after) (sym back) above))));
+    all = λ x fits whole above. (let back = vector_analysis parts x is fits whole.1 in subst (In (map (vector parts) list)) back (member_mapped parts list (analysis_of parts x) (solutions.all (analysis_of parts x) (solution_of x fits whole) (subst (Less after) (sym back) above))));
   }
 
   pub analyses_back : (list : List Analysis) → All (IsSolution parts) list → map (analysis_of parts) (map (vector parts) list) ≡ list

@@ -1,11 +1,7 @@
 -- Conditions on all tuples of a range, and lists of conditions.
-use Rattle.std.proofs.Common.{ℕ, ◌<◌, ◌↔◌, List, [], ◌∷◌}
+use Rattle.std.proofs.Common.{ℕ, ◌↔◌, List, [], ◌∷◌}
 use Rattle.xdg_problem.specs.Conditions.{AreBelow}
-
--- what holds of each number below the first size, each below the second, and so on
-abbrev pub EachBelow : List ℕ → (List ℕ → Type 0) → Type 0
-EachBelow [] P = P []
-EachBelow (size ∷ sizes) P = (u : ℕ) → u < size → EachBelow sizes (λ tuple. P (u ∷ tuple))
+use Rattle.xdg_facts.proofs.Each.{EachBelow, each_alike}
 
 -- so it holds of all tuples of the range
 pub tuples_of : (sizes : List ℕ) (P : List ℕ → Type 0) → EachBelow sizes P → (tuple : List ℕ) → AreBelow sizes tuple → P tuple
@@ -17,13 +13,6 @@ below_of : (sizes : List ℕ) (P : List ℕ → Type 0) → ((tuple : List ℕ) 
 below_of [] P kept = kept [] tt
 below_of (size ∷ sizes) P kept = λ u below. below_of sizes (λ t. P (u ∷ t)) (λ tuple is. kept (u ∷ tuple) (below, is))
 
-like : (sizes : List ℕ) (Q P : List ℕ → Type 0) → EachBelow sizes (λ tuple. Q tuple ↔ P tuple) → EachBelow sizes Q ↔ EachBelow sizes P
-like [] Q P same = same
-like (size ∷ sizes) Q P same = (
-  λ each u below. (like sizes (λ t. Q (u ∷ t)) (λ t. P (u ∷ t)) (same u below)).0 (each u below),
-  λ each u below. (like sizes (λ t. Q (u ∷ t)) (λ t. P (u ∷ t)) (same u below)).1 (each u below),
-)
-
 -- and in other words
 pub tuples : (sizes : List ℕ) (Q P : List ℕ → Type 0) → EachBelow sizes (λ tuple. Q tuple ↔ P tuple) → EachBelow sizes Q ↔ ((tuple : List ℕ) → AreBelow sizes tuple → P tuple)
-tuples sizes Q P same = (λ each. tuples_of sizes P ((like sizes Q P same).0 each), λ kept. (like sizes Q P same).1 (below_of sizes P kept))
+tuples sizes Q P same = (λ each. tuples_of sizes P ((each_alike sizes Q P same).0 each), λ kept. (each_alike sizes Q P same).1 (below_of sizes P kept))

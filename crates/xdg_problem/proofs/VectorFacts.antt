@@ -1,5 +1,5 @@
 -- An analysis and its vector: each gives the other back.
-use Rattle.std.proofs.Common.{◌≡◌, ℕ, ◌≤◌, ◌+◌, List, [], ◌∷◌, ◌++◌, length, take, drop, ap, ap₂, sym, ◌∙◌, arith, subst, map, length-append, length-drop}
+use Rattle.std.proofs.Common.{◌≡◌, ℕ, ◌≤◌, ◌+◌, List, ◌++◌, length, take, drop, ap, ap₂, sym, ◌∙◌, arith, subst, map, length-append, length-drop}
 use Rattle.std.specs.Prelude.{Contains}
 use Rattle.std.specs.List.{AllByRecursion}
 use Rattle.std.proofs.lemmas.List.{length-map, take-append-drop, drop-drop, take_at, drop_at, length-take-le}
@@ -17,23 +17,9 @@ use Rattle.xdg_facts.proofs.Each.{each_weaker}
 use Rattle.xdg_problem.proofs.PlaceOrder.{places_ordered, each_is_place, place_is}
 use Rattle.xdg_problem.proofs.EntryPlaces.{entries_at_back, entries_at_are, entry_places_fit, length_entry_places, entry_places_back}
 use Rattle.xdg_problem.proofs.Presence.{rise_ordered, ordered_rise, chosen_each, chosen_ordered, presence_fits, presence_back, chosen_back}
+use Rattle.xdg_facts.proofs.Fitting.{fits_after, fits_before, fits_both}
 
 -- how a shape falls into parts
-
-pub fits_after : (front rest x : List ℕ) → Fits (front ++ rest) x → Fits rest (drop (length front) x)
-fits_after [] rest x f = f
-fits_after (s ∷ front) rest [] f = tt
-fits_after (s ∷ front) rest (a ∷ x) f = fits_after front rest x f.1
-
-pub fits_before : (front rest x : List ℕ) → Fits (front ++ rest) x → Fits front (take (length front) x)
-fits_before [] rest x f = tt
-fits_before (s ∷ front) rest [] f = tt
-fits_before (s ∷ front) rest (a ∷ x) f = (f.0, fits_before front rest x f.1)
-
-pub fits_both : (front rest x y : List ℕ) → length x ≡ length front → Fits front x → Fits rest y → Fits (front ++ rest) (x ++ y)
-fits_both [] rest [] y l f g = g
-fits_both (s ∷ front) rest (a ∷ x) y l f g = (f.0, fits_both front rest x y (omega arith) f.1 g)
-fits_both front rest x y l f g = absurd (omega arith)
 
 abbrev sizes : Parts → List ℕ
 sizes parts = attr_sizes (nodes parts) parts.dims

@@ -4,7 +4,7 @@ use Rattle.std.specs.Prelude.{slice_index_or}
 use Rattle.std.proofs.lemmas.Bool.{cases_order}
 use Rattle.std.proofs.lemmas.List.{get_or_default}
 use Rattle.xdg_facts.specs.Order.{AtMost}
-use Rattle.xdg_facts.proofs.Ordered.{at_most_of, not_less}
+use Rattle.xdg_facts.proofs.Ordered.{at_most_of, not_less, at_most_cons}
 use Rattle.xdg_problem.specs.declared.analysis.Analysis.{Analysis}
 use Rattle.xdg_problem.specs.declared.analysis.Edge.{Edge}
 use Rattle.xdg_problem.specs.declared.conditions.Condition.{Condition}
@@ -22,10 +22,6 @@ use Rattle.xdg_problem.proofs.DecidingAsks.{decided_asked}
 abbrev Least : List ℕ → (List ℕ → Type 0) → Type 0
 Least sizes P = (tuple : List ℕ) × AreBelow sizes tuple × P tuple × ((other : List ℕ) → AreBelow sizes other → P other → AtMost tuple other)
 
-pub at_most_more : (u : ℕ) (x y : List ℕ) → AtMost x y → AtMost (u ∷ x) (u ∷ y)
-at_most_more u x y (inl e) = inl (ap (λ z. u ∷ z) e)
-at_most_more u x y (inr l) = inr (inr (refl, l))
-
 nothing_more : (P : List ℕ → Type 0) (tuple : List ℕ) → AreBelow [] tuple → P tuple → P []
 nothing_more P [] is p = p
 nothing_more P (u ∷ tuple) is p = absurd is
@@ -33,7 +29,7 @@ nothing_more P (u ∷ tuple) is p = absurd is
 least_from : (s : ℕ) (sizes : List ℕ) (P : List ℕ → Type 0) → ((u : ℕ) → ((tuple : List ℕ) → AreBelow sizes tuple → P (u ∷ tuple) → ⊥) ⊎ Least sizes (λ tuple. P (u ∷ tuple))) → (found : (u : ℕ) × (u < s) × Least sizes (λ tuple. P (u ∷ tuple)) × ((w : ℕ) → w < u → Least sizes (λ tuple. P (w ∷ tuple)) → ⊥)) → (other : List ℕ) → AreBelow (s ∷ sizes) other → P other → AtMost (found.0 ∷ found.2.0) other
 least_from s sizes P each found [] is p = absurd is
 least_from s sizes P each found (w ∷ rest) is p = elim (cases_order w found.0) [
-  | inl same ↦ subst (λ v. AtMost (found.0 ∷ found.2.0) (v ∷ rest)) (sym same) (at_most_more found.0 found.2.0 rest (found.2.3 rest is.1 (subst (λ v. P (v ∷ rest)) same p)))
+  | inl same ↦ subst (λ v. AtMost (found.0 ∷ found.2.0) (v ∷ rest)) (sym same) (at_most_cons found.0 found.0 found.2.0 rest refl (found.2.3 rest is.1 (subst (λ v. P (v ∷ rest)) same p)))
   | inr (inl less) ↦ absurd (elim (each w) [ inl none ↦ none rest is.1 p | inr least ↦ found.3 w less least ])
   | inr (inr more) ↦ inr (inl more)
 ]

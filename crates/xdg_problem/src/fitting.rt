@@ -44,7 +44,7 @@ fn entries_fit(candidates: &[SharedList<EntryNo>], entries: &[EntryNo]) -> bool
 }
 
 /// Whether the values are values of the attributes of a node.
-#[tactic(auto, using(crate::proofs::FitSteps::node_step, crate::proofs::FitSteps::node_refused, crate::proofs::FitSteps::fits_end))]
+#[tactic(auto, using(crate::proofs::FitSteps::node_step, crate::proofs::FitSteps::node_refused, xdg_facts::proofs::Fitting::fits_end))]
 fn node_fits(attrs: &[AttrPlan], values: &[u16]) -> bool
     requires same_length { length values.now ≡ length attrs.now }
     ensures { IsTrue result ↔ Fits (map (λ attr. length attr.values) attrs.now) values.now }

@@ -12,13 +12,9 @@ use Rattle.xdg_problem.proofs.PlaceOrder.{place_is}
 use Rattle.xdg_store.specs.Decisions.{IsDecision, number_of}
 use Rattle.xdg_store.specs.declared.decision.Decision.{Decision}
 use Rattle.xdg_store.specs.declared.decision.Decision.TheVariants as decisions
-use Rattle.xdg_store.proofs.Renewed.{same_row}
 use Rattle.xdg_propcore.specs.Kinds.{attr_kind, edge_kind, entry_kind, kind_of}
 use Rattle.xdg_propcore.proofs.DecisionKinds.{kind_of_attr, kind_of_edge, kind_of_entry}
-
--- of cells in one row
-same_column : (m a n b w : ℕ) → m ≡ n → m * w + a ≡ n * w + b → a ≡ b
-same_column m a n b w rows e = (let q = ap (λ z. z * w) rows in omega (arith, e, q))
+use Rattle.xdg_facts.proofs.Numbers.{same_row, same_column}
 
 module _ (parts : Parts) (problem : IsProblem parts) (P : Decision → Type 0) where
   few : (node : ℕ) → node < nodes parts → node < length parts.candidates

@@ -13,9 +13,9 @@ use Rattle.xdg_problem.proofs.Ordered.{numbers_length}
 use Rattle.xdg_store.specs.Layout.{is_set}
 use Rattle.xdg_store.specs.Rows.{cleared}
 use Rattle.xdg_store.proofs.Bits.{cleared_same, cleared_other, length-cleared}
-use Rattle.xdg_store.proofs.Boxed.{has_place}
 use Rattle.xdg_store.proofs.Located.{number_at}
 use Rattle.xdg_propcore.specs.Flags.{IsOn, flags_of, HoldsFlags}
+use Rattle.xdg_facts.proofs.Lists.{true_within}
 
 -- ---- reading
 
@@ -29,7 +29,7 @@ flag_at words count at l = get_or-map (is_set words) (below count) at 0 false (l
 
 pub on_set : (words : List ℕ) (count at : ℕ) → IsOn (flags_of words count) at → is_set words at ≡ true
 on_set words count at h =
-    let w = has_place (flags_of words count) at h in
+    let w = true_within (flags_of words count) at h in
     let n = length_flags words count in
     sym (flag_at words count at (omega (arith, w, n))) ∙ h
 

@@ -36,13 +36,6 @@ module _ (still : Parts → List (List Bool) → Type 0) where
 
 -- ---- marks
 
--- one place more has the same
-pub filled_more : (marks : List (Option ℕ)) (mark : Option ℕ) (at : ℕ) → at < length marks → ((place : ℕ) → place < at → get_or marks place None ≡ mark) → (place : ℕ) → place < at + 1 → get_or (set marks at mark) place None ≡ mark
-filled_more marks mark at within before place l = elim (cases_eq place at) [
-  | inl q ↦ ap (λ i. get_or (set marks at mark) i None) q ∙ get_or-set_same marks at mark None within
-  | inr f ↦ get_or-set_other marks at place mark None f ∙ before place (omega (arith, l, f))
-]
-
 module _ {P : Type 0} (still : P → Parts → List (List Bool) → Type 0) (props : List P) where
   pub are_held_on : (s new : State) (marks : List (Option ℕ)) → Extends s new → AreHeld still props s marks → AreHeld still props new marks
   are_held_on s new marks e h = record { count = h.count; each = λ at d l mark is. held_on (still (get_or props at d)) s new mark e (h.each at d l mark is) }

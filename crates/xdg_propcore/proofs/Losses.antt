@@ -1,16 +1,15 @@
 -- How much is lost, and how much of it wakes.
 use Rattle.std.proofs.Common.{◌≡◌, ◌≢◌, ℕ, zero, suc, ◌<◌, ◌≤◌, ◌+◌, ◌^◌, ◌⊎◌, inl, inr, Bool, true, false, cond, List, [], ◌∷◌, length, get_or, refl, ap, sym, ◌∙◌, arith}
 use Rattle.std.specs.Prelude.{nat_eq}
-use Rattle.std.specs.Int.{bit_at, w64, trailing_zeros}
+use Rattle.std.specs.Int.{bit_at}
 use lib.Bits.{bit_and}
 use Rattle.std.proofs.lemmas.Bool.Decides.{eqb_tells}
-use Rattle.std.proofs.lemmas.Nat.Bits.{bit_at_and, bit_at-zero, bit_at-trailing_zeros, bit_at-lt}
-use Rattle.std.proofs.lemmas.Nat.{and_le_r}
 use Rattle.xdg_problem.specs.declared.parts.Parts.{Parts}
 use Rattle.xdg_problem.specs.Boxes.{LiesIn}
 use Rattle.xdg_propcore.specs.Flags.{IsOn, on_count}
 use Rattle.xdg_propcore.specs.Kinds.{kind_of}
 use Rattle.xdg_propcore.specs.Losses.{IsLost, Loses, row_lost, lost_from, wakers, woken_count}
+use Rattle.xdg_facts.proofs.Bits.{shared}
 
 -- ---- what remains, weighed
 
@@ -107,25 +106,6 @@ lost_adds f g d (row ∷ old) [] = let e = row_lost_sum (f d) (g d) row [] in le
 lost_adds f g d (row ∷ old) (left ∷ new) = let e = row_lost_sum (f d) (g d) row left in let r = lost_adds f g (suc d) old new in omega (arith, e, r)
 
 -- ---- wake sets
-
--- two wake sets that share no kind
-pub apart : (wakes lost kind : ℕ) → bit_and wakes lost ≡ 0 → bit_at lost kind ≡ 1 → bit_at wakes kind ≡ 0
-apart wakes lost kind e h =
-    let m = bit_at_and wakes lost kind in
-    let z = ap (λ n. bit_at n kind) e ∙ bit_at-zero kind in
-    let l = bit_at-lt wakes kind in
-    omega (arith, m, z, l, h)
-
--- two wake sets that share one
-shared : (wakes lost : ℕ) → lost < 2 ^ 64 → bit_and wakes lost ≢ 0 → (kind : ℕ) × (bit_at wakes kind ≡ 1) × (bit_at lost kind ≡ 1)
-shared wakes lost fits h =
-    let small : bit_and wakes lost < 2 ^ 64 = (let r = and_le_r wakes lost in omega (arith, r, fits)) in
-    let t = bit_at-trailing_zeros w64 (bit_and wakes lost) (omega arith) small in
-    let kind = trailing_zeros w64 (bit_and wakes lost) in
-    let m = bit_at_and wakes lost kind in
-    let p = bit_at-lt wakes kind in
-    let q = bit_at-lt lost kind in
-    (kind, omega (arith, t.1, m, p, q), omega (arith, t.1, m, p, q))
 
 -- whether a set is not empty, as a number
 abbrev hit : ℕ → ℕ

@@ -2,7 +2,7 @@
 use Rattle.std.proofs.Common.{◌≡◌, ◌⊎◌, ℕ, ◌<◌, inl, inr, Bool, true, false, Some, length, refl, sym, arith, subst}
 use Rattle.std.specs.Prelude.{◌==◌, ◌&&◌, nat_le}
 use Rattle.std.proofs.lemmas.Bool.{and_from, eq-eqb, false≢true}
-use Rattle.xdg_facts.proofs.Truths.{and_2, either_true, or_here, and_3}
+use Rattle.xdg_facts.proofs.Truths.{and_2, either_true, or_here, and_3, never}
 use Rattle.xdg_problem.specs.declared.parts.Group.{Group}
 use Rattle.xdg_problem.specs.declared.parts.Linking.{Linking}
 use Rattle.xdg_problem.specs.declared.parts.Linking.TheVariants as linkings
@@ -17,9 +17,6 @@ use Rattle.xdg_problem.proofs.Looking.{sees_place}
 use Rattle.xdg_propcore.specs.Kinds.{IsNamed, entry_kind, attr_kind, edge_kind}
 use Rattle.xdg_propcore.specs.UseKinds.{IsKindFor, IsKindOf}
 use Rattle.xdg_problem.specs.Principles.{looks_at_entries, looks_at_attrs, looks_at_first, looks_at_second, linking_of, way_in}
-
-never : {A : Type 0} → false ≡ true → A
-never e = absurd (false≢true e)
 
 -- a principle that looks at nothing
 none : (one two kind : ℕ) → ((false ≡ true) × (kind ≡ entry_kind)) ⊎ (((false ≡ true) × (kind ≡ attr_kind one)) ⊎ (((false ≡ true) × (kind ≡ edge_kind one)) ⊎ ((false ≡ true) × (kind ≡ edge_kind two)))) → ⊥

@@ -1,9 +1,9 @@
 -- Steps that take values, part by part.
-use Rattle.std.proofs.Common.{◌≡◌, ◌≢◌, ◌⊎◌, ℕ, ◌<◌, ◌^◌, inl, inr, Bool, true, false, List, [], ◌∷◌, length, get_or, ap, sym, ◌∙◌, arith, subst, refl}
+use Rattle.std.proofs.Common.{◌≡◌, ◌⊎◌, ℕ, ◌<◌, ◌^◌, inl, inr, Bool, true, false, List, [], ◌∷◌, length, get_or, ap, sym, ◌∙◌, arith, subst, refl}
 use Rattle.std.specs.Int.{bit_at}
 use lib.Bits.{bit_or}
 use Rattle.std.proofs.lemmas.Bool.{cases_eq}
-use Rattle.std.proofs.lemmas.Nat.Bits.{bit_at_or, bit_at-zero, bit_at-pow_other}
+use Rattle.std.proofs.lemmas.Nat.Bits.{bit_at-zero}
 use Rattle.xdg_problem.specs.declared.parts.Group.{Group}
 use Rattle.xdg_problem.specs.declared.analysis.Edge.{Edge}
 use Rattle.xdg_problem.specs.Analyses.{IsPlace}
@@ -28,7 +28,7 @@ use Rattle.xdg_propcore.proofs.DecisionKinds.{kind_of_entry, kind_of_attr, kind_
 use Rattle.xdg_propcore.proofs.Settling.{extends_both, extends_none}
 use Rattle.xdg_propcore.proofs.Shrinking.{lies_shrunk, one_removed, removal_extends, shrinks_keeps}
 use Rattle.xdg_facts.proofs.Truths.{either}
-use Rattle.xdg_facts.proofs.Bits.{or_new_bit, or_left_bit}
+use Rattle.xdg_facts.proofs.Bits.{or_new_bit, or_left_bit, bit_old}
 
 -- ---- nothing is done
 
@@ -91,9 +91,6 @@ module _ (group : Group) (p q r : Progress) (old mid new : State) (a : Goes grou
   }
 
 -- ---- values of a decision are taken
-
-bit_old : (a k kind : ℕ) → kind ≢ k → bit_at (bit_or a (2 ^ k)) kind ≡ 1 → bit_at a kind ≡ 1
-bit_old a k kind n h = let e = bit_at_or a (2 ^ k) kind in let s = bit_at-pow_other k kind n in omega (arith, e, s, h)
 
 never_quiet : (p : Progress) (kind : ℕ) → bit_or p.lost (2 ^ kind) ≡ 0 → ⊥
 never_quiet p kind e = (let n = or_new_bit p.lost kind in let z = ap (λ m. bit_at m kind) e in let y = bit_at-zero kind in omega (arith, n, z, y))

@@ -19,7 +19,8 @@ use Rattle.xdg_propcore.specs.Uses.{IsClosedBy, StandsFor, StandsIn}
 use Rattle.xdg_propcore.specs.declared.wake.Wake.{Wake}
 use Rattle.xdg_propcore.specs.declared.moved.Moved.{Moved}
 use Rattle.xdg_propcore.specs.declared.moved.Moved.TheVariants as moves
-use Rattle.xdg_propcore.proofs.Losses.{weight_from, balance, lost_one, apart, hits, hits_within, woken_within}
+use Rattle.xdg_propcore.proofs.Losses.{weight_from, balance, lost_one, hits, hits_within, woken_within}
+use Rattle.xdg_facts.proofs.Bits.{none_shared}
 
 -- ---- flags
 
@@ -127,7 +128,7 @@ module _ {P : Type 0} (stands : P → Parts → ℕ → Type 0) (still : P → P
   outside : (s new : State) (awake next : List Bool) (lost i : ℕ) (d : P) → Loses s.parts lost s.now new.now → s.parts ≡ old.parts → i < length props → bit_and (get_or (map kinds props) i 0) lost ≡ 0 → LosesOutside old.parts (kinds (get_or props i d)) s.now new.now
   outside s new awake next lost i d loses same l none k v gone =
       let each = subst (λ q. bit_at lost (kind_of q k) ≡ 1) same (loses.each k v gone) in
-      apart (kinds (get_or props i d)) lost (kind_of old.parts k) (subst (λ z. bit_and z lost ≡ 0) (wakes_at i d l) none) each
+      none_shared (kinds (get_or props i d)) lost (kind_of old.parts k) (subst (λ z. bit_and z lost ≡ 0) (wakes_at i d l) none) each
 
   pub running_changed : (s new : State) (awake next : List Bool) (at : ℕ) (p : P) (lost : ℕ) (moved : Moved) → Running s awake → at < length props → p ≡ get_or props at p → All (λ q. StandsIn (stands q) old.parts) props → Extends s new → Known new → Keeps (stands p) moved s new → new.turns ≤ s.turns + 1 → lost < 2 ^ 64 → Loses s.parts lost s.now new.now
       → ((q : P) (parts : Parts) (number : ℕ) (b c : List (List Bool)) → IsProblem parts → StandsFor (stands q) parts number → IsBox (shape parts) b → IsBox (shape parts) c → LiesIn c b → LosesOutside parts (kinds q) b c → still q parts b → still q parts c)
@@ -218,4 +219,4 @@ module _ {P : Type 0} (stands : P → Parts → ℕ → Type 0) (still : P → P
       let mine : bit_and (kinds (get_or props at d)) lost ≡ 0 = subst (λ z. bit_and z lost ≡ 0) (get_or-map kinds props at d 0 l) none in
       let held : Held (still (get_or props at d)) s mark = was.held at d l in
       law (get_or props at d) s.parts (stand at d l).0 (box_at s mark) s.now known.problem (stand at d l).1 held.is known.is_box held.inside
-      (λ k v gone. apart (kinds (get_or props at d)) lost (kind_of s.parts k) mine (was.kinds k v gone)) held.calm
+      (λ k v gone. none_shared (kinds (get_or props at d)) lost (kind_of s.parts k) mine (was.kinds k v gone)) held.calm

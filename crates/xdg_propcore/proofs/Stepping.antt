@@ -1,8 +1,7 @@
 -- A whole step of a propagator that stands for one principle use, by its number.
 use Rattle.std.proofs.Common.{◌≡◌, ◌≢◌, ◌↔◌, ℕ, ◌<◌, ◌^◌, inl, inr, Bool, true, false, List, Option, length, get_or, sym, ap, ◌∙◌, refl, arith, subst}
-use Rattle.std.specs.Int.{bit_at, w64, trailing_zeros}
-use Rattle.std.proofs.lemmas.Bool.{cases_eq}
-use Rattle.std.proofs.lemmas.Nat.Bits.{bit_at-lt, bit_at-zero, bit_at-trailing_zeros, same_from_bits}
+use Rattle.std.specs.Int.{bit_at}
+use Rattle.std.proofs.lemmas.Nat.Bits.{bit_at-zero}
 use Rattle.std.proofs.lemmas.List.{get_or_default}
 use Rattle.xdg_problem.specs.declared.parts.Group.{Group}
 use Rattle.xdg_problem.specs.declared.parts.Parts.{Parts}
@@ -21,6 +20,7 @@ use Rattle.xdg_propcore.specs.Uses.{IsClosedBy, StandsFor, StandsIn, use_at, no_
 use Rattle.xdg_propcore.specs.declared.moved.Moved.{Moved}
 use Rattle.xdg_propcore.specs.declared.moved.Moved.TheVariants as moves
 use Rattle.xdg_propcore.proofs.Analyses.{keeps_boxes}
+use Rattle.xdg_facts.proofs.Bits.{no_bits, some_bit}
 
 -- what is known of the principle use of a propagator, in the store whose turns are counted
 pub record Begun (stands : Parts → ℕ → Type 0) (number : ℕ) (old t : State) (group : Group) : Type 0 where
@@ -41,12 +41,6 @@ pub record Stepped (stands : Parts → ℕ → Type 0) (turns : ℕ) (moved : Mo
 -- a store with its turns counted
 abbrev pub turned : State → ℕ → State
 turned s turns = record { parts = s.parts; now = s.now; history = s.history; turns = turns }
-
-some_bit : (n : ℕ) → n ≢ 0 → n < 2 ^ 64 → (kind : ℕ) × (bit_at n kind ≡ 1)
-some_bit n some small = (trailing_zeros w64 n, (bit_at-trailing_zeros w64 n (omega (arith, some)) small).1)
-
-no_bits : (n : ℕ) → ((kind : ℕ) → bit_at n kind ≡ 1 → ⊥) → n ≡ 0
-no_bits n none = same_from_bits n 0 (λ k. (let z = bit_at-zero k in let l = bit_at-lt n k in elim (cases_eq (bit_at n k) 1) [ inl e ↦ absurd (none k e) | inr o ↦ (omega (arith, z, l, o)) ]))
 
 -- the principle use at a number
 pub use_found : (parts : Parts) (number : ℕ) (groups : List Group) (group : Group) → number < length parts.groups → groups ≡ parts.groups → group ≡ get_or groups number group → use_at parts number ≡ group

@@ -1,6 +1,6 @@
 -- Parts of a step that are loops: over the first numbers, and over the nodes of a set.
-use Rattle.std.proofs.Common.{◌≡◌, ℕ, ◌<◌, ◌≤◌, ◌+◌, ◌||◌, inl, inr, Bool, true, List, [], ◌∷◌, sym, ◌∙◌, arith, subst}
-use Rattle.std.proofs.lemmas.Bool.{cases_Bool, cases_eq, cases_lt, false≢true, ne_eqb}
+use Rattle.std.proofs.Common.{◌≡◌, ℕ, ◌<◌, ◌≤◌, ◌+◌, inl, inr, Bool, true, List, [], ◌∷◌, sym, ◌∙◌, arith, subst}
+use Rattle.std.proofs.lemmas.Bool.{cases_Bool, cases_eq, cases_lt, false≢true}
 use Rattle.xdg_problem.specs.declared.parts.Group.{Group}
 use Rattle.xdg_problem.specs.declared.parts.Parts.{Parts}
 use Rattle.xdg_store.specs.States.{State, Known}
@@ -8,6 +8,7 @@ use Rattle.xdg_propcore.specs.Passes.{IsQuiet, Progress}
 use Rattle.xdg_propcore.specs.Sweeps.{Sweeps}
 use Rattle.xdg_propcore.proofs.Sweeping.{sweeps_next, sweeps_skip, sweeps_start}
 use Rattle.xdg_facts.specs.Rises.{has}
+use Rattle.xdg_facts.proofs.Sets.{not_left}
 
 -- ---- what stays
 
@@ -53,10 +54,6 @@ module _ (group : Group) (P : Parts → ℕ → List (List Bool) → Type 0) whe
 -- something holds at those of the first nodes that aren't still to come
 abbrev pub AreDone : (ℕ → List (List Bool) → Type 0) → List ℕ → List ℕ → List (List Bool) → Type 0
 AreDone Done first left box = (v : ℕ) → has first v ≡ true → (has left v ≡ true → ⊥) → Done v box
-
--- what isn't still to come is the first of them, or wasn't among them
-pub not_left : (left rest : List ℕ) (v w : ℕ) → left ≡ v ∷ rest → (w ≡ v → ⊥) → (has rest w ≡ true → ⊥) → has left w ≡ true → ⊥
-not_left left rest v w is other gone h = gone (subst (λ b. (b || has rest w) ≡ true) (ne_eqb v w (λ e. other (sym e))) (subst (λ s. has s w ≡ true) is h))
 
 module _ (group : Group) (Done : Parts → ℕ → List (List Bool) → Type 0) (first : List ℕ) where
   pub turns_start : (p : Progress) (s : State) → Known s → Sweeps group (AreDone (Done s.parts) first first) p s p s

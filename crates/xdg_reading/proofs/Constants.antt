@@ -4,11 +4,12 @@ use Rattle.std.proofs.lemmas.Bool.{eqb-true, ne_eqb, and_parts, not_from_false, 
 use Rattle.std.specs.List.{list_all, flat_map}
 use Rattle.xdg_text.specs.Constants.{is_name, is_keyword, begins_name, continues_name, is_escaped, escaped, quoted, constant}
 use Rattle.xdg_reading.specs.Pieces.{after, past, lead, behind, until, inside, quoted_at, name_at, quoted_constant_at, constant_at, begins_quoted, is_plain}
-use Rattle.xdg_reading.proofs.Fronts.{until_it, until_stands, it_stands, same_byte, other_byte}
+use Rattle.xdg_reading.proofs.Fronts.{until_it, until_stands, it_stands}
 use Rattle.xdg_reading.proofs.Insides.{plain_byte, closing, escaped_turn, nothing_left}
-use Rattle.xdg_reading.proofs.Steps.{pair, lead_found, Led, cond_either, cond_found, cond_left, after_found, past_found, nothing_if}
-use Rattle.xdg_facts.proofs.Options.{none_some, some_same}
+use Rattle.xdg_reading.proofs.Steps.{pair, lead_found, Led, after_found, past_found}
+use Rattle.xdg_facts.proofs.Options.{none_some, some_same, cond_either, cond_found, cond_left, nothing_if}
 use Rattle.xdg_base.proofs.Names.{escaped_is, unescaped}
+use Rattle.xdg_facts.proofs.Truths.{same_byte, other_byte}
 
 -- what ends a word: neither a mark nor a part of a name
 pub record IsEnd (end : ℕ) : Type 0 where

@@ -17,11 +17,11 @@ use Rattle.xdg_problem.specs.Arguments.{no_plan}
 use Rattle.xdg_reading.specs.Fitted.{lead, or_at, may_join, follows, said_edge, said_edges}
 use Rattle.xdg_reading.specs.Fits.{SaysEdge, Follows, NextEdge, SayEdges, EdgeOffends, this_edge, later_edge}
 use Rattle.xdg_reading.specs.Names.{dim_number, label_number}
-use Rattle.xdg_reading.proofs.Told.{position_of}
 use Rattle.xdg_reading.proofs.Turns.{precedes_is, precedes_from}
-use Rattle.xdg_facts.proofs.Options.{none_some}
+use Rattle.xdg_facts.proofs.Options.{none_some, cond_found}
 use Rattle.xdg_facts.proofs.Options.{some_same}
 use Rattle.xdg_facts.specs.Onward.{onward}
+use Rattle.xdg_facts.proofs.Lists.{position_of}
 
 record Known {X Y : Type 0} (o : Option X) (f : X → Option Y) (y : Y) : Type 0 where
   pub value : X
@@ -31,10 +31,6 @@ record Known {X Y : Type 0} (o : Option X) (f : X → Option Y) (y : Y) : Type 0
 known : {X Y : Type 0} (o : Option X) (f : X → Option Y) (y : Y) → onward o f ≡ Some y → Known o f y
 known None f y e = cc
 known (Some x) f y e = record { value = x; is = refl; goes = e }
-
-cond_known : {X : Type 0} (t : Bool) (x y : X) → cond t (Some x) None ≡ Some y → (t ≡ true) × (x ≡ y)
-cond_known true x y e = (refl, some_same x y e)
-cond_known false x y e = cc
 
 -- what a line says of an edge that may stand
 pub record Says (parts : Parts) (line : EdgeLine) (e : Edge) : Type 0 where
@@ -69,7 +65,7 @@ unfolding said_edge
 edge_said parts line e said =
     let d = known (dim_number parts.dims line.dim) (λ dim. onward (label_number (plan_at parts dim).labels line.label) (λ label. cond (may_join parts (plan_at parts dim) line) (Some (edge dim line.mother.0 label line.daughter.0)) None)) e said in
     let l = known (label_number (plan_at parts d.value).labels line.label) (λ label. cond (may_join parts (plan_at parts d.value) line) (Some (edge d.value line.mother.0 label line.daughter.0)) None) e d.goes in
-    let joins = cond_known (may_join parts (plan_at parts d.value) line) (edge d.value line.mother.0 l.value line.daughter.0) e l.goes in
+    let joins = cond_found (may_join parts (plan_at parts d.value) line) (edge d.value line.mother.0 l.value line.daughter.0) e l.goes in
     subst (Says parts line) joins.1 (made_edge parts line d.value l.value d.is l.is joins.0)
 
 by_plan : (parts : Parts) (e : Edge) → (place : IsPlace parts e) → plan_at parts e.dim.0 ≡ place.plan

@@ -1,19 +1,13 @@
 -- What stands at the front of a text.
 use denote.Ref.{Bor}
 use Rattle.std.proofs.Common.{◌≡◌, ◌≢◌, ◌<◌, ◌++◌, ◌==◌, ◌⊎◌, inl, inr, ℕ, suc, List, [], ◌∷◌, length, get_or, refl, sym, ap, ◌∙◌, arith, true, false, cond, Bool, Some, None, Option}
-use Rattle.std.proofs.lemmas.Bool.{eq-eqb, ne_eqb, eqb-true}
+use Rattle.std.proofs.lemmas.Bool.{eqb-true}
 use Rattle.std.proofs.lemmas.Str.Pattern.{split_parts, strip_prefix_char, IsSplitOnceResult}
 use Rattle.std.specs.Str.Pattern.{FindsTextPrefix, FindsCharPrefix, StripsPrefix}
-use Rattle.xdg_reading.proofs.Steps.{pair, lead_found, cond_either, nothing_if}
+use Rattle.xdg_reading.proofs.Steps.{pair, lead_found}
 use Rattle.xdg_reading.specs.Pieces.{behind, until, lead}
-use Rattle.xdg_facts.proofs.Options.{some_same}
-
--- a test on two equal numbers
-pub same_byte : {X : Type 0} (c : ℕ) (x y : X) → cond (c == c) x y ≡ x
-same_byte c x y = ap (λ b. cond b x y) (eq-eqb c c refl)
-
-pub other_byte : {X : Type 0} (b c : ℕ) (x y : X) → (b ≡ c → ⊥) → cond (b == c) x y ≡ y
-other_byte b c x y ne = ap (λ t. cond t x y) (ne_eqb b c ne)
+use Rattle.xdg_facts.proofs.Options.{some_same, cond_either, nothing_if}
+use Rattle.xdg_facts.proofs.Truths.{other_byte, same_byte}
 
 -- the text stands there
 pub behind_it : (word rest : List ℕ) → behind word (word ++ rest) ≡ Some rest

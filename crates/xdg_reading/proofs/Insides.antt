@@ -7,6 +7,7 @@ use Rattle.std.specs.Str.{IsCharBoundary}
 use Rattle.xdg_reading.specs.Pieces.{behind, lead, leads, inside, is_plain, stops_plain, GoesPlain}
 use Rattle.xdg_text.specs.Constants.{is_escaped}
 use Rattle.xdg_reading.proofs.Fronts.{it_stands}
+use Rattle.xdg_facts.proofs.Options.{not_then}
 
 pub leads_none : {X : Type 0} (o : Option (List X × List ℕ)) → leads [] o ≡ o
 leads_none None = refl
@@ -47,11 +48,6 @@ lead_is x (Some found) = refl
 pub escaped_turn : (byte : ℕ) (bytes : List ℕ) → is_escaped byte ≡ true → inside false (92 ∷ byte ∷ bytes) ≡ lead byte (inside false bytes)
 unfolding inside
 escaped_turn byte bytes e = ap (λ t. cond t (lead byte (inside false bytes)) None) e
-
--- a test that stops where it is true
-not_then : {X : Type 0} (t : Bool) (x : X) (y : Option X) → cond t (Some x) y ≡ None → t ≡ false
-not_then true x y e = cc
-not_then false x y e = refl
 
 not_escaped : (c : ℕ) → (c == 34) ≡ false → (c == 92) ≡ false → is_escaped c ≡ false
 not_escaped c mark backslash = or_from (c == 34) (c == 92) mark backslash

@@ -7,9 +7,9 @@ use Rattle.std.proofs.lemmas.Str.Parse.{digit_at}
 use Rattle.std.specs.Str.Parse.{AllDigits}
 use Rattle.xdg_reading.specs.Pieces.{after, and, until, value_from, value_of, number_of, number_at, ordinal_at}
 use Rattle.xdg_reading.proofs.Fronts.{until_it, until_stands}
-use Rattle.xdg_reading.proofs.Steps.{pair, after_found, and_found, cond_found}
+use Rattle.xdg_reading.proofs.Steps.{pair, after_found, and_found}
 use Rattle.xdg_facts.proofs.Texts.{equal}
-use Rattle.xdg_facts.proofs.Options.{some_same}
+use Rattle.xdg_facts.proofs.Options.{some_same, cond_found}
 
 abbrev greatest : ℕ
 greatest = 18446744073709551615

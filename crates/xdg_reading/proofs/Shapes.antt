@@ -16,8 +16,8 @@ use Rattle.xdg_reading.specs.Gathered.{word_in, entry_in, attr_in, edge_in, Hold
 use Rattle.xdg_reading.specs.Lines.{line_text, text_of}
 use Rattle.xdg_reading.specs.Stages.{Goes}
 use Rattle.xdg_reading.specs.Texts.{word_lines, body, lines_of, lines2_of, Placed, HasLines, IsText}
-use Rattle.xdg_reading.proofs.Steps.{cond_found, cond_left}
-use Rattle.xdg_facts.proofs.Options.{none_some, some_same}
+use Rattle.xdg_facts.proofs.Options.{none_some, some_same, cond_found, cond_left}
+use Rattle.xdg_facts.proofs.Lists.{none_left}
 
 pub placed_of : (at : ℕ) (s : Stage) (ls : List Line) (t : Stage) → Goes at s ls t → Placed at ls
 placed_of at s [] t goes = tt
@@ -133,13 +133,9 @@ record Counted (k words attrs edges : ℕ) (ls : List Line) : Type 0 where
   pub attrs_are : length (attrs_in ls) ≡ attrs
   pub edges_are : length (edges_in ls) ≡ edges
 
-none_of : {X : Type 0} (xs : List X) (n : ℕ) → length xs ≡ n → n ≡ 0 → xs ≡ []
-none_of [] n e none = refl
-none_of (x ∷ xs) n e none = absurd (omega (arith, e, none))
-
 to_attrs : (k : ℕ) (ls : List Line) → Words k ls → words_in ls ≡ [] → Attrs ls
 to_attrs k ls words none =
-    let entries : entries_in ls ≡ [] = none_of (entries_in ls) (length (words_in ls)) words.each (ap length none) in
+    let entries : entries_in ls ≡ [] = none_left (entries_in ls) (length (words_in ls)) words.each (ap length none) in
     record { words = none; entries = entries; is = words.is ∙ ap (λ z. word_lines k z (entries_in ls) ++ attr_lines (attrs_in ls) (edges_in ls)) none }
 
 to_edges : (ls : List Line) → Attrs ls → attrs_in ls ≡ [] → Edges ls
@@ -160,7 +156,7 @@ left_shape (lines.Attr a ∷ ls) at k words attrs edges (is, (m, step, more)) =
     let none : words ≡ 0 = eqb-true words 0 tests.0 in
     let some : 0 < attrs = ltb-true 0 attrs tests.1 in
     let left = left_shape ls _ k words (attrs - 1) edges (rw (← both.1) at more) in
-    let no_words : words_in ls ≡ [] = none_of (words_in ls) words left.words_are none in
+    let no_words : words_in ls ≡ [] = none_left (words_in ls) words left.words_are none in
     record { shape = as_words k (lines.Attr a ∷ ls) (one_attr a ls (to_attrs k ls left.shape no_words)); words_are = left.words_are; attrs_are = omega (arith, some, left.attrs_are); edges_are = left.edges_are }
 left_shape (lines.Edge e ∷ ls) at k words attrs edges (is, (m, step, more)) =
     let both = cond_found ((words == 0) && (attrs == 0) && nat_lt 0 edges) (stages.Left k words attrs (edges - 1)) m step in
@@ -170,8 +166,8 @@ left_shape (lines.Edge e ∷ ls) at k words attrs edges (is, (m, step, more)) =
     let bare : attrs ≡ 0 = eqb-true attrs 0 tests.1 in
     let some : 0 < edges = ltb-true 0 edges outer.1 in
     let left = left_shape ls _ k words attrs (edges - 1) (rw (← both.1) at more) in
-    let no_words : words_in ls ≡ [] = none_of (words_in ls) words left.words_are none in
-    let no_attrs : attrs_in ls ≡ [] = none_of (attrs_in ls) attrs left.attrs_are bare in
+    let no_words : words_in ls ≡ [] = none_left (words_in ls) words left.words_are none in
+    let no_attrs : attrs_in ls ≡ [] = none_left (attrs_in ls) attrs left.attrs_are bare in
     record { shape = as_words k (lines.Edge e ∷ ls) (as_attrs (lines.Edge e ∷ ls) (one_edge e ls (to_edges ls (to_attrs k ls left.shape no_words) no_attrs))); words_are = left.words_are; attrs_are = left.attrs_are; edges_are = omega (arith, some, left.edges_are) }
 left_shape (lines.End ∷ ls) at k words attrs edges (is, (m, step, more)) =
     let both = cond_found ((words == 0) && (attrs == 0) && (edges == 0)) stages.Ended m step in

@@ -1,5 +1,5 @@
 -- What a step of reading tells of its parts.
-use Rattle.std.proofs.Common.{◌≡◌, ◌⊎◌, inl, inr, ℕ, List, ◌∷◌, refl, true, false, cond, Bool, Some, None, Option}
+use Rattle.std.proofs.Common.{◌≡◌, ◌⊎◌, inl, inr, ℕ, List, ◌∷◌, refl, Some, None, Option}
 use Rattle.xdg_reading.specs.Pieces.{after, past, past_or, or_else, and, lead}
 use Rattle.xdg_facts.proofs.Options.{some_same}
 
@@ -39,20 +39,6 @@ pub lead_found : {X : Type 0} (x : X) (o : Option (List X × List ℕ)) (y : Lis
 lead_found x None y e = cc
 lead_found x (Some found) y e = record { more = found.0; rest = found.1; is = refl; all = some_same (x ∷ found.0, found.1) y e }
 
--- a test that stops where it is false
-pub cond_found : {X : Type 0} (t : Bool) (x y : X) → cond t (Some x) None ≡ Some y → (t ≡ true) × (x ≡ y)
-cond_found true x y e = (refl, some_same x y e)
-cond_found false x y e = cc
-
-pub cond_left : {X : Type 0} (t : Bool) (x y : X) → cond t None (Some x) ≡ Some y → (t ≡ false) × (x ≡ y)
-cond_left true x y e = cc
-cond_left false x y e = (refl, some_same x y e)
-
--- of two ways one was taken
-pub cond_either : {X : Type 0} (t : Bool) (a b : Option X) (y : X) → cond t a b ≡ Some y → ((t ≡ true) × (a ≡ Some y)) ⊎ ((t ≡ false) × (b ≡ Some y))
-cond_either true a b y e = inl (refl, e)
-cond_either false a b y e = inr (refl, e)
-
 pub and_found : {X : Type 0} (o : Option X) (rest : List ℕ) (y : X × List ℕ) → and o rest ≡ Some y → (x : X) × (o ≡ Some x) × (pair x rest ≡ y)
 and_found None rest y e = cc
 and_found (Some x) rest y e = (x, refl, some_same (x, rest) y e)
@@ -60,8 +46,3 @@ and_found (Some x) rest y e = (x, refl, some_same (x, rest) y e)
 pub or_else_found : {X : Type 0} (a b : Option X) (y : X) → or_else a b ≡ Some y → (a ≡ Some y) ⊎ (b ≡ Some y)
 or_else_found None b y e = inr e
 or_else_found (Some x) b y e = inl e
-
--- what can't be something is nothing
-pub nothing_if : {X : Type 0} (o : Option X) → ((x : X) → o ≡ Some x → ⊥) → o ≡ None
-nothing_if None lacks = refl
-nothing_if (Some x) lacks = absurd (lacks x refl)

@@ -1,11 +1,9 @@
 -- What is said is what the lines show, and the place that is told is that of the first line that offends.
-use Rattle.std.proofs.Common.{◌≡◌, ◌≢◌, ◌<◌, ◌==◌, ◌&&◌, inl, inr, ℕ, zero, suc, List, [], ◌∷◌, length, get_or, refl, sym, ap, ap₂, ◌∙◌, subst, arith, true, false, cond, Bool, Some, None, Option, Ok, Err, nat_lt, bytes_eq, AllPairs}
+use Rattle.std.proofs.Common.{◌≡◌, ◌≢◌, ◌==◌, ◌&&◌, inl, inr, ℕ, zero, suc, List, [], ◌∷◌, length, get_or, refl, sym, ap, ap₂, ◌∙◌, subst, arith, true, false, cond, Bool, Some, None, Option, Ok, Err, bytes_eq, AllPairs}
 use Rattle.std.specs.Prelude.{Result, Contains}
 use Rattle.std.proofs.lemmas.List.Quantifiers.{position-Some}
-use Rattle.std.proofs.lemmas.List.Sums.{position_or_len_is}
 use Rattle.std.proofs.lemmas.Slice.Eq.{bytes_eq-Decides}
-use Rattle.std.proofs.lemmas.Bool.{eqb-true, eq-eqb, lt-ltb, or_cases, or_left, or_right, and_parts, and_from, false_from_ne_true, both_ways}
-use Rattle.std.specs.List.{position}
+use Rattle.std.proofs.lemmas.Bool.{eqb-true, eq-eqb, or_cases, or_left, or_right, and_parts, and_from, false_from_ne_true, both_ways}
 use Rattle.xdg_base.specs.declared.ids.EntryNo.{EntryNo}
 use Rattle.xdg_problem.specs.declared.parts.SentenceWord.{SentenceWord}
 use Rattle.xdg_problem.specs.declared.parts.Shown.{Shown}
@@ -17,8 +15,8 @@ use Rattle.xdg_reading.specs.Fitted.{has_entry, words_fault, lead, or_at, said_v
 use Rattle.xdg_reading.specs.Fits.{SaysValue, SayValues, WordOffends, this_word, later_word, AttrOffends, one_more, missing, this_attr, later_attr}
 use Rattle.xdg_reading.specs.Names.{same_texts, same_shown, value_number}
 use Rattle.xdg_reading.specs.Slots.{Asked}
-use Rattle.xdg_reading.proofs.Steps.{nothing_if}
-use Rattle.xdg_facts.proofs.Options.{some_same}
+use Rattle.xdg_facts.proofs.Options.{some_same, nothing_if}
+use Rattle.xdg_facts.proofs.Lists.{position_of}
 
 -- entries
 contains_more : (c : EntryNo) (cs : List EntryNo) (e : EntryNo) → Contains cs e → Contains (c ∷ cs) e
@@ -85,12 +83,6 @@ shown_same (shown.Many xs) (shown.Many ys) e = ap shown.Many (texts_same xs ys e
 shown_of : (x : Shown) → same_shown x x ≡ true
 shown_of (shown.One x) = (bytes_eq-Decides x x).1 refl
 shown_of (shown.Many xs) = texts_of xs
-
--- the first of different items that passes a test of equality is the item
-pub position_of : {X : Type 0} (p : X → Bool) (xs : List X) (k : ℕ) (d : X) → k < length xs → p (get_or xs k d) ≡ true → ((j : ℕ) → j < k → p (get_or xs j d) ≡ false) → position p xs ≡ Some k
-position_of p xs k d within here before =
-    let is = position_or_len_is p xs k d (omega (arith, within)) before (λ _. here) in
-    ap (λ n. cond (nat_lt n (length xs)) (Some n) None) is ∙ ap (λ t. cond t (Some k) None) (lt-ltb k (length xs) within)
 
 abbrev names : Asked → AttrLine → Bool
 names asked line = bytes_eq line.dim asked.dim && (line.node.0 == asked.node) && bytes_eq line.attr asked.attr.name

@@ -9,9 +9,10 @@ use Rattle.xdg_text.specs.Constants.{constant, quoted, is_name, begins_name, con
 use Rattle.xdg_text.specs.Values.{value_text}
 use Rattle.xdg_reading.specs.Pieces.{after, past, past_or, or_else, lead, behind, constant_at, element_at, constants_at, tuple_at, value_at}
 use Rattle.xdg_reading.proofs.Constants.{space, bracket, line_feed, constant_read, constant_other, constant_spelled}
-use Rattle.xdg_reading.proofs.Fronts.{it_stands, other_byte}
-use Rattle.xdg_reading.proofs.Steps.{pair, after_found, past_found, past_or_found, lead_found, cond_either, or_else_found, Passed}
-use Rattle.xdg_facts.proofs.Options.{none_some, some_same}
+use Rattle.xdg_reading.proofs.Fronts.{it_stands}
+use Rattle.xdg_reading.proofs.Steps.{pair, after_found, past_found, past_or_found, lead_found, or_else_found, Passed}
+use Rattle.xdg_facts.proofs.Options.{none_some, some_same, cond_either}
+use Rattle.xdg_facts.proofs.Truths.{other_byte}
 
 -- a constant with another behind it
 pub element_goes : (text rest : List ℕ) → element_at (constant text ++ 32 ∷ rest) ≡ Some ((text, true), rest)

@@ -12,9 +12,10 @@ use Rattle.xdg_reading.specs.Gathered.{word_in, entry_in, attr_in, edge_in, Hold
 use Rattle.xdg_reading.specs.Lines.{line_text, text_of, IsLine, line_at}
 use Rattle.xdg_reading.specs.Stages.{next, has_ended, Goes, OffendsAt}
 use Rattle.xdg_reading.proofs.LineLaws.{line_read, line_spelled}
-use Rattle.xdg_reading.proofs.Steps.{pair, cond_found, cond_left}
+use Rattle.xdg_reading.proofs.Steps.{pair}
 use Rattle.xdg_facts.proofs.Lists.{empty_list}
-use Rattle.xdg_facts.proofs.Options.{none_some, some_same}
+use Rattle.xdg_facts.proofs.Fronts.{front_length}
+use Rattle.xdg_facts.proofs.Options.{none_some, some_same, cond_found, cond_left}
 
 pub text_snoc : (ls : List Line) (l : Line) → text_of (ls ++ l ∷ []) ≡ text_of ls ++ line_text l
 text_snoc ls l = flat_map-append line_text ls (l ∷ []) ∙ ap (λ z. text_of ls ++ z) (append-nil (line_text l))
@@ -27,9 +28,6 @@ goes_snoc at s [] t l u same is e =
 goes_snoc at s (first ∷ ls) t l u (first_is, (m, step, more)) is e =
     let place : at + length (line_text first ++ text_of ls) ≡ at + length (line_text first) + length (text_of ls) = omega (arith, length-append (line_text first) (text_of ls)) in
     (first_is, (m, step, goes_snoc (at + length (line_text first)) m ls t l u more (subst (λ k. IsLine k l) place is) e))
-
-pub place_of : (bytes front left : List ℕ) → bytes ≡ front ++ left → length bytes - length left ≡ length front
-place_of bytes front left e = let size : length bytes ≡ length (front ++ left) = ap length e in omega (arith, size, length-append front left)
 
 -- no line is empty
 pub some_text : (l : Line) → 0 < length (line_text l)
@@ -50,7 +48,7 @@ unread_offends bytes stage left t at so_far is read = record {
   left = left;
   goes = so_far.goes;
   parts = so_far.parts;
-  place = is ∙ place_of bytes (text_of so_far.lines) left so_far.parts;
+  place = is ∙ front_length bytes (text_of so_far.lines) left so_far.parts;
   stuck = record {
     none = λ l more later line parts goes. none_some (pair l more) (sym read ∙ ap (line_at at) parts ∙ line_read at l more line);
     unread = λ ended. absurd (both_ways (has_ended stage) so_far.goes_on (ap has_ended ended));
@@ -65,7 +63,7 @@ other_offends bytes stage left t at l new so_far is read stays = record {
   left = left;
   goes = so_far.goes;
   parts = so_far.parts;
-  place = is ∙ place_of bytes (text_of so_far.lines) left so_far.parts;
+  place = is ∙ front_length bytes (text_of so_far.lines) left so_far.parts;
   stuck = record {
     none = λ other more later line parts goes.
         let same = some_same (pair other more) (pair l new) (sym (line_read at other more line) ∙ ap (line_at at) (sym parts) ∙ read) in
@@ -81,7 +79,7 @@ record Turn (bytes : List ℕ) (stage : Stage) (left : List ℕ) (so_far : List 
 turn : (bytes : List ℕ) (stage : Stage) (left : List ℕ) (t : AnalysisText) (at : ℕ) (l : Line) (new : List ℕ) (later : Stage) → (so_far : SoFar bytes stage left t) → at ≡ length bytes - length left → line_at at left ≡ Some (l, new) → next stage l ≡ Some later → Turn bytes stage left so_far.lines l new later
 turn bytes stage left t at l new later so_far is read step =
     let spelled = line_spelled at left l new read in
-    let place : at ≡ 0 + length (text_of so_far.lines) = is ∙ place_of bytes (text_of so_far.lines) left so_far.parts ∙ omega arith in
+    let place : at ≡ 0 + length (text_of so_far.lines) = is ∙ front_length bytes (text_of so_far.lines) left so_far.parts ∙ omega arith in
     record {
       goes = goes_snoc 0 stages.Start so_far.lines stage l later so_far.goes (subst (λ k. IsLine k l) place spelled.is) step;
       parts = so_far.parts ∙ ap (λ z. text_of so_far.lines ++ z) spelled.parts ∙ sym (append_assoc (text_of so_far.lines) (line_text l) new) ∙ ap (λ z. z ++ new) (sym (text_snoc so_far.lines l));
@@ -132,7 +130,7 @@ left_offends bytes stage left t at l new so_far is read step some =
       left = new;
       goes = next_turn.goes;
       parts = next_turn.parts;
-      place = place_of bytes (text_of (so_far.lines ++ l ∷ [])) new next_turn.parts;
+      place = front_length bytes (text_of (so_far.lines ++ l ∷ [])) new next_turn.parts;
       stuck = record { none = λ other more later line parts goes. none_some later goes; unread = λ ended none. some (ap length none) };
     }
 

@@ -24,9 +24,9 @@ use Rattle.xdg_problem.proofs.PlaceOrder.{places_ordered}
 use Rattle.xdg_problem.proofs.Shortening.{passes_like}
 use Rattle.xdg_problem.specs.Boxes.{Has, Agrees, place_in, edge_decision, entry_decision}
 use Rattle.xdg_rules.specs.Rules.{has, IsDecided, value_in, EntryDecided, entry_value, TestDecided, TestPasses}
-use Rattle.xdg_rules.proofs.Sizes.{row_within}
 use Rattle.xdg_rules.proofs.Failing.{value_is}
-use Rattle.xdg_facts.proofs.Truths.{same_flag}
+use Rattle.xdg_facts.proofs.Truths.{same_flag, and_carried}
+use Rattle.xdg_facts.proofs.Lists.{true_within}
 
 -- what remains of a decision of the prefix is its number
 pub agrees_at : (box : List (List Bool)) (p : List ℕ) → Agrees box p → (d : ℕ) → d < length p → (v : ℕ) → Has box d v ↔ (v ≡ slice_index p d)
@@ -39,7 +39,7 @@ agrees_at (row ∷ box) (x ∷ p) agrees (suc d) l v = agrees_at box p agrees.1 
 pub agrees_fits : (box : List (List Bool)) (p : List ℕ) → Agrees box p → Fits (map length box) p
 agrees_fits box [] agrees = tt
 agrees_fits [] (x ∷ p) agrees = absurd agrees
-agrees_fits (row ∷ box) (x ∷ p) agrees = (row_within row x ((agrees.0 x).1 refl), agrees_fits box p agrees.1)
+agrees_fits (row ∷ box) (x ∷ p) agrees = (true_within row x ((agrees.0 x).1 refl), agrees_fits box p agrees.1)
 
 -- and is no longer than the box
 pub agrees_short : (box : List (List Bool)) (p : List ℕ) → Agrees box p → length p ≤ length box
@@ -79,12 +79,6 @@ pub edges_present : (parts : Parts) (p : List ℕ) → edges_in parts p ≡ filt
 edges_present parts p = chosen_filter (places parts) (drop (first_place parts) p) (places_ordered parts)
     ∙ filter_alike (λ e. says_present (drop (first_place parts) p) (place_in (places parts) e)) (λ e. says_present p (edge_decision parts e)) (places parts)
     (λ k d l. ap (λ n. n == 0) (get_or-drop (first_place parts) p (place_in (places parts) _) 1))
-
-pub swapped : (a b c : Bool) → (b ≡ true → a ≡ c) → (a && b) ≡ (b && c)
-swapped true true c same = same refl
-swapped false true c same = same refl
-swapped true false c same = refl
-swapped false false c same = refl
 
 later_place : (b : Bool) (n k : ℕ) → suc n ≤ cond b 0 (suc k) → (b ≡ false) × (n ≤ k)
 later_place true n k l = absurd (omega (arith, l))
@@ -147,7 +141,7 @@ module _ (parts : Parts) (box : List (List Bool)) (p : List ℕ) (agrees : Agree
       ap (filter looks) (edges_present parts p)
       ∙ filter_both looks (λ e. says_present p (edge_decision parts e)) (places parts)
       ∙ filter_on (λ e. says_present p (edge_decision parts e) && looks e) (λ e. looks e && has box (edge_decision parts e) 0) (places parts)
-      (λ e c. swapped (says_present p (edge_decision parts e)) (looks e) (has box (edge_decision parts e) 0) (λ sees. present_at (edge_decision parts e) (stands_at looks closed e c sees)))
+      (λ e c. and_carried (says_present p (edge_decision parts e)) (looks e) (has box (edge_decision parts e) 0) (λ sees. present_at (edge_decision parts e) (stands_at looks closed e c sees)))
 
   -- a test that stands in the prefix is decided in the box
   pub stands_decided : (group : Group) (test : Test) → Stands parts group test p → TestDecided parts group box test

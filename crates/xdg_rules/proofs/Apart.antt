@@ -7,7 +7,7 @@ use Rattle.xdg_problem.specs.Paths.{Above}
 use Rattle.xdg_problem.specs.Places.{edge, nodes}
 use Rattle.xdg_problem.specs.Problems.{IsProblem}
 use Rattle.xdg_problem.specs.Vectors.{shape}
-use Rattle.xdg_facts.proofs.Decided.{Decided, decided_both, decided_equal, decided_less, decided_below, decided_either, decided_true, decided_not}
+use Rattle.xdg_facts.proofs.Decided.{Decided, decided_both, decided_equal, decided_less, decided_below, decided_either, decided_true, decided_not, decided_some_below}
 use Rattle.xdg_problem.proofs.DecidingPaths.{decided_above}
 use Rattle.xdg_rules.specs.Rules.{may_edges, must_edges}
 use Rattle.xdg_rules.proofs.Among.{Among, above_among}
@@ -19,7 +19,6 @@ use Rattle.xdg_problem.specs.Truths.{bound, says, HasTruth, AreNodes}
 use Rattle.xdg_rules.specs.Worths.{EachValue, Makes, MakesEach, MakesSome}
 use Rattle.xdg_problem.proofs.Bindings.{bound_nodes}
 use Rattle.xdg_rules.proofs.NodeValues.{attr_decided}
-use Rattle.xdg_problem.proofs.DecidingTruths.{decided_some as decided_some_below}
 
 -- an edge that must be may be
 pub must_may : (parts : Parts) (box : List (List Bool)) (dim : ℕ) → Among (must_edges parts box dim) (may_edges parts box dim)

@@ -4,20 +4,14 @@ use Rattle.std.specs.Prelude.{All, Contains, slice_index_or}
 use Rattle.std.specs.List.{Any}
 use Rattle.std.proofs.lemmas.Bool.{cases_Bool, both_ways}
 use Rattle.std.proofs.lemmas.List.Elements.{All-contains, All-contains_itself, All-weaker}
-use Rattle.xdg_facts.specs.Order.{Less}
-use Rattle.xdg_facts.proofs.Ordered.{less_irreflexive, less_total}
 use Rattle.xdg_problem.specs.declared.analysis.Edge.{Edge}
-use Rattle.xdg_facts.proofs.Decided.{Decided, decided_like, decided_both, decided_from, decided_equal, decided_most, decided_below, decided_all, decided_contains, decided_either, decided_true, decided_not, decided_any}
+use Rattle.xdg_facts.proofs.Decided.{Decided, decided_like, decided_both, decided_from, decided_equal, decided_most, decided_below, decided_all, decided_contains, decided_either, decided_true, decided_not, decided_any, decided_some_below, decided_as}
 use Rattle.xdg_facts.proofs.Contained.{contained, any_of}
 use Rattle.xdg_problem.proofs.Edges.{same_edge_itself, same_edge_equal}
 use Rattle.xdg_problem.specs.Places.{same_edge}
 use Rattle.xdg_problem.specs.Boxes.{Has, IsOnly, entry_decision}
 use Rattle.xdg_rules.specs.Rules.{EachEntry, IsDecided, HasNoneWithin, IsGreatest, IsLeast, ComesBefore}
-use Rattle.xdg_rules.proofs.Sizes.{row_within}
-use Rattle.xdg_problem.proofs.DecidingTruths.{decided_some as decided_some_below}
-
-pub decided_as : (P Q : Type 0) → Decided P → (P → Q) → (Q → P) → Decided Q
-decided_as P Q decided to from = decided_like P Q to from decided
+use Rattle.xdg_facts.proofs.Lists.{true_within}
 
 pub decided_has : (box : List (List Bool)) (d v : ℕ) → Decided (Has box d v)
 decided_has box d v = decided_true (slice_index_or (slice_index_or box d []) v false)
@@ -26,7 +20,7 @@ module _ (box : List (List Bool)) (d : ℕ) (P : ℕ → Type 0) (each : (v : �
   -- each value that remains
   pub decided_remaining : Decided ((v : ℕ) → Has box d v → P v)
   decided_remaining = decided_like ((v : ℕ) → v < length (slice_index_or box d []) → Has box d v → P v) ((v : ℕ) → Has box d v → P v)
-      (λ all v has. all v (row_within (slice_index_or box d []) v has) has)
+      (λ all v has. all v (true_within (slice_index_or box d []) v has) has)
       (λ all v l has. all v has)
       (decided_below (λ v. Has box d v → P v) (length (slice_index_or box d [])) (λ v. decided_from (Has box d v) (P v) (decided_has box d v) (each v)))
 
@@ -34,7 +28,7 @@ module _ (box : List (List Bool)) (d : ℕ) (P : ℕ → Type 0) (each : (v : �
   pub decided_some : Decided ((v : ℕ) × Has box d v × P v)
   decided_some = decided_like ((v : ℕ) × (v < length (slice_index_or box d [])) × (Has box d v × P v)) ((v : ℕ) × Has box d v × P v)
       (λ some. (some.0, some.2.0, some.2.1))
-      (λ some. (some.0, row_within (slice_index_or box d []) some.0 some.1, (some.1, some.2)))
+      (λ some. (some.0, true_within (slice_index_or box d []) some.0 some.1, (some.1, some.2)))
       (decided_some_below (λ v. Has box d v × P v) (length (slice_index_or box d [])) (λ v. decided_both (Has box d v) (P v) (decided_has box d v) (each v)))
 
 pub decided_only : (box : List (List Bool)) (d v : ℕ) → Decided (IsOnly box d v)
@@ -47,13 +41,6 @@ pub decided_each_entry : (box : List (List Bool)) (node : ℕ) (P : ℕ → Type
 decided_each_entry box node P each = decided_remaining box (entry_decision node) P each
 
 -- lists of numbers, and edges
-
-pub decided_lists : (xs ys : List ℕ) → Decided (xs ≡ ys)
-decided_lists xs ys = elim (less_total xs ys) [
-  | inl less ↦ inr (λ e. less_irreflexive ys (subst (λ zs. Less zs ys) e less))
-  | inr (inl same) ↦ inl same
-  | inr (inr more) ↦ inr (λ e. less_irreflexive ys (subst (Less ys) e more))
-]
 
 pub decided_edges : (a b : Edge) → Decided (a ≡ b)
 decided_edges a b = elim (cases_Bool (same_edge a b)) [

@@ -13,18 +13,18 @@ use Rattle.xdg_problem.specs.Places.{nodes, places}
 use Rattle.xdg_problem.specs.Problems.{IsProblem}
 use Rattle.xdg_problem.specs.Tests.{Test, IsTest, looks_at, entry_node, test_attrs}
 use Rattle.xdg_problem.specs.Vectors.{shape}
-use Rattle.xdg_facts.proofs.Decided.{Decided, decided_like, decided_both, decided_from, decided_equal, decided_below, decided_all, decided_true, decided_not, decided_any, triple_decided}
-use Rattle.xdg_facts.proofs.Contained.{contained, any_of, contains_head, contains_none, contains_cases, contains_map}
+use Rattle.xdg_facts.proofs.Decided.{Decided, decided_like, decided_both, decided_from, decided_equal, decided_below, decided_all, decided_true, decided_not, decided_any, triple_decided, decided_as, decided_lists}
+use Rattle.xdg_facts.proofs.Contained.{contained, any_of, contains_head, contains_map, contains_flat}
 use Rattle.xdg_problem.proofs.EachTest.{Each, tested_each, each_tested}
 use Rattle.xdg_problem.proofs.LiveDecided.{decided_passes, decided_tests}
 use Rattle.xdg_problem.specs.Boxes.{Has, IsBox, Agrees, edge_decision, entry_decision}
 use Rattle.xdg_rules.specs.Rules.{has, IsDecided, EntryDecided, entry_value, value_in, TestDecided, TestPasses, FailsTest, TakesBy, IsClosedFor, IsClosed}
 use Rattle.xdg_rules.specs.Boxed.{Boxed}
-use Rattle.xdg_rules.proofs.Sizes.{row_within}
 use Rattle.xdg_rules.proofs.ClosedLive.{none_fails}
-use Rattle.xdg_rules.proofs.DecidingBoxes.{decided_as, decided_remaining, decided_some, decided_decided, decided_lists}
+use Rattle.xdg_rules.proofs.DecidingBoxes.{decided_remaining, decided_some, decided_decided}
 use Rattle.xdg_rules.proofs.DecidingRules.{decided_by}
 use Rattle.xdg_problem.proofs.BoxPlaces.{has_decision}
+use Rattle.xdg_facts.proofs.Lists.{true_within}
 
 -- of all values that remain
 pub decided_everywhere : (box : List (List Bool)) (P : ℕ → ℕ → Type 0) → ((d v : ℕ) → Decided (P d v)) → Decided ((d v : ℕ) → Has box d v → P d v)
@@ -109,13 +109,6 @@ pub all_boxes : List ℕ → List (List (List Bool))
 all_boxes [] = [] ∷ []
 all_boxes (size ∷ sizes) = flat_map (λ row. map (λ box. row ∷ box) (all_boxes sizes)) (all_rows size)
 
-contains_flat : {X Y : Type 0} (f : X → List Y) (xs : List X) (x : X) (y : Y) → Contains xs x → Contains (f x) y → Contains (flat_map f xs) y
-contains_flat f [] x y c d = absurd (contains_none x c)
-contains_flat f (z ∷ xs) x y c d = elim (contains_cases z xs x c) [
-  | inl e ↦ Contains-append_left (f z) (flat_map f xs) y (subst (λ k. Contains (f k) y) (sym e) d)
-  | inr later ↦ Contains-append_right (f z) (flat_map f xs) y (contains_flat f xs x y later d)
-]
-
 pub box_contained : (box : List (List Bool)) → Contains (all_boxes (map length box)) box
 unfolding all_boxes
 box_contained [] = contains_head [] []
@@ -130,7 +123,7 @@ decided_box sizes box = decided_like ((map length box ≡ sizes) × ((d : ℕ) �
 -- a row has one flag, that of the number
 decided_row : (row : List Bool) (x : ℕ) → Decided ((v : ℕ) → (slice_index_or row v false ≡ true) ↔ (v ≡ x))
 decided_row row x = decided_like ((slice_index_or row x false ≡ true) × ((v : ℕ) → v < length row → slice_index_or row v false ≡ true → v ≡ x)) ((v : ℕ) → (slice_index_or row v false ≡ true) ↔ (v ≡ x))
-    (λ both v. (λ flag. both.1 v (row_within row v flag) flag, λ e. subst (λ k. slice_index_or row k false ≡ true) (sym e) both.0))
+    (λ both v. (λ flag. both.1 v (true_within row v flag) flag, λ e. subst (λ k. slice_index_or row k false ≡ true) (sym e) both.0))
     (λ all. ((all x).1 refl, λ v l flag. (all v).0 flag))
     (decided_both _ _ (decided_true (slice_index_or row x false)) (decided_below (λ v. slice_index_or row v false ≡ true → v ≡ x) (length row) (λ v. decided_from _ _ (decided_true (slice_index_or row v false)) (decided_equal v x))))
 

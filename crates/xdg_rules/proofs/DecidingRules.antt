@@ -1,7 +1,6 @@
 -- What a rule takes from a box can be decided of each value.
 use Rattle.std.proofs.Common.{◌≡◌, ℕ, ◌+◌, ◌<◌, ◌⊎◌, inl, inr, Bool, false, List, [], ◌∷◌, length, refl, sym, subst, Option, None, Some}
 use Rattle.std.specs.Prelude.{Contains}
-use Rattle.std.specs.List.{Any}
 use Rattle.xdg_problem.specs.declared.analysis.Edge.{Edge}
 use Rattle.xdg_problem.specs.declared.parts.Group.{Group}
 use Rattle.xdg_problem.specs.declared.parts.Linking.{Linking}
@@ -15,8 +14,7 @@ use Rattle.xdg_problem.specs.Features.{in_row, out_row, set_row, map_row}
 use Rattle.xdg_problem.specs.Paths.{edges_into, edges_out_of, mothers, roots, Above}
 use Rattle.xdg_problem.specs.Places.{nodes, places}
 use Rattle.xdg_problem.specs.Truths.{unbound}
-use Rattle.xdg_facts.proofs.Decided.{Decided, decided_like, decided_both, decided_equal, decided_less, decided_most, decided_contains, decided_either, decided_true, decided_not, decided_any, triple_decided}
-use Rattle.xdg_facts.proofs.Contained.{contained, any_of}
+use Rattle.xdg_facts.proofs.Decided.{Decided, decided_both, decided_equal, decided_less, decided_most, decided_contains, decided_either, decided_true, decided_not, triple_decided, decided_as, decided_lists, decided_some_below, decided_in}
 use Rattle.xdg_problem.proofs.DecidingAsks.{decided_between, decided_linked}
 use Rattle.xdg_problem.proofs.DecidingPaths.{starts, decided_above}
 use Rattle.xdg_problem.specs.Boxes.{entry_decision, edge_decision}
@@ -26,13 +24,8 @@ use Rattle.xdg_rules.specs.Rules.{AgrValues, AgreementValues, GovernmentValues, 
 use Rattle.xdg_rules.specs.Rules.{TakesBy, TakesLinked}
 use Rattle.xdg_rules.specs.Bounds.{edge_cost, least_cost, BoundPlace}
 use Rattle.xdg_rules.proofs.Apart.{decided_makes}
-use Rattle.xdg_rules.proofs.DecidingBoxes.{decided_as, decided_has, decided_remaining, decided_some, decided_only, decided_each_entry, decided_lists, decided_edges, decided_among, decided_none_within, decided_greatest}
+use Rattle.xdg_rules.proofs.DecidingBoxes.{decided_has, decided_remaining, decided_some, decided_only, decided_each_entry, decided_edges, decided_among, decided_none_within, decided_greatest}
 use Rattle.xdg_rules.proofs.DecidingBoxes.{decided_least, decided_comes}
-use Rattle.xdg_problem.proofs.DecidingTruths.{decided_some as decided_some_below}
-
--- some element of a list
-decided_in : {X : Type 0} (xs : List X) (P : X → Type 0) → ((x : X) → Decided (P x)) → Decided ((x : X) × Contains xs x × P x)
-decided_in {X} xs P each = decided_like (Any P xs) ((x : X) × Contains xs x × P x) (contained P xs) (λ some. any_of P xs some.0 some.1 some.2) (decided_any P xs each)
 
 -- some place of a dimension
 decided_placed : (parts : Parts) (dim : ℕ) (P : Edge → Type 0) → ((e : Edge) → Decided (P e)) → Decided ((e : Edge) × IsPlaceOn parts dim e × P e)

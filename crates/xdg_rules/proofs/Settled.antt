@@ -1,12 +1,12 @@
 -- In a box of single values each claim is made true or false.
-use Rattle.std.proofs.Common.{◌≡◌, ℕ, ◌<◌, ◌⊎◌, inl, inr, zero, suc, Bool, true, false, List, sym, arith, subst}
-use Rattle.std.proofs.lemmas.Bool.{cases_eq, false_from_ne_true}
+use Rattle.std.proofs.Common.{◌≡◌, ℕ, ◌⊎◌, inl, inr, Bool, true, false, List, arith, subst}
+use Rattle.std.proofs.lemmas.Bool.{false_from_ne_true}
 use Rattle.xdg_problem.specs.declared.parts.Parts.{Parts}
 use Rattle.xdg_problem.specs.Boxes.{Has, IsBox, IsSingle, attr_decision, entry_decision, edge_decision}
 use Rattle.xdg_problem.specs.Places.{edge, nodes}
 use Rattle.xdg_problem.specs.Problems.{IsProblem}
 use Rattle.xdg_problem.specs.Vectors.{shape}
-use Rattle.xdg_facts.proofs.Decided.{Decided, decided_equal, decided_less, decided_true}
+use Rattle.xdg_facts.proofs.Decided.{Decided, decided_equal, decided_less, decided_true, each_or_some}
 use Rattle.xdg_problem.proofs.DecidingPaths.{decided_above}
 use Rattle.xdg_rules.specs.Rules.{has, may_edges, must_edges}
 use Rattle.xdg_rules.proofs.Among.{Among, above_among}
@@ -18,17 +18,6 @@ use Rattle.xdg_problem.specs.Truths.{bound, says, HasTruth, AreNodes}
 use Rattle.xdg_rules.specs.Worths.{EachValue, Makes, MakesEach, MakesSome}
 use Rattle.xdg_problem.proofs.Bindings.{bound_nodes}
 use Rattle.xdg_rules.proofs.NodeValues.{attr_decided}
-
--- of each number below n one of two things holds: the first of all of them, or the second of one
-each_or_some : (P Q : ℕ → Type 0) (n : ℕ) → ((k : ℕ) → k < n → P k ⊎ Q k) → ((k : ℕ) → k < n → P k) ⊎ ((k : ℕ) × (k < n) × Q k)
-each_or_some P Q zero either = inl (λ k l. absurd (omega (arith, l)))
-each_or_some P Q (suc n) either = elim (each_or_some P Q n (λ k l. either k (omega (arith, l)))) [
-  | inl all ↦ elim (either n (omega arith)) [
-    | inl last ↦ inl (λ k l. elim (cases_eq k n) [ inl e ↦ subst P (sym e) last | inr other ↦ all k (omega (arith, l, other)) ])
-    | inr last ↦ inr (n, (omega arith), last)
-  ]
-  | inr found ↦ inr (found.0, (let l = found.1 in omega (arith, l)), found.2)
-]
 
 -- where one value of a decision remains, it makes true or false what is asked of it
 one_value_settles : (box : List (List Bool)) (d : ℕ) (P : ℕ → Type 0) → IsSingle box → ((v : ℕ) × Has box d v) → ((v : ℕ) → Decided (P v)) → EachValue box d (λ v. HasTruth true (P v)) ⊎ EachValue box d (λ v. HasTruth false (P v))

@@ -10,8 +10,9 @@ use Rattle.xdg_problem.specs.Boxes.{full, Has, IsBox, IsSingle, LiesIn, IsIn, Ag
 use Rattle.xdg_rules.specs.Boxed.{one_value, only, first_numbers}
 use Rattle.xdg_rules.specs.Rules.{first_true}
 use Rattle.xdg_rules.proofs.Failing.{first_only}
-use Rattle.xdg_rules.proofs.Sizes.{row_within, within_sizes}
+use Rattle.xdg_rules.proofs.Sizes.{within_sizes}
 use Rattle.xdg_facts.proofs.Fitting.{fits_length}
+use Rattle.xdg_facts.proofs.Lists.{true_within}
 
 -- the flag at k is that of the number k behind the first
 pub flag_from : (test : ℕ → Bool) (first count k : ℕ) → slice_index_or (map test (numbers_from first count)) k false ≡ true → test (first + k) ≡ true
@@ -79,7 +80,7 @@ full_has (size ∷ sizes) (suc d) v l = full_has sizes d v l
 agreeing_lies : (box : List (List Bool)) (p : List ℕ) → Agrees box p → LiesIn box (only (map length box) p)
 agreeing_lies box [] agrees d v has = full_has (map length box) d v (within_sizes box d v has)
 agreeing_lies [] (x ∷ p) agrees d v has = absurd agrees
-agreeing_lies (row ∷ box) (x ∷ p) agrees zero v has = (one_value_is (length row) x (row_within row x ((agrees.0 x).1 refl)) v).1 ((agrees.0 v).0 has)
+agreeing_lies (row ∷ box) (x ∷ p) agrees zero v has = (one_value_is (length row) x (true_within row x ((agrees.0 x).1 refl)) v).1 ((agrees.0 v).0 has)
 agreeing_lies (row ∷ box) (x ∷ p) agrees (suc d) v has = agreeing_lies box p agrees.1 d v has
 
 pub agrees_lies : (sizes : List ℕ) (box : List (List Bool)) (p : List ℕ) → IsBox sizes box → Agrees box p → LiesIn box (only sizes p)

@@ -1,5 +1,5 @@
 -- The sizes of a box's decisions.
-use Rattle.std.proofs.Common.{◌≡◌, ℕ, ◌+◌, ◌<◌, ◌⊎◌, inl, inr, zero, suc, Bool, true, false, List, [], ◌∷◌, ◌++◌, length, map, refl, ap, ◌∙◌, arith, subst}
+use Rattle.std.proofs.Common.{◌≡◌, ℕ, ◌+◌, ◌<◌, ◌⊎◌, inl, inr, zero, suc, Bool, List, [], ◌∷◌, ◌++◌, length, map, refl, ap, ◌∙◌, arith, subst}
 use Rattle.std.specs.Prelude.{Contains, slice_index, slice_index_or}
 use Rattle.std.proofs.lemmas.Bool.{false≢true}
 use Rattle.std.proofs.lemmas.List.{get_or-append-add, length-map}
@@ -11,16 +11,12 @@ use Rattle.xdg_problem.specs.Problems.{IsProblem}
 use Rattle.xdg_problem.proofs.PlaceFound.{place_found}
 use Rattle.xdg_problem.proofs.VectorFacts.{length_shape}
 use Rattle.xdg_problem.specs.Boxes.{Has, IsBox, place_in, edge_decision, entry_decision}
-
-pub row_within : (row : List Bool) (v : ℕ) → slice_index_or row v false ≡ true → v < length row
-row_within [] v has = absurd (false≢true has)
-row_within (b ∷ row) zero has = omega arith
-row_within (b ∷ row) (suc v) has = (let rest = row_within row v has in omega (arith, rest))
+use Rattle.xdg_facts.proofs.Lists.{true_within}
 
 -- what remains is a value of its decision
 pub within_sizes : (box : List (List Bool)) (d v : ℕ) → Has box d v → v < slice_index_or (map length box) d 0
 within_sizes [] d v has = absurd (false≢true has)
-within_sizes (row ∷ box) zero v has = row_within row v has
+within_sizes (row ∷ box) zero v has = true_within row v has
 within_sizes (row ∷ box) (suc d) v has = within_sizes box d v has
 
 -- each edge place has two values

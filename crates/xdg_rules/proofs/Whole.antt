@@ -1,5 +1,5 @@
 -- A box that agrees with a whole vector: its entries, values and edges are those of the analysis.
-use Rattle.std.proofs.Common.{◌≡◌, ℕ, ◌<◌, Bool, true, false, ◌&&◌, List, length, refl, sym, ap, ◌∙◌, arith, subst}
+use Rattle.std.proofs.Common.{◌≡◌, ℕ, ◌<◌, Bool, ◌&&◌, List, length, refl, sym, ap, ◌∙◌, arith, subst}
 use Rattle.std.specs.Prelude.{filter, Contains, not, slice_index, ◌==◌}
 use Rattle.std.proofs.lemmas.Bool.{false_from_ne_true}
 use Rattle.xdg_facts.specs.Fits.{Fits}
@@ -19,10 +19,11 @@ use Rattle.xdg_problem.proofs.WholeTests.{entry_same}
 use Rattle.xdg_problem.specs.Boxes.{Has, IsBox, Agrees, edge_decision, entry_decision}
 use Rattle.xdg_rules.specs.Rules.{has, may_edges, must_edges, SaysPresent, SaysAbsent, IsPlaceOn, attr_of_node}
 use Rattle.xdg_rules.proofs.Sizes.{edge_within, node_within}
-use Rattle.xdg_rules.proofs.Agreeing.{agrees_fits, says_present, edges_present, at, present_at, swapped}
+use Rattle.xdg_rules.proofs.Agreeing.{agrees_fits, says_present, edges_present, at, present_at}
 use Rattle.xdg_rules.proofs.NodeValues.{attr_only, attr_remains}
 use Rattle.xdg_rules.proofs.Shrinking.{may_of, may_is}
 use Rattle.xdg_problem.specs.Principles.{attr_arguments}
+use Rattle.xdg_facts.proofs.Truths.{and_carried, without_other}
 
 pub whole_fits : (parts : Parts) (box : List (List Bool)) (x : List ℕ) → IsBox (shape parts) box → Agrees box x → Fits (shape parts) x
 whole_fits parts box x is agrees = subst (λ sizes. Fits sizes x) is.sizes (agrees_fits box x agrees)
@@ -30,10 +31,6 @@ whole_fits parts box x is agrees = subst (λ sizes. Fits sizes x) is.sizes (agre
 -- an edge of a list joins its nodes
 pub daughter_by : (edges : List Edge) (e : Edge) → Contains edges e → IsDaughterBy edges e.mother.0 e.label.0 e.daughter.0
 daughter_by edges e stands = any_of (λ f. (f.mother.0 ≡ e.mother.0) × (f.label.0 ≡ e.label.0) × (f.daughter.0 ≡ e.daughter.0)) edges e stands (refl, refl, refl)
-
-turned : (a b c : Bool) → a ≡ b → (b ≡ true → c ≡ false) → a ≡ (b && not c)
-turned a true c same none = (let off : c ≡ false = none refl in rw off same)
-turned a false c same none = same
 
 module _ (parts : Parts) (box : List (List Bool)) (x : List ℕ) (problem : IsProblem parts) (is : IsBox (shape parts) box) (whole : length x ≡ length (shape parts)) (agrees : Agrees box x) where
   abbrev candidates : List ℕ
@@ -58,14 +55,14 @@ module _ (parts : Parts) (box : List (List Bool)) (x : List ℕ) (problem : IsPr
   present_may e c = present_at parts box x agrees (edge_decision parts e) (within_whole (edge_decision parts e) (edge_within parts e c))
 
   pub present_must : (e : Edge) → Contains (places parts) e → says_present x (edge_decision parts e) ≡ (has box (edge_decision parts e) 0 && not (has box (edge_decision parts e) 1))
-  present_must e c = turned (says_present x (edge_decision parts e)) (has box (edge_decision parts e) 0) (has box (edge_decision parts e) 1) (present_may e c)
+  present_must e c = without_other (says_present x (edge_decision parts e)) (has box (edge_decision parts e) 0) (has box (edge_decision parts e) 1) (present_may e c)
       (λ present. false_from_ne_true (has box (edge_decision parts e) 1) (not_both e c present))
 
   -- so the edges that may be, and those that must be, are the edges of the analysis
   on_is : (dim : ℕ) (holds : Edge → Bool) → ((e : Edge) → Contains (places parts) e → says_present x (edge_decision parts e) ≡ holds e) → filter (λ e. (e.dim.0 == dim) && holds e) (places parts) ≡ edges_on dim edges
   on_is dim holds same = sym (ap (edges_on dim) (edges_present parts x)
       ∙ filter_both (λ e. e.dim.0 == dim) (λ e. says_present x (edge_decision parts e)) (places parts)
-      ∙ filter_on (λ e. says_present x (edge_decision parts e) && (e.dim.0 == dim)) (λ e. (e.dim.0 == dim) && holds e) (places parts) (λ e c. swapped (says_present x (edge_decision parts e)) (e.dim.0 == dim) (holds e) (λ on. same e c)))
+      ∙ filter_on (λ e. says_present x (edge_decision parts e) && (e.dim.0 == dim)) (λ e. (e.dim.0 == dim) && holds e) (places parts) (λ e c. and_carried (says_present x (edge_decision parts e)) (e.dim.0 == dim) (holds e) (λ on. same e c)))
 
   pub may_on : (dim : ℕ) → may_edges parts box dim ≡ edges_on dim edges
   may_on dim = on_is dim (λ e. has box (edge_decision parts e) 0) present_may

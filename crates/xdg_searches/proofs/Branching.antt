@@ -28,9 +28,10 @@ use Rattle.xdg_problem.proofs.OneList.{some_solution_list}
 use Rattle.xdg_split.specs.Asked.{Asked, IsJob, asked}
 use Rattle.xdg_split.specs.Splits.{AllWant, AreProblems, Continues, Ends, IsSplit, IsWhole, Reach}
 use Rattle.xdg_split.specs.Splits.Reaches.{all, some}
-use Rattle.xdg_split.proofs.Reaching.{not_both, some_reach}
+use Rattle.xdg_split.proofs.Reaching.{some_reach}
 use Rattle.xdg_split.proofs.Together.{have_one_split, split_stopped}
 use Rattle.xdg_split.proofs.Turning.{split_empty}
+use Rattle.xdg_facts.proofs.Truths.{not_both}
 
 -- ---- fronts of lists
 

@@ -2,9 +2,7 @@
 use Rattle.std.proofs.Common.{◌≡◌, ◌∙◌, ℕ, List, [], ◌++◌, ap, ap₂, append_assoc}
 use Rattle.std.specs.Prelude.{codes, decimal}
 use Rattle.xdg_searches.specs.Generated.{adjective_lines, adjectives, class_lines, dimension_lines, grammar_text, lines, noun, noun_lines, nouns, numbered, sentence_text, verb_line}
-
-five : (a b c d e : List ℕ) → (((a ++ b) ++ c) ++ d) ++ e ≡ a ++ (b ++ (c ++ (d ++ e)))
-five a b c d e = append_assoc ((a ++ b) ++ c) d e ∙ append_assoc (a ++ b) c (d ++ e) ∙ append_assoc a b (c ++ (d ++ e))
+use Rattle.xdg_facts.proofs.Fronts.{five}
 
 pub grammar_made : (n count : ℕ) (start first a b c d : List ℕ) → count ≡ nouns n → start ≡ [] → first ≡ lines dimension_lines ++ lines class_lines → a ≡ start ++ first → b ≡ a ++ adjective_lines → c ≡ b ++ noun_lines count → d ≡ c ++ verb_line → d ≡ grammar_text n
 unfolding grammar_text

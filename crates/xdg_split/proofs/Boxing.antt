@@ -3,7 +3,6 @@ use Rattle.std.proofs.Common.{ℕ, List, map}
 use Rattle.xdg_facts.specs.Fits.{Fits}
 use Rattle.xdg_facts.specs.Listing.{IsListing}
 use Rattle.xdg_facts.specs.Whole.{Whole}
-use Rattle.xdg_facts.proofs.Exists.{each_weaker}
 use Rattle.xdg_problem.specs.declared.analysis.Analysis.{Analysis}
 use Rattle.xdg_problem.specs.declared.parts.Parts.{Parts}
 use Rattle.xdg_problem.specs.Live.{Live}
@@ -13,6 +12,7 @@ use Rattle.xdg_problem.specs.Vectors.{shape, vector}
 use Rattle.xdg_problem.proofs.SolutionLists.{solution_of, solution_listing}
 use Rattle.xdg_rules.specs.Boxed.{Boxed}
 use Rattle.xdg_rules.proofs.RuleLaws.{boxed_laws}
+use Rattle.xdg_facts.proofs.Each.{each_weaker}
 
 -- a whole vector is boxed exactly where it is live
 pub boxed_listing : (parts : Parts) → IsProblem parts → (after : List ℕ) (list : List Analysis) → IsSolutionList parts after list → IsListing (shape parts) (Whole (shape parts) (Boxed parts)) after (map (vector parts) list)

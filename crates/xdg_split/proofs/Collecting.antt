@@ -3,7 +3,7 @@ use Rattle.std.proofs.Common.{◌≡◌, ℕ, ◌+◌, List, [], ◌∷◌, ◌+
 use Rattle.std.specs.Prelude.{Option}
 use Rattle.std.proofs.lemmas.List.{length-map}
 use Rattle.xdg_split.specs.Written.{IsSome}
-use Rattle.xdg_split.proofs.FoundSoFar.{all_answers, below_more, first_answers, map_more, spent_answers}
+use Rattle.xdg_split.proofs.FoundSoFar.{all_answers, first_answers, map_more, spent_answers}
 use Rattle.xdg_facts.specs.Endings.{IsAt, IsBelow}
 use Rattle.xdg_facts.specs.declared.Ending.{Ending}
 use Rattle.xdg_facts.specs.declared.Ending.TheVariants as endings
@@ -18,6 +18,7 @@ use Rattle.xdg_split.specs.Splits.{IsSplit}
 use Rattle.xdg_split.proofs.Together.{split_single}
 use Rattle.xdg_stream.specs.Streamed.{Advances, IsCharged, Streamed}
 use Rattle.xdg_stream.proofs.Streaming.{end_found, spent_found}
+use Rattle.xdg_facts.proofs.Wanted.{below_more}
 
 -- The analyses of the vectors that a stream has found are kept, and the stream goes on.
 pub record Collected (wanted : Option ℕ) (parts : Parts) (budget : ℕ) (s : Streamed) (found : List Analysis) : Type 0 where

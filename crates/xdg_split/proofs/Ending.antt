@@ -1,7 +1,6 @@
 -- What a search leaves in the sink when it ends, and when the sink fails.
-use Rattle.std.proofs.Common.{◌≡◌, ℕ, ◌≤◌, ◌+◌, List, [], ◌∷◌, ◌++◌, length, map, take, drop, refl, ap, sym, ◌∙◌, arith, append_assoc, inl, inr, subst, Some, None}
-use Rattle.std.specs.Prelude.{Option, Result, Ok, Err, OnOk, OnErr, true, false}
-use Rattle.std.specs.Result.{is_err}
+use Rattle.std.proofs.Common.{◌≡◌, ℕ, ◌≤◌, ◌+◌, List, [], ◌∷◌, ◌++◌, length, map, take, drop, refl, ap, sym, ◌∙◌, arith, append_assoc, inl, inr, subst, Some}
+use Rattle.std.specs.Prelude.{Option}
 use Rattle.std.proofs.lemmas.List.{take-map, take-take, take-append-drop, length-take}
 use Rattle.xdg_io.specs.Held.{Appends, AppendsFront}
 use Rattle.xdg_io.proofs.Written.{appends_both, front_in_first, front_in_second}
@@ -17,7 +16,7 @@ use Rattle.xdg_problem.specs.Problems.{IsProblem}
 use Rattle.xdg_problem.proofs.SolutionLists.{analyses_back}
 use Rattle.xdg_rules.specs.Boxed.{Boxed}
 use Rattle.xdg_text.specs.declared.form.Form.{Form}
-use Rattle.xdg_facts.specs.Endings.{IsUpTo, IsAt, IsEnding}
+use Rattle.xdg_facts.specs.Endings.{IsUpTo, IsEnding}
 use Rattle.xdg_text.specs.Blocks.{shown}
 use Rattle.xdg_split.specs.Printed.{blocks, last_line, Prints}
 use Rattle.xdg_split.specs.Written.{EndsLine, Writes}
@@ -29,6 +28,7 @@ use Rattle.xdg_split.proofs.Boxing.{boxed_listing}
 use Rattle.xdg_split.proofs.FoundSoFar.{Found, blocks_found, blocks_front, complete_answered, spent_answered}
 use Rattle.xdg_split.proofs.OnePrint.{one_print}
 use Rattle.xdg_split.proofs.Reported.{prints_of}
+use Rattle.xdg_facts.proofs.Wanted.{at_least}
 
 -- the blocks of a search that ended, and what became of its last line
 pub ended_written : (result : Printed) (ending : Ending) (form : Form) (budget : ℕ) (wanted : Option ℕ) (parts : Parts) (start : List ℕ) (found : List (List ℕ)) (count : ℕ) (old mid new : Option (List ℕ)) → IsProblem parts
@@ -53,11 +53,6 @@ module _ {form : Form} {wanted : Option ℕ} {parts : Parts} {start : List ℕ} 
   pub spent_written : (result : Printed) (new : Option (List ℕ)) → Advances s steps.Spent t → EndsLine result endings.Spent mid new (spent_line count) → Writes result form budget wanted parts start old new
   spent_written result new step ends =
       ended_written result endings.Spent form budget wanted parts start f.found count old mid new is (spent_answered f step) f.written f.count_is ends
-
--- a number that is wanted is at least each number up to it
-at_least : (wanted : Option ℕ) (m k : ℕ) → IsAt m wanted → IsUpTo k wanted → k ≤ m
-at_least None m k a u = absurd a
-at_least (Some n) m k a u = omega (arith, a, u)
 
 -- no fewer solutions are printed than the budget reaches, or are wanted, or all
 most_printed : (ending : Ending) (budget : ℕ) (wanted : Option ℕ) (parts : Parts) (counted : List (List ℕ)) (solutions : List Analysis) (m k : ℕ) → IsEnding ending (shape parts) budget wanted counted (map (vector parts) solutions) m → IsUpTo k wanted → k ≤ reach (shape parts) budget counted → k ≤ length (map (vector parts) solutions) → k ≤ m
@@ -84,12 +79,3 @@ block_failed form budget wanted parts start found grown count old mid new is ans
     sym (append_assoc (blocks form parts 1 (map (analysis_of parts) found) ++ shown form parts count (analysis_of parts grown)) (blocks form parts (1 + length (map (analysis_of parts) all)) (drop k list)) (last_line other p.printed))
     ∙ ap (λ z. z ++ last_line other p.printed) (sym blocks_are) ∙ sym p.text_is in
     front_in_first tail (front_in_second before refl failed) text_is
-
--- what a call that failed says, and what one that did not says
-pub failed_of : {T E : Type 0} (r : Result T E) (P : Type 0) → is_err r ≡ true → OnErr r P → P
-failed_of (Ok x) P e h = absurd (cc)
-failed_of (Err x) P e h = h
-
-pub done_of : {T E : Type 0} (r : Result T E) (P : Type 0) → is_err r ≡ false → OnOk r P → P
-done_of (Ok x) P e h = h
-done_of (Err x) P e h = absurd (cc)

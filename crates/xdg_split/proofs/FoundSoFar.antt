@@ -1,17 +1,14 @@
 -- What a stream has found, and what is printed of it so far.
-use Rattle.std.proofs.Common.{◌≡◌, inl, inr, ℕ, ◌≤◌, ◌+◌, List, [], ◌∷◌, ◌++◌, length, map, refl, ap, sym, ◌∙◌, subst, arith, append_assoc, append-nil, length-append, Some, None, true, false, ◌==◌, eqb, eq-eqb}
+use Rattle.std.proofs.Common.{◌≡◌, ℕ, ◌≤◌, ◌+◌, List, [], ◌∷◌, ◌++◌, length, map, refl, ap, sym, ◌∙◌, subst, arith, append_assoc, append-nil, length-append, Some, None}
 use Rattle.std.specs.Prelude.{Option}
-use Rattle.std.specs.Option.{option_eq}
-use Rattle.std.proofs.lemmas.Bool.{eqb-true}
 use Rattle.std.proofs.lemmas.List.{length-map, map-append}
 use Rattle.xdg_base.specs.declared.ids.EntryNo.{EntryNo}
 use Rattle.xdg_io.specs.Held.{Appends}
 use Rattle.xdg_io.proofs.Written.{appends_both}
 use Rattle.xdg_facts.specs.Answered.{Answered, Drawn}
-use Rattle.xdg_facts.specs.Endings.{IsBelow, IsUpTo, IsAt}
+use Rattle.xdg_facts.specs.Endings.{IsBelow, IsAt}
 use Rattle.xdg_facts.specs.declared.Ending.{Ending}
 use Rattle.xdg_facts.specs.declared.Ending.TheVariants as endings
-use Rattle.xdg_facts.proofs.Ordered.{three_cases}
 use Rattle.xdg_problem.specs.declared.analysis.Analysis.{Analysis}
 use Rattle.xdg_problem.specs.declared.analysis.Edge.{Edge}
 use Rattle.xdg_problem.specs.declared.parts.Parts.{Parts}
@@ -24,6 +21,8 @@ use Rattle.xdg_stream.proofs.Streaming.{end_found, spent_found}
 use Rattle.xdg_text.specs.declared.form.Form.{Form}
 use Rattle.xdg_text.specs.Blocks.{shown}
 use Rattle.xdg_split.specs.Printed.{blocks}
+use Rattle.xdg_facts.proofs.Lists.{counted_more}
+use Rattle.xdg_facts.proofs.Wanted.{below_more}
 
 -- The blocks of the vectors that were found are printed, and the stream, which began right behind a start, goes on.
 pub record Found (form : Form) (wanted : Option ℕ) (parts : Parts) (start : List ℕ) (budget : ℕ) (s : Streamed) (count : ℕ) (old new : Option (List ℕ)) : Type 0 where
@@ -61,28 +60,6 @@ blocks_found form parts found x count e =
     ∙ blocks_more form parts 1 (map (analysis_of parts) found) (analysis_of parts x)
     ∙ ap (λ k. blocks form parts 1 (map (analysis_of parts) found) ++ shown form parts k (analysis_of parts x)) n
 
--- a number that is wanted, as it is tested
-pub is_wanted : (wanted : Option ℕ) (k : ℕ) → option_eq eqb wanted (Some k) ≡ true → wanted ≡ Some k
-is_wanted None k e = absurd cc
-is_wanted (Some n) k e = ap Some (eqb-true n k e)
-
-pub not_wanted : (wanted : Option ℕ) (k : ℕ) → option_eq eqb wanted (Some k) ≡ false → wanted ≡ Some k → ⊥
-not_wanted wanted k e is = let t : option_eq eqb (Some k) (Some k) ≡ false = subst (λ z. option_eq eqb z (Some k) ≡ false) is e in let u : (k == k) ≡ true = eq-eqb k k refl in absurd (let v : true ≡ false = sym u ∙ t in cc)
-
--- one more than a number below it is at most the wanted one
-pub up_to : (wanted : Option ℕ) (k m : ℕ) → IsBelow k wanted → m ≡ k + 1 → IsUpTo m wanted
-up_to None k m b e = tt
-up_to (Some n) k m b e = omega (arith, b, e)
-
--- below a wanted number, and not at it after one more
-pub below_more : (wanted : Option ℕ) (k m : ℕ) → IsBelow k wanted → m ≡ k + 1 → (wanted ≡ Some m → ⊥) → IsBelow m wanted
-below_more None k m b e other = tt
-below_more (Some n) k m b e other = elim (three_cases m n) [
-  | inl l ↦ l
-  | inr (inl s) ↦ absurd (other (ap Some (sym s)))
-  | inr (inr g) ↦ absurd (omega (arith, b, e, g))
-]
-
 -- three lists that are those of an analysis are the analysis
 pub analysis_is : (parts held : Parts) (x : List ℕ) (entries : List EntryNo) (attrs : List ℕ) (edges : List Edge) → held ≡ parts → entries ≡ (analysis_of held x).entries → attrs ≡ (analysis_of held x).attrs → edges ≡ (analysis_of held x).edges → record { entries = entries; attrs = attrs; edges = edges } ≡ analysis_of parts x
 analysis_is parts held x entries attrs edges e p q r =
@@ -113,9 +90,6 @@ module _ (wanted : Option ℕ) (parts : Parts) (start : List ℕ) (budget : ℕ)
   spent_answers e below =
       let rest = left steps.Spent e in
       moved endings.Spent (s.front, subst (λ n. Drawn (shape s.parts) (Boxed s.parts) s.start s.front n found) rest.0 so_far.drawn, rest.1, below)
-
-pub counted_more : (found : List (List ℕ)) (x : List ℕ) (count : ℕ) → count ≡ length found → count + 1 ≡ length (found ++ x ∷ [])
-counted_more found x count e = let l = length-append found (x ∷ []) in omega (arith, l, e)
 
 -- one more call
 module _ {form : Form} {wanted : Option ℕ} {parts : Parts} {start : List ℕ} {budget : ℕ} {s t : Streamed} {count : ℕ} {old mid : Option (List ℕ)} (f : Found form wanted parts start budget s count old mid) where

@@ -15,9 +15,7 @@ use Rattle.xdg_split.specs.Asked.{Asked}
 use Rattle.std.specs.Prelude.{All}
 use Rattle.xdg_split.specs.Splits.{AreLists, AreProblems, IsWhole, Reach}
 use Rattle.xdg_split.specs.Splits.Reaches.{all, some}
-
-pub not_both : {P : Type 0} → true ≡ false → P
-not_both e = absurd cc
+use Rattle.xdg_facts.proofs.Truths.{not_both}
 
 -- whole jobs and others behind them
 pub reach_both : (jobs more : List Asked) (whole : Bool) (f g : List Analysis) → Reach jobs true f → Reach more whole g → Reach (jobs ++ more) whole (f ++ g)

@@ -19,7 +19,8 @@ use Rattle.xdg_split.specs.Asked.{Asked}
 use Rattle.xdg_split.specs.Finds.{AreFound, IsCut, Joins}
 use Rattle.xdg_split.specs.Splits.{AreFirst, AreLists, AreProblems, Ends, HaveOneSplit, IsSplit, Reach}
 use Rattle.xdg_split.specs.Splits.Reaches.{all, some}
-use Rattle.xdg_split.proofs.Reaching.{all_reach, not_both, one_reach, reach_both, reach_stopped, some_lists, some_reach}
+use Rattle.xdg_split.proofs.Reaching.{all_reach, one_reach, reach_both, reach_stopped, some_lists, some_reach}
+use Rattle.xdg_facts.proofs.Truths.{not_both}
 
 -- ---- lists
 

@@ -15,7 +15,7 @@ use Rattle.xdg_store.specs.Layout.{attr_row, bit_count, edge_bit, entry_row}
 use Rattle.xdg_store.specs.declared.decision.Decision.{Decision}
 use Rattle.xdg_store.specs.declared.decision.Decision.TheVariants as decisions
 use Rattle.xdg_store.proofs.Deciding.{HasBits, bit_of, named_bits, pair_bit, size_of}
-use Rattle.xdg_store.proofs.Renewed.{row_and_column}
+use Rattle.xdg_facts.proofs.Numbers.{row_and_column}
 
 -- ---- where the bit of a value stands
 

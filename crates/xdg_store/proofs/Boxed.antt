@@ -19,13 +19,7 @@ use Rattle.xdg_store.specs.States.{values_in, remaining}
 use Rattle.xdg_store.proofs.Counting.{Filled}
 use Rattle.xdg_problem.proofs.BoxWithout.{without_has}
 use Rattle.xdg_facts.proofs.Each.{each_append, each_map, each_of_all, each_weaker}
-
--- ---- what has a value
-
-pub has_place : (row : List Bool) (v : ℕ) → get_or row v false ≡ true → v < length row
-has_place [] v h = cc
-has_place (x ∷ row) zero h = omega arith
-has_place (x ∷ row) (suc v) h = let e = has_place row v h in omega (arith, e)
+use Rattle.xdg_facts.proofs.Lists.{first_of_full}
 
 -- ---- a value is taken that isn't the last of its decision
 
@@ -74,10 +68,6 @@ remaining_full (size ∷ sizes) =
 full_sizes : (sizes : List ℕ) → map length (full sizes) ≡ sizes
 full_sizes [] = refl
 full_sizes (size ∷ sizes) = ap₂ (λ x xs. x ∷ xs) (length-replicate size true) (full_sizes sizes)
-
-first_of_full : (size : ℕ) → 1 ≤ size → get_or (replicate size true) 0 false ≡ true
-first_of_full zero l = absurd (omega (arith, l))
-first_of_full (suc size) l = refl
 
 full_filled : (sizes : List ℕ) → AllByRecursion IsSize sizes → (d : ℕ) → d < length sizes → (v : ℕ) × Has (full sizes) d v
 full_filled [] a d l = absurd (omega (arith, l))

@@ -32,7 +32,6 @@ use Rattle.xdg_store.specs.declared.decision.Decision.{Decision}
 use Rattle.xdg_store.specs.declared.decision.Decision.TheVariants as decisions
 use Rattle.xdg_store.proofs.Renewed.{daughter_is, kept_beside}
 use Rattle.xdg_store.proofs.Apart.{bit_in_range, few_labels}
-use Rattle.xdg_store.proofs.Boxed.{has_place}
 use Rattle.xdg_store.proofs.Noting.{IsOneStep, Leaves, LeavesOne, one_step, same_or_named}
 use Rattle.xdg_store.proofs.Histories.{cut_last, history_cut, history_length, known_of, seen}
 use Rattle.xdg_store.proofs.Daughters.{out_is_place}
@@ -40,6 +39,7 @@ use Rattle.xdg_store.proofs.Deciding.{has_bits}
 use Rattle.xdg_store.proofs.Pairs.{IsPair, edge_is_pair, may_has, may_read, must_has, must_read}
 use Rattle.xdg_store.proofs.Starting.{ones_set}
 use Rattle.xdg_facts.specs.Rises.{has}
+use Rattle.xdg_facts.proofs.Lists.{true_within}
 
 -- ---- decisions that are apart
 
@@ -131,7 +131,7 @@ module _ (parts : Parts) (p : IsProblem parts) where
       bits_now = ap (λ s. get_or s.now (edge_decision parts f) []) removes.2 ∙ get_or-set_same (box_in (bits_of parts) t.words) (edge_decision parts f) (set (get_or (box_in (bits_of parts) t.words) (edge_decision parts f) []) v false) [] (has_decision (box_in (bits_of parts) t.words) (edge_decision parts f) v removes.0)
 
       taken : get_or (get_or (box_in (bits_of parts) u.words) (edge_decision parts f) []) v false ≡ false
-      taken = ap (λ row. get_or row v false) bits_now ∙ get_or-set_same (get_or (box_in (bits_of parts) t.words) (edge_decision parts f) []) v false false (has_place _ v removes.0)
+      taken = ap (λ row. get_or row v false) bits_now ∙ get_or-set_same (get_or (box_in (bits_of parts) t.words) (edge_decision parts f) []) v false false (true_within _ v removes.0)
 
       left : (w : ℕ) → w ≢ v → get_or (get_or (box_in (bits_of parts) t.words) (edge_decision parts f) []) w false ≡ get_or (get_or (box_in (bits_of parts) u.words) (edge_decision parts f) []) w false
       left w other = sym (ap (λ row. get_or row w false) bits_now ∙ get_or-set_other (get_or (box_in (bits_of parts) t.words) (edge_decision parts f) []) v w false false other)

@@ -1,14 +1,11 @@
 -- The bits of labels.
-use Rattle.std.proofs.Common.{◌≡◌, ◌≢◌, ℕ, ◌<◌, ◌≤◌, ◌-◌, ◌*◌, ◌%◌, ◌^◌, ◌↔◌, ◌⊎◌, inl, inr, Bool, true, false, IsTrue, List, [], ◌∷◌, length, get_or, set, refl, ap, sym, ◌∙◌, arith, subst}
+use Rattle.std.proofs.Common.{◌≡◌, ◌≢◌, ℕ, ◌<◌, ◌-◌, ◌↔◌, ◌⊎◌, inl, inr, Bool, IsTrue, List, [], ◌∷◌, length, get_or, set, refl, ap, sym, ◌∙◌, arith, subst}
 use Rattle.std.specs.Prelude.{◌==◌, nat_lt}
-use Rattle.std.specs.Int.{bit_at, bit_not, w32}
-use lib.Bits.{bit_and, bit_or}
-use Rattle.std.proofs.lemmas.Bool.{cases_eq, cases_lt, eq-eqb, eqb-true, false≢true, lt-ltb, ltb-true}
+use Rattle.std.specs.Int.{bit_at}
+use Rattle.std.proofs.lemmas.Bool.{cases_eq, eq-eqb, lt-ltb, ltb-true}
 use Rattle.std.proofs.lemmas.List.{get_or_default, get_or-set_other, get_or-set_same, length-set}
-use Rattle.std.proofs.lemmas.Nat.{one_shl}
-use Rattle.std.proofs.lemmas.Nat.Bits.{bit_at_above, bit_at_and, bit_at_clear_other, bit_at_clear_same, bit_at_ones, bit_at_ones_above, bit_at_set_same}
 use Rattle.xdg_facts.proofs.Rising.{contains_of_has}
-use Rattle.xdg_facts.proofs.Truths.{either_true, or_false, or_here}
+use Rattle.xdg_facts.proofs.Truths.{either_true, or_here}
 use Rattle.xdg_facts.specs.Rises.{has, Rises}
 use Rattle.xdg_nodeset.specs.Nodes.{IsNodes}
 use Rattle.xdg_problem.specs.declared.analysis.Edge.{Edge}
@@ -17,59 +14,13 @@ use Rattle.xdg_store.specs.Labels.{IsLabelled, IsMore, IsSome, Marks, Relabels, 
 use Rattle.xdg_store.specs.declared.across.Mothers.{Mothers}
 use Rattle.xdg_store.specs.declared.labels.Labels.{Labels}
 use Rattle.xdg_store.specs.declared.labels.LabelsInto.{LabelsInto}
-
--- ---- a bit
-
-pub set_here : (word bit : ℕ) (wanted : Bool) → bit < 32 → wanted ≡ true → (bit_at (bit_or word (1 * 2 ^ bit % 2 ^ 32)) bit ≡ 1) ↔ IsTrue wanted
-set_here word bit wanted l is = (λ h. is, λ h. bit_at_set_same w32 word bit l)
-
-pub clear_here : (word bit : ℕ) (wanted : Bool) → bit < 32 → wanted ≡ false → (bit_at (bit_and word (bit_not w32 (1 * 2 ^ bit % 2 ^ 32))) bit ≡ 1) ↔ IsTrue wanted
-clear_here word bit wanted l is = (
-  λ h. absurd (let z = bit_at_clear_same w32 word bit l in omega (arith, z, h)),
-  λ h. absurd (false≢true (sym is ∙ h)),
-)
-
-pub clear_others : (word bit : ℕ) → word < 2 ^ 32 → bit < 32 → (i : ℕ) → i ≢ bit → bit_at (bit_and word (bit_not w32 (1 * 2 ^ bit % 2 ^ 32))) i ≡ bit_at word i
-clear_others word bit small l i other = elim (cases_lt i 32) [
-  | inl k ↦ bit_at_clear_other w32 word bit l i k other
-  | inr k ↦
-      let none = bit_at_above word 32 i small k in
-      let both = bit_at_and word (bit_not w32 (1 * 2 ^ bit % 2 ^ 32)) i in
-      omega (arith, none, both)
-]
-
--- ---- the first labels
-
-low_bits : (count : ℕ) → (label : ℕ) → (bit_at (2 ^ count - 1) label ≡ 1) ↔ (label < count)
-low_bits count label = (
-  λ h. elim (cases_lt label count) [
-    | inl l ↦ l
-    | inr l ↦ absurd (let z = bit_at_ones_above count label l in omega (arith, z, h))
-  ],
-  λ l. bit_at_ones count label l,
-)
-
-pub first_bits : (count : ℕ) (wanted : Bool) → count < 32 → wanted ≡ true → (label : ℕ) → (bit_at (1 * 2 ^ count % 2 ^ 32 - 1) label ≡ 1) ↔ ((label < count) × IsTrue wanted)
-first_bits count wanted l is label =
-    let e : bit_at (1 * 2 ^ count % 2 ^ 32 - 1) label ≡ bit_at (2 ^ count - 1) label = ap (λ w. bit_at (w - 1) label) (one_shl count 32 l) in
-    let low = low_bits count label in
-    (λ h. (low.0 (sym e ∙ h), is), λ h. e ∙ low.1 h.0)
-
-pub all_bits : (count : ℕ) (wanted : Bool) → count ≤ 32 → 32 ≤ count → wanted ≡ true → (label : ℕ) → (bit_at 4294967295 label ≡ 1) ↔ ((label < count) × IsTrue wanted)
-all_bits count wanted most least is label =
-    let low = low_bits 32 label in (
-      λ h. (let l = low.0 h in (omega (arith, l, least), is)),
-      λ h. (let l = h.0 in low.1 (omega (arith, l, most))),
-    )
+use Rattle.xdg_facts.proofs.Sets.{next_above, two_nodes}
 
 -- ---- how many nodes a set has
 
 pub some_in : (nodes : List ℕ) → 0 < length nodes → IsSome (λ m. IsTrue (has nodes m))
 some_in [] l = absurd (omega (arith, l))
 some_in (a ∷ nodes) l = (a, or_here (a == a) (has nodes a) (eq-eqb a a refl))
-
-next_above : (low bound a b : ℕ) (nodes : List ℕ) → Rises low bound (a ∷ b ∷ nodes) → a < b
-next_above low bound a b nodes rises = (let up = rises.2.0 in omega (arith, up))
 
 pub two_in : (nodes : List ℕ) → Rises 0 128 nodes → 1 < length nodes → IsMore (λ m. IsTrue (has nodes m))
 two_in [] rises l = absurd (omega (arith, l))
@@ -81,11 +32,6 @@ two_in (a ∷ b ∷ nodes) rises l = (
   or_here (a == a) (has (b ∷ nodes) a) (eq-eqb a a refl),
   either_true (a == b) (has (b ∷ nodes) b) (or_here (b == b) (has nodes b) (eq-eqb b b refl)),
 )
-
-two_nodes : (nodes : List ℕ) (m k : ℕ) → m ≢ k → has nodes m ≡ true → has nodes k ≡ true → 1 < length nodes
-two_nodes [] m k differ h i = absurd (false≢true h)
-two_nodes (a ∷ []) m k differ h i = absurd (differ (sym (eqb-true a m (sym (or_false (a == m)) ∙ h)) ∙ eqb-true a k (sym (or_false (a == k)) ∙ i)))
-two_nodes (a ∷ b ∷ nodes) m k differ h i = omega arith
 
 pub marks_of : (nodes : List ℕ) (label count : ℕ) (old : Labels) (some more : ℕ) → IsNodes nodes → count ≡ length nodes → (bit_at some label ≡ 1) ↔ IsTrue (nat_lt 0 count) → ((l : ℕ) → l ≢ label → bit_at some l ≡ bit_at old.some l) → (bit_at more label ≡ 1) ↔ IsTrue (nat_lt 1 count) → ((l : ℕ) → l ≢ label → bit_at more l ≡ bit_at old.more l) → Marks (λ m. IsTrue (has nodes m)) label old (record { some = some; more = more })
 marks_of nodes label count old some more is size some_is some_rest more_is more_rest = record {

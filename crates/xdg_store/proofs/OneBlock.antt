@@ -12,7 +12,8 @@ use Rattle.xdg_trail.specs.Trailed.{Trailed, past}
 use Rattle.xdg_store.specs.Change.{IsTaken}
 use Rattle.xdg_store.specs.Layout.{is_set}
 use Rattle.xdg_store.specs.Rows.{ClearsAll, HasLeft, HasLeftInWord, HasOther}
-use Rattle.xdg_store.proofs.OneWord.{flag, one_if, one_of, row_bit, some_bit, three}
+use Rattle.xdg_store.proofs.OneWord.{flag, one_if, row_bit}
+use Rattle.xdg_facts.proofs.Words.{one_of, bit_within, three}
 
 -- ---- what is taken
 
@@ -120,7 +121,7 @@ module _ (words : List ℕ) (start size block taken word low : ℕ) (m : start %
   some_gone n =
       let a = and_le_l (bit_and word low) taken in
       let b = and_le_l word low in
-      let s = some_bit gone (omega (arith, n)) (omega (arith, a, b, w)) in
+      let s = bit_within gone (omega (arith, n)) (omega (arith, a, b, w)) in
       let i = s.0 in
       let p = parts_of i s.1 s.2 in
       (block * 64 + i, p.1, is_taken i s.1 p.2, row_bit words start block i m s.1 ∙ ap (λ z. nat_eq (bit_at z i) 1) (sym e) ∙ eq-eqb (bit_at word i) 1 p.0)

@@ -1,41 +1,17 @@
 -- The bits of one word of a row.
-use Rattle.std.proofs.Common.{◌≡◌, ◌≢◌, ℕ, ◌<◌, ◌≤◌, ◌+◌, ◌-◌, ◌*◌, ◌/◌, ◌%◌, ◌^◌, ◌↔◌, inl, inr, Bool, true, false, cond, not, List, get_or, ap, ap₂, sym, ◌∙◌, arith, subst}
+use Rattle.std.proofs.Common.{◌≡◌, ℕ, ◌<◌, ◌+◌, ◌-◌, ◌*◌, ◌/◌, ◌%◌, ◌^◌, ◌↔◌, Bool, true, false, cond, not, List, get_or, ap, ap₂, sym, ◌∙◌, arith, subst}
 use Rattle.std.specs.Prelude.{◌==◌, nat_eq, nat_lt}
-use Rattle.std.specs.Int.{bit_at, bit_not, trailing_zeros, w64}
+use Rattle.std.specs.Int.{bit_at, bit_not, w64}
 use Prim.Native.Nat.{min}
 use lib.Bits.{bit_and}
-use Rattle.std.proofs.lemmas.Bool.{cases_eq, cases_lt, eq-eqb, eqb-false, eqb-true, le-ltb, lt-ltb, ltb-true, ne_eqb, not-true, not_from_false}
-use Rattle.std.proofs.lemmas.Nat.{and_le_l, one_shl}
-use Rattle.std.proofs.lemmas.Nat.Bits.{bit_at-lt, bit_at-pow_other, bit_at-pow_same, bit_at-trailing_zeros, bit_at-zero, bit_at_and, bit_at_not, bit_at_ones, bit_at_ones_above}
+use Rattle.std.proofs.lemmas.Bool.{eq-eqb, eqb-false, eqb-true, lt-ltb, ltb-true, ne_eqb, not-true, not_from_false}
+use Rattle.std.proofs.lemmas.Nat.{and_le_l}
+use Rattle.std.proofs.lemmas.Nat.Bits.{bit_at-lt, bit_at-zero, bit_at_and, bit_at_not}
 use Rattle.xdg_store.specs.Layout.{is_set}
 use Rattle.xdg_store.specs.Rows.{HasLeftInWord, HasOther, HasOtherInWord}
-
--- ---- masks
-
-pub low_mask : (count : ℕ) → count < 64 → (i : ℕ) → i < 64 → bit_at (1 * 2 ^ count % 2 ^ 64 - 1) i ≡ cond (nat_lt i count) 1 0
-low_mask count l i m = ap (λ w. bit_at (w - 1) i) (one_shl count 64 l) ∙ elim (cases_lt i count) [
-  | inl k ↦ bit_at_ones count i k ∙ sym (ap (λ b. cond b 1 0) (lt-ltb i count k))
-  | inr k ↦ bit_at_ones_above count i k ∙ sym (ap (λ b. cond b 1 0) (le-ltb i count k))
-]
-
-pub full_mask : (count : ℕ) → 64 ≤ count → (i : ℕ) → i < 64 → bit_at 18446744073709551615 i ≡ cond (nat_lt i count) 1 0
-full_mask count l i m = bit_at_ones 64 i m ∙ sym (ap (λ b. cond b 1 0) (lt-ltb i count (omega (arith, l, m))))
-
-pub bit_mask : (value first : ℕ) → first ≤ value → value - first < 64 → (i : ℕ) → i < 64 → bit_at (1 * 2 ^ (value - first) % 2 ^ 64) i ≡ cond (first + i == value) 1 0
-bit_mask value first l m i k = ap (λ w. bit_at w i) (one_shl (value - first) 64 m) ∙ elim (cases_eq (first + i) value) [
-  | inl e ↦
-      let s : i ≡ value - first = omega (arith, e, l) in
-      ap (bit_at (2 ^ (value - first))) s ∙ bit_at-pow_same (value - first) ∙ sym (ap (λ b. cond b 1 0) (eq-eqb (first + i) value e))
-  | inr n ↦ bit_at-pow_other (value - first) i (λ s. n (omega (arith, s, l))) ∙ sym (ap (λ b. cond b 1 0) (ne_eqb (first + i) value n))
-]
+use Rattle.xdg_facts.proofs.Words.{bit_within, one_of, three}
 
 -- ---- a word with a bit
-
-pub some_bit : (n : ℕ) → 0 < n → n < 2 ^ 64 → (i : ℕ) × (i < 64) × (bit_at n i ≡ 1)
-some_bit n l m = let t = bit_at-trailing_zeros w64 n l m in (trailing_zeros w64 n, t.0, t.1)
-
-pub three : (a b c : ℕ) → min (min a b) c ≡ 1 → a < 2 → b < 2 → c < 2 → (a ≡ 1) × (b ≡ 1) × (c ≡ 1)
-three a b c e l m k = (omega (arith, e, l, m, k), omega (arith, e, l, m, k), omega (arith, e, l, m, k))
 
 abbrev pub flag : Bool → ℕ
 flag b = cond b 1 0
@@ -43,9 +19,6 @@ flag b = cond b 1 0
 pub one_if : (b : Bool) → flag b ≡ 1 → b ≡ true
 one_if true e = cc
 one_if false e = cc
-
-pub one_of : (b : ℕ) → b < 2 → b ≢ 1 → b ≡ 0
-one_of b l n = omega (arith, l, n)
 
 module _ (word low taken first size : ℕ) (w : word < 2 ^ 64) (t : taken < 2 ^ 64) (l : (i : ℕ) → i < 64 → bit_at low i ≡ cond (nat_lt i (size - first)) 1 0) where
   abbrev left : ℕ
@@ -58,7 +31,7 @@ module _ (word low taken first size : ℕ) (w : word < 2 ^ 64) (t : taken < 2 ^ 
   found some =
       let a = and_le_l (bit_and word low) (bit_not w64 taken) in
       let b = and_le_l word low in
-      let s = some_bit left some (omega (arith, a, b, w)) in
+      let s = bit_within left some (omega (arith, a, b, w)) in
       let i = s.0 in
       let lowest = bit_at-lt low i in
       let z = bit_at-lt taken i in

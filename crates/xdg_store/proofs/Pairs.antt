@@ -19,6 +19,7 @@ use Rattle.xdg_store.proofs.Histories.{seen}
 use Rattle.xdg_store.proofs.Noting.{LeavesOne}
 use Rattle.xdg_store.proofs.OneBit.{one_taken}
 use Rattle.xdg_store.proofs.Removals.{has_bit, has_room}
+use Rattle.xdg_facts.proofs.Truths.{not_true, true_not}
 
 -- an edge place, and the bit that says whether its edge may be present
 pub record IsPair (parts : Parts) (e : Edge) (present : ℕ) : Type 0 where
@@ -92,14 +93,6 @@ module _ {parts : Parts} {t : Trailed} {e : Edge} {v bit other : ℕ} (keeps : K
       of_other changes.Emptied (e, none, same) = (e, λ x. none (from_other x), same)
 
 -- what the bits say of an edge
-
-not_true : (b : Bool) → not b ≡ true → b ≡ true → ⊥
-not_true true h k = cc
-not_true false h k = cc
-
-true_not : (b : Bool) → (b ≡ true → ⊥) → not b ≡ true
-true_not true h = absurd (h refl)
-true_not false h = refl
 
 module _ {parts : Parts} {e : Edge} {present : ℕ} (words : List ℕ) (at : IsPair parts e present) where
   pub may_read : get_or (get_or (box_in (bits_of parts) words) (edge_decision parts e) []) 0 false ≡ is_set words present

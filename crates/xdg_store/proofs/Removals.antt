@@ -8,12 +8,13 @@ use Rattle.xdg_problem.specs.Vectors.{shape}
 use Rattle.xdg_trail.specs.Trailed.{Trailed}
 use Rattle.xdg_store.specs.Layout.{bits_of, box_in, is_set}
 use Rattle.xdg_store.specs.States.{Keeps}
-use Rattle.xdg_store.proofs.Boxed.{box_filled, filled_taken, has_place, length_box}
+use Rattle.xdg_store.proofs.Boxed.{box_filled, filled_taken, length_box}
 use Rattle.xdg_store.proofs.Counting.{enough_left, remaining_taken}
 use Rattle.xdg_store.proofs.Deciding.{HasBits}
 use Rattle.xdg_store.proofs.Histories.{present}
-use Rattle.xdg_store.proofs.Separate.{value_read}
 use Rattle.xdg_store.proofs.Sizes.{bits_sizes}
+use Rattle.xdg_facts.proofs.Lists.{true_within}
+use Rattle.xdg_facts.proofs.Rows.{value_read}
 
 -- the box of any words has the problem's shape
 pub length_box_in : (bits : List (List ℕ)) (words : List ℕ) → length (box_in bits words) ≡ length bits
@@ -39,7 +40,7 @@ module _ {parts : Parts} {d size : ℕ} {bit : ℕ → ℕ} (at : HasBits parts 
   row_size words = ap length (get_or-map (λ r. map (is_set words) r) (bits_of parts) d [] [] at.within) ∙ length-map (get_or (bits_of parts) d []) (is_set words) ∙ at.count
 
   pub has_size : (words : List ℕ) (v : ℕ) → Has (box_in (bits_of parts) words) d v → v < size
-  has_size words v h = (let l = has_place (get_or (box_in (bits_of parts) words) d []) v h in let s = row_size words in omega (arith, l, s))
+  has_size words v h = (let l = true_within (get_or (box_in (bits_of parts) words) d []) v h in let s = row_size words in omega (arith, l, s))
 
   -- a removal finds room
   pub has_room : {t : Trailed} (v : ℕ) → Keeps parts t → v < size → is_set t.words (bit v) ≡ true → (x : ℕ) × (x < size) × (x ≢ v) × (is_set t.words (bit x) ≡ true) → 1 ≤ t.spare

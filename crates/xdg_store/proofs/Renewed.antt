@@ -1,9 +1,9 @@
 -- Edges by their daughters.
-use Rattle.std.proofs.Common.{◌≡◌, ◌≢◌, ◌⊎◌, ℕ, ◌<◌, ◌+◌, ◌*◌, ◌/◌, ◌%◌, inl, inr, Bool, not, List, [], ◌∷◌, ◌++◌, length, get_or, set, take, refl, ap, sym, ◌∙◌, arith, below_more, subst}
+use Rattle.std.proofs.Common.{◌≡◌, ◌≢◌, ◌⊎◌, ℕ, ◌<◌, ◌+◌, ◌*◌, ◌/◌, ◌%◌, inl, inr, Bool, not, List, [], ◌∷◌, ◌++◌, length, get_or, take, refl, ap, sym, ◌∙◌, arith, subst}
 use Rattle.std.specs.Prelude.{◌&&◌, ◌==◌, Contains, nat_lt}
 use Rattle.std.proofs.lemmas.Bool.{and_from, and_parts, cases_eq, eqb-false, lt-ltb, ltb-true, ne_eqb, not-true}
-use Rattle.std.proofs.lemmas.Nat.{div-mul-add, mod-mul-add}
-use Rattle.std.proofs.lemmas.List.{get_or-set_other, get_or-set_same, length-set, take_more}
+use Rattle.std.proofs.lemmas.Nat.{mod-mul-add}
+use Rattle.std.proofs.lemmas.List.{take_more}
 use Rattle.std.proofs.lemmas.List.Elements.{Contains-push_cases}
 use Rattle.xdg_facts.specs.Rises.{has}
 use Rattle.xdg_problem.specs.declared.analysis.Edge.{Edge}
@@ -12,15 +12,9 @@ use Rattle.xdg_store.specs.Across.{Fits, FitsIn, IsFull, IsKept, OnlyOthers, Ren
 use Rattle.xdg_store.specs.declared.across.Mothers.{Mothers}
 use Rattle.xdg_store.specs.declared.decision.Decision.{Decision}
 use Rattle.xdg_store.specs.declared.decision.Decision.TheVariants as decisions
+use Rattle.xdg_facts.proofs.Numbers.{row_and_column}
 
 -- ---- edges that stand at one place
-
--- of two places in a table of rows that are the same the rows are the same, and the places in them
-pub row_and_column : (m a n b w : ℕ) → a < w → b < w → m * w + a ≡ n * w + b → (m ≡ n) × (a ≡ b)
-row_and_column m a n b w l k e = (sym (div-mul-add m w a l) ∙ ap (λ i. i / w) e ∙ div-mul-add n w b k, sym (mod-mul-add m w a l) ∙ ap (λ i. i % w) e ∙ mod-mul-add n w b k)
-
-pub same_row : (m a n b w : ℕ) → a < w → b < w → m * w + a ≡ n * w + b → m ≡ n
-same_row m a n b w l k e = (row_and_column m a n b w l k e).0
 
 -- the daughter whose mothers stand there
 pub daughter_is : (n dim daughter label : ℕ) → daughter < n → label < 32 → daughter_at n (mothers_at n dim daughter label) ≡ daughter
@@ -129,11 +123,3 @@ row_full n daughter all may must whole taken none = record {
 }
 
 -- ---- one item of a list more
-
-pub one_set : {X : Type 0} (P : ℕ → X → Type 0) (xs : List X) (k : ℕ) (x none : X) {count : ℕ} → length xs ≡ count → k < count → P k x → ((i : ℕ) → i < k → P i (get_or xs i none))
-    → (length (set xs k x) ≡ count) × ((i : ℕ) → i < k + 1 → P i (get_or (set xs k x) i none))
-one_set P xs k x none same l here before = (
-  length-set xs k x ∙ same,
-  below_more (λ i. P i (get_or (set xs k x) i none)) k (λ i m. subst (P i) (sym (get_or-set_other xs k i x none (λ e. omega (arith, e, m)))) (before i m))
-      (subst (P k) (sym (get_or-set_same xs k x none (omega (arith, l, same)))) here),
-)

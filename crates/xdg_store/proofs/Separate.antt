@@ -1,33 +1,7 @@
 -- Rows of bits, and what a box says of them.
-use Rattle.std.proofs.Common.{◌≡◌, ℕ, ◌<◌, Bool, true, false, List, [], ◌∷◌, length, get_or, map, ap, ap₂, ◌∙◌, arith, zero, suc, refl, replicate}
-use Rattle.std.proofs.lemmas.List.{get_or-map}
+use Rattle.std.proofs.Common.{◌≡◌, ℕ, ◌<◌, List, [], length, get_or}
 use Rattle.xdg_store.specs.Layout.{box_in, is_set}
-
--- what the box says of a value is what its bit says
-pub value_read : (f : ℕ → Bool) (rows : List (List ℕ)) (d v : ℕ) → d < length rows → v < length (get_or rows d []) → get_or (get_or (map (λ row. map f row) rows) d []) v false ≡ f (get_or (get_or rows d []) v 0)
-value_read f rows d v l m =
-    ap (λ row. get_or row v false) (get_or-map (λ row. map f row) rows d [] [] l)
-    ∙ get_or-map f (get_or rows d []) v 0 false m
-
--- where all bits are set, all values remain
-all_set : (f : ℕ → Bool) (row : List ℕ) → ((v : ℕ) → v < length row → f (get_or row v 0) ≡ true) → map f row ≡ replicate (length row) true
-all_set f [] h = refl
-all_set f (b ∷ row) h = ap₂ (λ x xs. x ∷ xs) (h 0 (omega arith)) (all_set f row (λ v l. h (suc v) (omega (arith, l))))
-
-pub all_rows_set : (f : ℕ → Bool) (rows : List (List ℕ)) → ((d v : ℕ) → d < length rows → v < length (get_or rows d []) → f (get_or (get_or rows d []) v 0) ≡ true)
-    → map (λ row. map f row) rows ≡ map (λ size. replicate size true) (map length rows)
-all_rows_set f [] h = refl
-all_rows_set f (row ∷ rows) h = ap₂ (λ x xs. x ∷ xs) (all_set f row (λ v l. h 0 v (omega arith) l)) (all_rows_set f rows (λ d v l m. h (suc d) v (omega (arith, l)) m))
-
--- rows of which the same bits are set say the same
-row_alike : (f g : ℕ → Bool) (row : List ℕ) → ((j : ℕ) → j < length row → g (get_or row j 0) ≡ f (get_or row j 0)) → map g row ≡ map f row
-row_alike f g [] h = refl
-row_alike f g (b ∷ row) h = ap₂ (λ x xs. x ∷ xs) (h 0 (omega arith)) (row_alike f g row (λ j l. h (suc j) (omega (arith, l))))
-
-alike_at : (f g : ℕ → Bool) (rows : List (List ℕ)) (e : ℕ) → (e < length rows → (j : ℕ) → j < length (get_or rows e []) → g (get_or (get_or rows e []) j 0) ≡ f (get_or (get_or rows e []) j 0)) → get_or (map (λ row. map g row) rows) e [] ≡ get_or (map (λ row. map f row) rows) e []
-alike_at f g [] e h = refl
-alike_at f g (row ∷ rows) zero h = row_alike f g row (h (omega arith))
-alike_at f g (row ∷ rows) (suc e) h = alike_at f g rows e (λ l. h (omega (arith, l)))
+use Rattle.xdg_facts.proofs.Rows.{alike_at}
 
 pub box_alike : (bits : List (List ℕ)) (old new : List ℕ) (e : ℕ)
     → (e < length bits → (j : ℕ) → j < length (get_or bits e []) → is_set new (get_or (get_or bits e []) j 0) ≡ is_set old (get_or (get_or bits e []) j 0)) → get_or (box_in bits new) e [] ≡ get_or (box_in bits old) e []

@@ -14,8 +14,8 @@ use Rattle.xdg_store.specs.States.{Keeps, Sound, remaining}
 use Rattle.xdg_store.proofs.Apart.{bit_in_range}
 use Rattle.xdg_store.proofs.Boxed.{full_is_box, remaining_full}
 use Rattle.xdg_store.proofs.Deciding.{own_bits}
-use Rattle.xdg_store.proofs.Separate.{all_rows_set}
 use Rattle.xdg_store.proofs.Sizes.{bits_sizes}
+use Rattle.xdg_facts.proofs.Rows.{all_rows_set}
 
 pub ones_set : (count b : ℕ) (words : List ℕ) → words ≡ replicate count 18446744073709551615 → b < 64 * count → is_set words b ≡ true
 ones_set count b words e l =

@@ -29,7 +29,9 @@ use Rattle.xdg_store.specs.declared.labels.LabelsInto.{LabelsInto}
 use Rattle.xdg_store.proofs.Apart.{few_labels}
 use Rattle.xdg_store.proofs.Kept.{full_at, may_says, must_says, place_has}
 use Rattle.xdg_store.proofs.Labelled.{labelled_like, relabels_row, renews_row, side_stays, was_row}
-use Rattle.xdg_store.proofs.Renewed.{daughter_is, one_set, others_stay, row_and_column}
+use Rattle.xdg_store.proofs.Renewed.{daughter_is, others_stay}
+use Rattle.xdg_facts.proofs.Lists.{one_set}
+use Rattle.xdg_facts.proofs.Numbers.{row_and_column}
 
 -- ---- after an edge was made anew
 

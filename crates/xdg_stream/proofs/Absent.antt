@@ -1,5 +1,5 @@
 -- Runs of edges that are absent: places that follow one another in a row in which no edge may be.
-use Rattle.std.proofs.Common.{◌≡◌, ℕ, zero, suc, ◌<◌, ◌≤◌, ◌+◌, ◌-◌, ◌⊎◌, inl, inr, Bool, List, [], ◌∷◌, ◌++◌, AllPairs, length, map, get_or, replicate, refl, ap, sym, ◌∙◌, arith, subst, length-append}
+use Rattle.std.proofs.Common.{◌≡◌, ℕ, zero, suc, ◌<◌, ◌≤◌, ◌+◌, ◌-◌, ◌⊎◌, inl, inr, Bool, List, [], ◌∷◌, ◌++◌, AllPairs, length, get_or, replicate, refl, ap, sym, ◌∙◌, arith, subst, length-append}
 use Rattle.std.specs.Prelude.{IsTrue}
 use Rattle.std.proofs.lemmas.Bool.{cases_eq, false≢true}
 use Rattle.std.proofs.lemmas.List.{length-replicate}
@@ -16,6 +16,7 @@ use Rattle.xdg_stream.proofs.Finding.{adds_both}
 use Rattle.xdg_stream.proofs.Named.{place_decision, place_there}
 use Rattle.xdg_stream.proofs.Reading.{says_alone}
 use Rattle.xdg_facts.specs.Rises.{has}
+use Rattle.xdg_facts.proofs.Lists.{each_mark}
 
 -- ---- what stands between two edges of a row is in it
 
@@ -43,10 +44,6 @@ run_of row edges place last d ordered within from to k low high = elim (cases_eq
   ]
 ]
 
-pub none_has : (set : List ℕ) (n : ℕ) → length set ≡ 0 → IsTrue (has set n) → ⊥
-none_has [] n none there = false≢true there
-none_has (x ∷ set) n none there = omega (arith, none)
-
 -- ---- what is added for them
 
 are_absent : (box : List (List Bool)) (d n : ℕ) → ((k : ℕ) → k < n → IsAlone box (d + k) 1) → AreAlone box d (replicate n 1)
@@ -67,10 +64,6 @@ absent_alone parts box row edges first place count is_box same is_first reads wi
     let decision : edge_decision parts e ≡ first + at = place_decision parts edges e none first at same is_first here refl in
     let sum : first + at ≡ (first + place) + k = omega arith in
     subst (λ i. IsAlone box i 1) (decision ∙ sum) (says_alone parts box row e 1 is_box is reads gone.0 (inr (refl, gone.1))))
-
-each_mark : (mark n : ℕ) → map (λ (number : ℕ). mark) (replicate n 1) ≡ replicate n mark
-each_mark mark zero = refl
-each_mark mark (suc n) = ap (λ z. mark ∷ z) (each_mark mark n)
 
 pub adds_absent : (box : List (List Bool)) (mark : ℕ) (marks numbers marks' numbers' marks'' numbers'' : List ℕ) (most n count at : ℕ) → Adds box mark marks numbers marks' numbers' most n → count ≤ most - n → at ≡ length numbers' → AreAlone box at (replicate count 1) → marks'' ≡ marks' ++ replicate count mark → numbers'' ≡ numbers' ++ replicate count 1 → Adds box mark marks numbers marks'' numbers'' most (n + count)
 adds_absent box mark marks numbers marks' numbers' marks'' numbers'' most n count at adds within here alone marks_are numbers_are =

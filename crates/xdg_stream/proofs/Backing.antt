@@ -1,16 +1,16 @@
 -- What a search leaves behind where it goes back.
-use Rattle.std.proofs.Common.{◌≡◌, ℕ, ◌<◌, ◌≤◌, ◌+◌, inl, inr, List, [], ◌∷◌, ◌++◌, length, get_or, refl, sym, arith, subst}
+use Rattle.std.proofs.Common.{ℕ, ◌≤◌, ◌+◌, List, [], ◌∷◌, ◌++◌, length, get_or, sym, subst}
 use Rattle.std.proofs.lemmas.List.{append_assoc, append-nil}
 use Rattle.xdg_facts.specs.Order.{AtMost, Less, Past}
 use Rattle.xdg_facts.specs.Fits.{Fits}
 use Rattle.xdg_facts.specs.Closed.{Closed}
 use Rattle.xdg_facts.proofs.Fitting.{fits_front, past_range}
-use Rattle.xdg_facts.proofs.Ordered.{past_step}
+use Rattle.xdg_facts.proofs.Ordered.{past_step, less_back, past_split, past, greater}
 use Rattle.xdg_stream.specs.Forced.{AreLast}
 use Rattle.xdg_stream.specs.Problem.{SameProblem}
-use Rattle.xdg_stream.proofs.Following.{joined}
 use Rattle.xdg_stream.proofs.Passing.{Passes, later}
 use Rattle.xdg_facts.proofs.Lists.{some_behind}
+use Rattle.xdg_facts.proofs.Fronts.{pushed_front}
 
 pub last_same : (shape : List ℕ) (P : List ℕ → Type 0) (now : List ℕ) (Q : List ℕ → Type 0) (p t : List ℕ) → SameProblem shape P now Q → AreLast now Q p t → AreLast shape P p t
 last_same shape P now Q p [] s h = tt
@@ -19,43 +19,23 @@ last_same shape P now Q p (v ∷ t) s h = (
   last_same shape P now Q (p ++ v ∷ []) t s h.1,
 )
 
--- past p with v, but not past p: it goes on from p with a greater number
-data Split (p : List ℕ) (v : ℕ) (x : List ℕ) : Type 0 where
-  past : Past p x → Split p v x
-  greater : (u : ℕ) (t : List ℕ) → v < u → x ≡ (p ++ u ∷ []) ++ t → Split p v x
-
-split : (p : List ℕ) (v : ℕ) (x : List ℕ) → Past (p ++ v ∷ []) x → Split p v x
-split [] v [] h = absurd h
-split [] v (b ∷ x) (inl l) = greater b x l refl
-split [] v (b ∷ x) (inr h) = absurd h.1
-split (a ∷ p) v [] h = absurd h
-split (a ∷ p) v (b ∷ x) (inl l) = past (inl l)
-split (a ∷ p) v (b ∷ x) (inr h) = elim (split p v x h.1) [
-  | past k ↦ past (inr (h.0, k))
-  | greater u t l e ↦ greater u t l (let q : a ≡ b = h.0 in cc)
-]
-
 -- what is counted and doesn't come before a candidate that is out of range is past the front, down to where a greater number may be counted
 past_all : (shape : List ℕ) (P : List ℕ → Type 0) (p t x : List ℕ) (v : ℕ) → Closed P → AreLast shape P p t → get_or shape (length (p ++ t)) 0 ≤ v → Fits shape x → P x → AtMost ((p ++ t) ++ v ∷ []) x → Past p x
 past_all shape P p [] x v closed h out f c k =
     let e = append-nil p in
     past_range shape p x v (subst (λ z. get_or shape (length z) 0 ≤ v) e out) f (subst (λ z. AtMost (z ++ v ∷ []) x) e k)
 past_all shape P p (w ∷ t) x v closed h out f c k =
-    let e = sym (joined p t w) in
+    let e = sym (pushed_front p t w) in
     let q = past_all shape P (p ++ w ∷ []) t x v closed h.1 (subst (λ z. get_or shape (length z) 0 ≤ v) e out) f c (subst (λ z. AtMost (z ++ v ∷ []) x) e k) in
-    elim (split p w x q) [
+    elim (past_split p w x q) [
       | past r ↦ r
       | greater u s l i ↦ absurd (h.0 u l (fits_front shape (p ++ u ∷ []) s (subst (Fits shape) i f)) (closed (p ++ u ∷ []) s (some_behind p u) (subst P i c)))
     ]
 
-less_back : (r t : List ℕ) (w : ℕ) → Less (r ++ w ∷ t) (r ++ (w + 1) ∷ [])
-less_back [] t w = inl (omega arith)
-less_back (a ∷ r) t w = inr (refl, less_back r t w)
-
 -- back to where a greater number may be counted
 pub passes_back : (shape : List ℕ) (P : List ℕ → Type 0) (from r t : List ℕ) (w v n : ℕ) (kept now : List ℕ) → Closed P → AreLast shape P (r ++ w ∷ []) t → get_or shape (length (r ++ w ∷ t)) 0 ≤ v → Passes shape P from ((r ++ w ∷ t) ++ v ∷ []) n kept now → Passes shape P from (r ++ (w + 1) ∷ []) n kept now
 passes_back shape P from r t w v n kept now closed h out p =
-    let e = sym (joined r t w) in
+    let e = sym (pushed_front r t w) in
     later shape P from ((r ++ w ∷ t) ++ v ∷ []) (r ++ (w + 1) ∷ []) n kept now
     (subst (λ z. Less z (r ++ (w + 1) ∷ [])) (sym (append_assoc r (w ∷ t) (v ∷ []))) (less_back r (t ++ v ∷ []) w))
     (λ x f c k. past_step r x w (past_all shape P (r ++ w ∷ []) t x v closed h (subst (λ z. get_or shape (length z) 0 ≤ v) e out) f c (subst (λ z. AtMost (z ++ v ∷ []) x) e k)))

@@ -1,16 +1,17 @@
 -- What a search passes by numbers that are forced.
-use Rattle.std.proofs.Common.{◌≡◌, ◌≢◌, ℕ, zero, suc, ◌<◌, ◌≤◌, ◌+◌, List, [], ◌∷◌, ◌++◌, length, ap, sym, ◌∙◌, arith, subst, length-append}
-use Rattle.std.proofs.lemmas.List.{append_assoc, append-nil}
+use Rattle.std.proofs.Common.{◌≡◌, ◌≢◌, ℕ, zero, suc, ◌≤◌, ◌+◌, List, [], ◌∷◌, ◌++◌, length, ap, sym, ◌∙◌, arith, subst}
+use Rattle.std.proofs.lemmas.List.{append-nil}
 use Rattle.xdg_facts.specs.Order.{Less}
 use Rattle.xdg_facts.specs.Fits.{Fits}
 use Rattle.xdg_facts.specs.Closed.{Closed}
 use Rattle.xdg_facts.specs.Passed.{Finds}
-use Rattle.xdg_facts.proofs.Fitting.{fits_push, fits_front, fits_last, fits_length}
+use Rattle.xdg_facts.proofs.Fitting.{fits_last, more_left, smaller_fits}
 use Rattle.xdg_stream.specs.Forced.{IsForced, AreForced}
 use Rattle.xdg_stream.specs.Problem.{SameProblem}
 use Rattle.xdg_stream.specs.Place.{place}
-use Rattle.xdg_stream.proofs.Measure.{ahead, ahead_taken, ahead_first}
 use Rattle.xdg_stream.proofs.Passing.{Passes, passes_refused, passes_taken, finds_taken}
+use Rattle.xdg_facts.proofs.Fronts.{pushed_front}
+use Rattle.xdg_facts.proofs.Measure.{ahead, ahead_taken, ahead_first}
 
 -- what is forced in a problem is so in the same problem
 pub forced_same : (shape : List ℕ) (P : List ℕ → Type 0) (later : List ℕ) (Q : List ℕ → Type 0) (p t : List ℕ) → SameProblem shape P later Q → AreForced later Q p t → AreForced shape P p t
@@ -24,19 +25,13 @@ forced_same shape P later Q p (v ∷ t) s h = (
   forced_same shape P later Q (p ++ v ∷ []) t s h.1,
 )
 
-pub joined : (p t : List ℕ) (v : ℕ) → (p ++ v ∷ []) ++ t ≡ p ++ v ∷ t
-joined p t v = append_assoc p (v ∷ []) t
-
 pub forced_fits : (shape : List ℕ) (P : List ℕ → Type 0) (p t : List ℕ) → Fits shape p → AreForced shape P p t → Fits shape (p ++ t)
 forced_fits shape P p [] f h = subst (Fits shape) (sym (append-nil p)) f
-forced_fits shape P p (v ∷ t) f h = subst (Fits shape) (joined p t v) (forced_fits shape P (p ++ v ∷ []) t h.0.fits h.1)
+forced_fits shape P p (v ∷ t) f h = subst (Fits shape) (pushed_front p t v) (forced_fits shape P (p ++ v ∷ []) t h.0.fits h.1)
 
 pub forced_counts : (shape : List ℕ) (P : List ℕ → Type 0) (p t : List ℕ) → P p → AreForced shape P p t → P (p ++ t)
 forced_counts shape P p [] c h = subst P (sym (append-nil p)) c
-forced_counts shape P p (v ∷ t) c h = subst P (joined p t v) (forced_counts shape P (p ++ v ∷ []) t h.0.counts h.1)
-
-smaller_fits : (shape p : List ℕ) (u v : ℕ) → u < v → Fits shape (p ++ v ∷ []) → Fits shape (p ++ u ∷ [])
-smaller_fits shape p u v l f = let k = fits_last shape p v f in fits_push shape p u (fits_front shape p (v ∷ []) f) (omega (arith, l, k))
+forced_counts shape P p (v ∷ t) c h = subst P (pushed_front p t v) (forced_counts shape P (p ++ v ∷ []) t h.0.counts h.1)
 
 -- the numbers below the forced one are passed
 passes_up : (shape : List ℕ) (P : List ℕ → Type 0) (from p : List ℕ) (u v n : ℕ) (kept now : List ℕ) → Closed P → IsForced shape P p v → u ≤ v → Passes shape P from (p ++ 0 ∷ []) n kept now → Passes shape P from (p ++ u ∷ []) n kept now
@@ -45,10 +40,6 @@ passes_up shape P from p (suc u) v n kept now closed h l r =
     let denied : P (p ++ u ∷ []) → ⊥ = λ c. let e = h.alone u (smaller_fits shape p u v (omega arith) h.fits) c in omega (arith, e) in
     let e : u + 1 ≡ suc u = omega arith in
     subst (λ i. Passes shape P from (p ++ i ∷ []) n kept now) e (passes_refused shape P from p u n kept now closed denied (passes_up shape P from p u v n kept now closed h (omega arith) r))
-
--- something is left to decide before the last of them
-more_left : (shape p t : List ℕ) (v : ℕ) → Fits shape (p ++ v ∷ t) → length p ≢ length shape
-more_left shape p t v f e = (let most = fits_length shape (p ++ v ∷ t) f in let long = length-append p (v ∷ t) in omega (arith, most, long, e))
 
 module _ (shape : List ℕ) (P : List ℕ → Type 0) (from : List ℕ) (kept : List ℕ) (closed : Closed P) where
   -- a counted prefix is charged, and the forced number behind it is next
@@ -64,9 +55,9 @@ module _ (shape : List ℕ) (P : List ℕ → Type 0) (from : List ℕ) (kept : 
       subst (λ z. Passes shape P from (place z 0) ((n + 1) + 0) kept z) (sym (append-nil grown))
       (subst (λ i. Passes shape P from (place grown 0) i kept grown) e (passes_taken shape P from grown n kept now f c (λ w. short (ap length (append-nil grown) ∙ w)) r))
   passes_follow grown (v ∷ t) n now f c h short r =
-      let rest = passes_follow (grown ++ v ∷ []) t (n + 1) grown h.0.fits h.0.counts h.1 (λ w. short (ap length (sym (joined grown t v)) ∙ w)) (next_forced grown t v n now f c h r) in
+      let rest = passes_follow (grown ++ v ∷ []) t (n + 1) grown h.0.fits h.0.counts h.1 (λ w. short (ap length (sym (pushed_front grown t v)) ∙ w)) (next_forced grown t v n now f c h r) in
       let e : ((n + 1) + 1) + length t ≡ (n + 1) + length (v ∷ t) = omega arith in
-      subst (λ z. Passes shape P from (place z 0) ((n + 1) + length (v ∷ t)) kept z) (joined grown t v) (subst (λ i. Passes shape P from (place ((grown ++ v ∷ []) ++ t) 0) i kept ((grown ++ v ∷ []) ++ t)) e rest)
+      subst (λ z. Passes shape P from (place z 0) ((n + 1) + length (v ∷ t)) kept z) (pushed_front grown t v) (subst (λ i. Passes shape P from (place ((grown ++ v ∷ []) ++ t) 0) i kept ((grown ++ v ∷ []) ++ t)) e rest)
 
   -- forced numbers up to a whole vector
   pub finds_follow : (grown t : List ℕ) (n : ℕ) (now : List ℕ) → Fits shape grown → P grown → AreForced shape P grown t → length (grown ++ t) ≡ length shape → Passes shape P from grown n kept now
@@ -76,9 +67,9 @@ module _ (shape : List ℕ) (P : List ℕ → Type 0) (from : List ℕ) (kept : 
       subst (λ z. Less from z × Finds shape P from z ((n + 1) + 0)) (sym (append-nil grown))
       (r.above, subst (Finds shape P from grown) e (finds_taken shape P from grown n kept now f c (ap length (sym (append-nil grown)) ∙ whole) r))
   finds_follow grown (v ∷ t) n now f c h whole r =
-      let rest = finds_follow (grown ++ v ∷ []) t (n + 1) grown h.0.fits h.0.counts h.1 (ap length (joined grown t v) ∙ whole) (next_forced grown t v n now f c h r) in
+      let rest = finds_follow (grown ++ v ∷ []) t (n + 1) grown h.0.fits h.0.counts h.1 (ap length (pushed_front grown t v) ∙ whole) (next_forced grown t v n now f c h r) in
       let e : ((n + 1) + 1) + length t ≡ (n + 1) + length (v ∷ t) = omega arith in
-      subst (λ z. Less from z × Finds shape P from z ((n + 1) + length (v ∷ t))) (joined grown t v) (rest.0, subst (Finds shape P from ((grown ++ v ∷ []) ++ t)) e rest.1)
+      subst (λ z. Less from z × Finds shape P from z ((n + 1) + length (v ∷ t))) (pushed_front grown t v) (rest.0, subst (Finds shape P from ((grown ++ v ∷ []) ++ t)) e rest.1)
 
 -- and each of them leaves fewer steps
 pub ahead_follow : (shape : List ℕ) (P : List ℕ → Type 0) (p t : List ℕ) → AreForced shape P p t → ahead shape (place (p ++ t) 0) ≤ ahead shape (place p 0)
@@ -87,4 +78,4 @@ ahead_follow shape P p (v ∷ t) h =
     let a = ahead_follow shape P (p ++ v ∷ []) t h.1 in
     let b = ahead_taken shape p v (fits_last shape p v h.0.fits) in
     let c = ahead_first shape p v in
-    subst (λ z. ahead shape (place z 0) ≤ ahead shape (place p 0)) (joined p t v) (omega (arith, a, b, c))
+    subst (λ z. ahead shape (place z 0) ≤ ahead shape (place p 0)) (pushed_front p t v) (omega (arith, a, b, c))

@@ -1,7 +1,7 @@
 -- Runs of numbers that are forced: one box for all their fronts.
-use Rattle.std.proofs.Common.{◌≡◌, ℕ, ◌<◌, ◌≤◌, ◌+◌, suc, Bool, List, [], ◌∷◌, ◌++◌, length, map, take, drop, ap₂, sym, ◌∙◌, arith, subst, length-append}
+use Rattle.std.proofs.Common.{◌≡◌, ℕ, ◌<◌, ◌≤◌, ◌+◌, suc, Bool, List, [], ◌∷◌, ◌++◌, length, map, take, drop, sym, arith, subst, length-append}
 use Rattle.std.specs.Prelude.{slice_index, slice_index_or}
-use Rattle.std.proofs.lemmas.List.{append-nil, append_assoc, drop-take, length-drop, take-append-drop, take-take}
+use Rattle.std.proofs.lemmas.List.{append-nil, append_assoc, length-drop}
 use Rattle.xdg_facts.specs.Fits.{Fits}
 use Rattle.xdg_problem.specs.declared.parts.Parts.{Parts}
 use Rattle.xdg_problem.specs.Boxes.{Has}
@@ -13,8 +13,9 @@ use Rattle.xdg_stream.specs.Forced.{AreForced, AreLast, IsForced}
 use Rattle.xdg_stream.specs.Levels.{HasLevels, IsLevel}
 use Rattle.xdg_stream.specs.Runs.{AreAlone, IsAlone}
 use Rattle.xdg_stream.proofs.Fronts.{levels_with}
-use Rattle.xdg_stream.proofs.Longer.{last_only, narrow_same, within_of}
-use Rattle.xdg_facts.proofs.Lists.{last_at, last_at as last_of}
+use Rattle.xdg_stream.proofs.Longer.{last_only, narrow_same}
+use Rattle.xdg_facts.proofs.Lists.{last_at, last_at as last_of, within_of}
+use Rattle.xdg_facts.proofs.Fronts.{take_further}
 
 -- a level makes its prefix boxed
 pub level_boxed : (parts : Parts) (p : List ℕ) (box : List (List Bool)) → IsLevel parts p box → Boxed parts p
@@ -69,9 +70,6 @@ module _ (parts : Parts) (box : List (List Bool)) where
     same_last (p ++ v ∷ []) t (λ k l. subst (λ z. IsLevel parts z box) (sym (append_assoc p (v ∷ []) (take k t))) (levels (suc k) (omega (arith, l)))),
   )
 
-together : (d k : ℕ) (xs : List ℕ) → take d xs ++ take k (drop d xs) ≡ take (d + k) xs
-together d k xs = ap₂ (λ a b. a ++ b) (sym (take-take d (d + k) xs (omega arith))) (sym (drop-take d k xs)) ∙ take-append-drop d (take (d + k) xs)
-
 -- the fronts behind a place have the mark of the one there
 pub levels_last : (parts : Parts) (history : List (List (List Bool))) (marks numbers : List ℕ) (d : ℕ) → d ≤ length numbers → HasLevels parts history marks numbers → ((k : ℕ) → d ≤ k → k < length marks → slice_index marks k ≡ slice_index marks d) → AreLast (shape parts) (Boxed parts) (take d numbers) (drop d numbers)
 levels_last parts history marks numbers d short has same =
@@ -79,7 +77,7 @@ levels_last parts history marks numbers d short has same =
     let long = length-drop d numbers in
     let c = has.count in
     let there : d + k < length marks = omega (arith, long, c, short, l) in
-    subst (λ z. IsLevel parts z (slice_index_or history (slice_index marks d) [])) (sym (together d k numbers))
+    subst (λ z. IsLevel parts z (slice_index_or history (slice_index marks d) [])) (sym (take_further d k numbers))
     (subst (λ i. IsLevel parts (take (d + k) numbers) (slice_index_or history i [])) (same (d + k) (omega arith) there) (has.each (d + k) there))
     ))
 

@@ -1,5 +1,4 @@
 pub mod Same
-pub mod Measure
 pub mod Passing
 pub mod Following
 pub mod Backing

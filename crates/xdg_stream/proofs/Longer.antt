@@ -1,8 +1,8 @@
 -- From the greatest closed box of a prefix to that of the prefix and a number more.
-use Rattle.std.proofs.Common.{◌≡◌, ◌↔◌, ℕ, ◌<◌, ◌≤◌, ◌+◌, zero, suc, inl, inr, Bool, true, false, List, [], ◌∷◌, ◌++◌, length, refl, ap, sym, ◌∙◌, arith, subst, length-append}
-use Rattle.std.specs.Prelude.{replicate, slice_index, slice_index_or}
+use Rattle.std.proofs.Common.{◌≡◌, ◌↔◌, ℕ, ◌<◌, ◌≤◌, ◌+◌, zero, suc, inl, inr, Bool, List, [], ◌∷◌, ◌++◌, length, ap, sym, ◌∙◌, arith, subst, length-append}
+use Rattle.std.specs.Prelude.{slice_index, slice_index_or}
 use Rattle.std.proofs.lemmas.Bool.{cases_lt}
-use Rattle.std.proofs.lemmas.List.{get_or_append_left, get_or_default}
+use Rattle.std.proofs.lemmas.List.{get_or_default}
 use Rattle.xdg_problem.specs.declared.parts.Parts.{Parts}
 use Rattle.xdg_problem.specs.Boxes.{Has, IsBox, IsOnly, LiesIn, Agrees, full}
 use Rattle.xdg_problem.specs.Vectors.{shape}
@@ -15,7 +15,7 @@ use Rattle.xdg_rules.proofs.Sizes.{within_sizes}
 use Rattle.xdg_store.proofs.Boxed.{length_box}
 use Rattle.xdg_propcore.specs.Uses.{AllStandIn}
 use Rattle.xdg_stream.specs.Levels.{IsLevel, IsRestricted}
-use Rattle.xdg_facts.proofs.Lists.{last_at}
+use Rattle.xdg_facts.proofs.Lists.{last_at, all_true, front_of, within_of}
 
 -- ---- closed for all propagators is closed
 
@@ -35,9 +35,6 @@ agrees_of : (box : List (List Bool)) (p : List ℕ) → length p ≤ length box 
 agrees_of box [] l at = tt
 agrees_of [] (x ∷ p) l at = absurd (omega (arith, l))
 agrees_of (row ∷ box) (x ∷ p) l at = (at 0 (omega arith), agrees_of box p (omega (arith, l)) (λ d m. at (suc d) (omega (arith, m))))
-
-front_of : (p : List ℕ) (v d : ℕ) → d < length p → slice_index (p ++ v ∷ []) d ≡ slice_index p d
-front_of p v d l = get_or_append_left p (v ∷ []) 0 d l
 
 module _ (parts : Parts) (p : List ℕ) (v : ℕ) where
   abbrev longer : List ℕ
@@ -105,11 +102,6 @@ module _ (parts : Parts) (p : List ℕ) (v : ℕ) where
 
 -- ---- the same, as the code tells it
 
-pub within_of : (xs : List ℕ) (d v : ℕ) → v < slice_index xs d → d < length xs
-within_of [] d v l = absurd (omega (arith, l))
-within_of (x ∷ xs) zero v l = omega arith
-within_of (x ∷ xs) (suc d) v l = (let k = within_of xs d v l in omega (arith, k))
-
 module _ (parts : Parts) (p : List ℕ) (v d size : ℕ) (old now : List (List Bool)) (is : length p ≡ d) (size_is : size ≡ slice_index (shape parts) d) (less : v < size) (level : IsLevel parts p old) where
   within : length p < length (shape parts)
   within = (let k = within_of (shape parts) d v (omega (arith, size_is, less)) in omega (arith, k, is))
@@ -128,11 +120,6 @@ module _ (parts : Parts) (p : List ℕ) (v d size : ℕ) (old now : List (List B
     dead_at none = narrow_dead parts p v old level within stands props all now (subst (λ k. IsRestricted old now k v) (sym is) r) (subst (λ q. (box : List (List Bool)) → IsClosedByAll stands props q box → LiesIn box now → ⊥) same none)
 
 -- ---- the empty prefix
-
-all_true : (size v : ℕ) → v < size → slice_index_or (replicate size true) v false ≡ true
-all_true zero v l = absurd (omega (arith, l))
-all_true (suc size) zero l = refl
-all_true (suc size) (suc v) l = all_true size v (omega (arith, l))
 
 full_has : (sizes : List ℕ) (d v : ℕ) → v < slice_index_or sizes d 0 → Has (full sizes) d v
 full_has [] d v l = absurd (omega (arith, l))

@@ -9,7 +9,6 @@ use Rattle.xdg_facts.specs.Passed.{Charges, Finds}
 use Rattle.xdg_facts.specs.Answered.{Drawn, Answered}
 use Rattle.xdg_facts.specs.Endings.{IsBelow}
 use Rattle.xdg_facts.specs.declared.Ending.TheVariants as endings
-use Rattle.xdg_facts.proofs.Exists.{each_weaker}
 use Rattle.xdg_facts.proofs.Drawing.{drawn_found, drawn_charged}
 use Rattle.xdg_stream.specs.Problem.{SameProblem}
 use Rattle.xdg_stream.specs.Place.{place, Next}
@@ -17,6 +16,7 @@ use Rattle.xdg_stream.specs.Halts.{Halts}
 use Rattle.xdg_stream.specs.Progress.{Progress}
 use Rattle.xdg_stream.specs.declared.search.Step.{Step}
 use Rattle.xdg_stream.proofs.Same.{same_then}
+use Rattle.xdg_facts.proofs.Each.{each_weaker}
 
 listing_same : (shape : List ℕ) (P Q : List ℕ → Type 0) (from to : List ℕ) (xs : List (List ℕ)) → SameProblem shape P shape Q → IsListing shape (SoFar Q to) from xs → IsListing shape (SoFar P to) from xs
 listing_same shape P Q from to xs s i = record {

@@ -2,7 +2,7 @@
 use Rattle.std.proofs.Common.{◌≡◌, ◌≢◌, ℕ, ◌<◌, ◌≤◌, ◌+◌, ◌-◌, inl, inr, Bool, List, [], ◌∷◌, ◌++◌, Some, None, length, map, take, drop, refl, ap, ap₂, sym, ◌∙◌, arith, subst}
 use Rattle.std.specs.Prelude.{slice_index, slice_index_or}
 use Rattle.std.proofs.Math.Seq.{take-nil}
-use Rattle.std.proofs.lemmas.List.{append_assoc, get_or_default, get_or-take, length-take-le, take-append-drop, take_more}
+use Rattle.std.proofs.lemmas.List.{append_assoc, get_or_default, get_or-take, length-take-le, take-append-drop}
 use Rattle.xdg_facts.specs.Fits.{Fits}
 use Rattle.xdg_problem.specs.declared.analysis.Edge.{Edge}
 use Rattle.xdg_problem.specs.declared.parts.Parts.{Parts}
@@ -19,6 +19,7 @@ use Rattle.xdg_stream.specs.Runs.{Adds, AreAlone}
 use Rattle.xdg_stream.proofs.Forcing.{all_forced, level_boxed, levels_last, levels_run}
 use Rattle.xdg_stream.proofs.Fronts.{levels_there, none_there, top_within, top_level, levels_undone, levels_grown, levels_pushed, levels_cut}
 use Rattle.xdg_stream.proofs.Sized.{fits_last}
+use Rattle.xdg_facts.proofs.Fronts.{around}
 
 -- the same sentence, with other boxes
 moved : (parts other : Parts) (history : List (List (List Bool))) (edge_places : List Edge) (marks numbers : List ℕ) (mark_room number_room : ℕ) → other ≡ parts → edge_places ≡ places parts → AreLevels parts history marks numbers → length (shape parts) ≤ number_room → length (shape parts) < mark_room → HasFront other history edge_places marks numbers mark_room number_room
@@ -163,12 +164,6 @@ taken_here f parts other numbers numbers' v box view same is level = (is ∙ ap 
 -- numbers that have no choice are taken
 pub follows_here : (f : Fronted) (parts : Parts) (numbers numbers' : List ℕ) (most n : ℕ) → record { parts = parts; numbers = numbers } ≡ f → Follows (shape parts) (Boxed parts) numbers numbers' most n → Follows (shape f.parts) (Boxed f.parts) f.numbers numbers' most n
 follows_here f parts numbers numbers' most n view follows = subst (λ z. Follows (shape z.parts) (Boxed z.parts) z.numbers numbers' most n) view follows
-
--- a list by one of its elements
-around : (numbers : List ℕ) (d : ℕ) → 0 < d → d ≤ length numbers → take d numbers ≡ take (d - 1) numbers ++ slice_index numbers (d - 1) ∷ []
-around numbers d some short =
-    let e : d ≡ (d - 1) + 1 = omega (arith, some) in
-    ap (λ k. take k numbers) e ∙ take_more numbers (d - 1) 0 (omega (arith, some, short))
 
 all_last : (parts : Parts) (history : List (List (List Bool))) (marks numbers : List ℕ) → AreLevels parts history marks numbers → ((k : ℕ) → 0 ≤ k → k < length marks → slice_index marks k ≡ slice_index marks 0) → AreLast (shape parts) (Boxed parts) [] numbers
 all_last parts history marks numbers (inl has) same = levels_last parts history marks numbers 0 (omega arith) has same

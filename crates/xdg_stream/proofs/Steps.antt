@@ -1,22 +1,23 @@
 -- The steps of the search, in the words of what a front ensures: shape and P are the problem as the call began, later and Q
 -- the same problem as the front has it now.
 use Rattle.std.proofs.Common.{◌≡◌, ◌≢◌, ℕ, ◌<◌, ◌≤◌, ◌+◌, ◌-◌, ◌⊎◌, ◌↔◌, inl, inr, List, [], ◌∷◌, ◌++◌, length, take, drop, get_or, refl, ap, ap₂, sym, ◌∙◌, arith, subst, length-append, append_assoc}
-use Rattle.std.proofs.lemmas.List.{take_all, take-take, take-append-drop}
+use Rattle.std.proofs.lemmas.List.{take-append-drop}
 use Rattle.std.proofs.Math.Seq.{take-append_seam}
 use Rattle.xdg_facts.specs.Order.{Less}
 use Rattle.xdg_facts.specs.Fits.{Fits}
 use Rattle.xdg_facts.specs.Closed.{Closed, NoneAfter, SomeAfter}
 use Rattle.xdg_facts.specs.Passed.{Finds}
-use Rattle.xdg_facts.proofs.Fitting.{fits_push, fits_front, fits_last, fits_length}
+use Rattle.xdg_facts.proofs.Fitting.{fits_push, fits_front, fits_length, number_fits}
 use Rattle.xdg_stream.specs.Problem.{SameProblem}
 use Rattle.xdg_stream.specs.Place.{place, Stands}
 use Rattle.xdg_stream.specs.Halts.{HaltsAt}
 use Rattle.xdg_stream.specs.Forced.{AreForced, AreLast, Follows}
-use Rattle.xdg_stream.proofs.Measure.{ahead, ahead_refused, ahead_taken, ahead_back}
-use Rattle.xdg_stream.proofs.Following.{forced_same, forced_fits, forced_counts, passes_follow, finds_follow, ahead_follow, joined}
+use Rattle.xdg_stream.proofs.Following.{forced_same, forced_fits, forced_counts, passes_follow, finds_follow, ahead_follow}
 use Rattle.xdg_stream.proofs.Backing.{last_same, passes_back, none_back}
 use Rattle.xdg_stream.proofs.Same.{same_then}
 use Rattle.xdg_stream.proofs.Passing.{Passes, passes_refused, spent_at, ended_at}
+use Rattle.xdg_facts.proofs.Fronts.{pushed_front}
+use Rattle.xdg_facts.proofs.Measure.{ahead, ahead_refused, ahead_taken, ahead_back}
 
 pub stands_room : (shape : List ℕ) (P : List ℕ → Type 0) (later : List ℕ) (Q : List ℕ → Type 0) (numbers : List ℕ) → SameProblem shape P later Q → Stands shape P numbers → length numbers ≤ length later
 stands_room shape P later Q numbers s t = let h = fits_length shape numbers t.fits in let k = ap length s.sizes in omega (arith, h, k)
@@ -72,7 +73,7 @@ module _ {shape : List ℕ} {P : List ℕ → Type 0} {later : List ℕ} {Q : Li
   ran_counts = subst P (sym f.joined) (forced_counts shape P grown f.added g.counts forced)
 
   ran_joined : ran ≡ numbers ++ value ∷ f.added
-  ran_joined = f.joined ∙ ap (λ z. z ++ f.added) g.is ∙ joined numbers f.added value
+  ran_joined = f.joined ∙ ap (λ z. z ++ f.added) g.is ∙ pushed_front numbers f.added value
 
   pub ran_stands : Stands shape P ran
   ran_stands = record { fits = subst (Fits shape) (sym f.joined) (forced_fits shape P grown f.added g.stands.fits forced); counts = inr ran_counts }
@@ -144,9 +145,6 @@ back_passes shape P later Q from numbers r t value w k n kept now closed s out j
     let o : get_or shape (length (r ++ w ∷ t)) 0 ≤ value = subst (λ z. get_or shape (length z) 0 ≤ value) e (out_of_range shape P later Q (length numbers) value s out) in
     subst (λ m. Passes shape P from (place r (m + 1)) n kept now) (sym j) (passes_back shape P from r t w value n kept now closed (last_same shape P later Q (r ++ w ∷ []) t s h) o (subst (λ z. Passes shape P from (place z value) n kept now) e p))
 
-number_fits : (shape r t : List ℕ) (w : ℕ) → Fits shape (r ++ w ∷ t) → w < get_or shape (length r) 0
-number_fits shape r t w f = fits_last shape r w (fits_front shape (r ++ w ∷ []) t (subst (Fits shape) (sym (joined r t w)) f))
-
 pub back_smaller : (shape : List ℕ) (P : List ℕ → Type 0) (numbers r t : List ℕ) (value w n : ℕ) → Stands shape P numbers → n ≡ w → numbers ≡ r ++ w ∷ t → ahead shape (place r (n + 1)) < ahead shape (place numbers value)
 back_smaller shape P numbers r t value w n k j e =
     let h = number_fits shape r t w (subst (Fits shape) e k.fits) in
@@ -159,14 +157,3 @@ finished shape P later Q from numbers value n kept now closed s out h p =
     ended_at shape P from (place numbers value) n kept now (λ x f c k. none_back shape P numbers x value closed (last_same shape P later Q [] numbers s h) (out_of_range shape P later Q (length numbers) value s out) f c k) p
 
 -- ---- the numbers that are kept
-
--- the front of what is kept, where its last numbers go
-pub begins_back : (numbers r t kept : List ℕ) → take (length numbers) kept ≡ numbers → numbers ≡ r ++ t → take (length r) kept ≡ r
-begins_back numbers r t kept h e =
-    let n = ap length e in
-    let m = length-append r t in
-    sym (take-take (length r) (length numbers) kept (omega (arith, n, m))) ∙ ap (take (length r)) (h ∙ e) ∙ take-append_seam r t
-
--- more numbers are their own front
-pub begins_taken : (grown now : List ℕ) → now ≡ grown → take (length grown) now ≡ grown
-begins_taken grown now e = ap (take (length grown)) e ∙ take_all (length grown) grown (omega arith)

@@ -4,14 +4,12 @@ use Rattle.std.specs.Prelude.{Option, filter}
 use Rattle.std.proofs.Math.Seq.{take-append_seam}
 use Rattle.xdg_facts.specs.Answered.{Drawn}
 use Rattle.xdg_facts.specs.Fits.{Fits}
-use Rattle.xdg_facts.specs.Listing.{Member}
 use Rattle.xdg_facts.specs.Order.{AtMost, Less}
 use Rattle.xdg_facts.specs.Passed.{Charges, Finds}
 use Rattle.xdg_facts.specs.Whole.{Whole, is_whole}
 use Rattle.xdg_facts.proofs.Drawing.{drawn_none, drawn_found, drawn_charged}
 use Rattle.xdg_facts.proofs.Joined.{so_far_split}
 use Rattle.xdg_facts.proofs.Ordered.{less_irreflexive, less_transitive, at_most_less, at_most_transitive, at_most_of, less_or, not_less}
-use Rattle.xdg_facts.proofs.Wholes.{filter_member}
 use Rattle.xdg_problem.specs.declared.analysis.Analysis.{Analysis}
 use Rattle.xdg_problem.specs.declared.parts.Parts.{Parts}
 use Rattle.xdg_problem.specs.Analyses.{IsAnalysis}
@@ -27,6 +25,8 @@ use Rattle.xdg_stream.specs.Place.{place, Next}
 use Rattle.xdg_stream.specs.declared.search.Step.{Step}
 use Rattle.xdg_stream.specs.declared.search.Step.TheVariants as steps
 use Rattle.xdg_stream.specs.Streamed.{Streamed, seen, IsStart, start_vector, Leaves, IsCharged, IsNext, with_found, Advances, IsStream}
+use Rattle.xdg_facts.specs.Membership.{In}
+use Rattle.xdg_facts.proofs.In.{in_append, filter_in}
 
 -- ---- steps that differ
 
@@ -53,15 +53,9 @@ with_same steps.Spent other answers last = refl
 whole_test : (shape x : List ℕ) → length x ≡ length shape → is_whole shape x ≡ true
 whole_test shape x e = eq-eqb (length x) (length shape) e
 
-member_split : (xs : List (List ℕ)) (c x : List ℕ) → Member (xs ++ c ∷ []) x → Member xs x ⊎ (x ≡ c)
-member_split [] c x (inl e) = inr e
-member_split [] c x (inr m) = absurd m
-member_split (y ∷ xs) c x (inl e) = inl (inl e)
-member_split (y ∷ xs) c x (inr m) = elim (member_split xs c x m) [ inl h ↦ inl (inr h) | inr e ↦ inr e ]
-
 -- among prefixes none of which is whole no whole one stands
-none_whole : (shape x : List ℕ) (xs : List (List ℕ)) → filter (is_whole shape) xs ≡ [] → length x ≡ length shape → Member xs x → ⊥
-none_whole shape x xs none whole m = subst (λ z. Member z x) none (filter_member (is_whole shape) x xs (whole_test shape x whole) m)
+none_whole : (shape x : List ℕ) (xs : List (List ℕ)) → filter (is_whole shape) xs ≡ [] → length x ≡ length shape → In xs x → ⊥
+none_whole shape x xs none whole m = subst (λ z. In z x) none (filter_in (is_whole shape) xs x (whole_test shape x whole) m)
 
 -- ---- solutions
 
@@ -191,9 +185,9 @@ module _ {s : Streamed} {numbers : List ℕ} {value room : ℕ} (is : IsStream s
                 let x : List ℕ = vector s.parts a in
                 let own = solution_fits s.parts is.problem a solves in
                 let member = f.1.listing.all x own.0 (own.1.0, λ beyond. less_irreflexive x (less_transitive x numbers' x before beyond)) (is.so_far.between a solves l) in
-                elim (member_split f.1.passed numbers' x member) [
+                elim (in_append f.1.passed (numbers' ∷ []) x member) [
                   | inl m ↦ none_whole (shape s.parts) x f.1.passed f.1.none own.1.1 m
-                  | inr e ↦ less_irreflexive numbers' (subst (λ z. Less z numbers') e before)
+                  | inr m ↦ elim m [ inl e ↦ less_irreflexive numbers' (subst (λ z. Less z numbers') (sym e) before) | inr none ↦ none ]
                 ]);
           }
 

@@ -14,7 +14,7 @@ use Rattle.xdg_terms.specs.Forms.{Gen}
 use Rattle.xdg_terms.specs.Built.{texts_at, generated}
 use Rattle.xdg_terms.specs.Means.{fulfils, fulfils_step}
 use Rattle.xdg_facts.specs.Rises.{has, numbers_below}
-use Rattle.xdg_domain.proofs.Numbers.{increasing_same, numbers_increase}
+use Rattle.xdg_facts.proofs.Merging.{increasing_same, numbers_increase}
 
 -- ---- generators, a form at a time
 

@@ -26,7 +26,8 @@ use Rattle.xdg_facts.proofs.In.{in_left, flat_map_in, map_in}
 use Rattle.xdg_facts.specs.Rises.{has}
 use Rattle.xdg_ast.specs.Texts.{texts as texts_of}
 use Rattle.xdg_facts.proofs.Rising.{has_of, has_tested}
-use Rattle.xdg_domain.proofs.Numbers.{below_has, numbers_increase}
+use Rattle.xdg_domain.proofs.Numbers.{below_has}
+use Rattle.xdg_facts.proofs.Merging.{numbers_increase}
 
 -- ---- sets
 

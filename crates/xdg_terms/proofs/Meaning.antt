@@ -24,12 +24,12 @@ use Rattle.xdg_names.proofs.Texts.{place_of-Some}
 use Rattle.xdg_terms.specs.Built.{Elem, number_named, text_named, number_of_places, tuple_number, names_of, elems_of, first_for, set_of, card_numbers, numbers_of_card, put, said_from, built, fields_from}
 use Rattle.xdg_terms.proofs.Right.{RightHere, formed, told, stands, card_right, allowed}
 use Rattle.xdg_terms.proofs.Read.{bracket_read, same_first, written}
-use Rattle.xdg_terms.proofs.Meant.{among_at, all_places, TupleOf, tuple_of_places}
+use Rattle.xdg_terms.proofs.Meant.{all_places, TupleOf, tuple_of_places}
 use Rattle.xdg_terms.proofs.Lawful.{set_law, set_below, counts_read, pairs_read}
 use Rattle.xdg_terms.proofs.SaidKeys.{made_of, put_rises, put_here, put_later, said_made, from_rises, keys_said, keys_each}
 use Rattle.xdg_facts.proofs.Texts.{same_text, is_same}
 use Rattle.xdg_facts.specs.Membership.{In, Differ}
-use Rattle.xdg_facts.proofs.In.{map_in}
+use Rattle.xdg_facts.proofs.In.{map_in, among_at}
 
 -- the term means the value, which is one of the type where its numbers are in range
 abbrev pub GoodIn : Bindings → Shape → Term → Value-F Value → Type 0

@@ -1,5 +1,5 @@
 -- The value of a term without an offence is what the term means, and a value of the type.
-use Rattle.std.proofs.Common.{◌≡◌, inl, inr, ℕ, ◌<◌, zero, suc, List, [], ◌∷◌, ◌++◌, length, get_or, Option, Some, None, refl, sym, ap, ap₂, ◌∙◌, subst, arith}
+use Rattle.std.proofs.Common.{◌≡◌, inl, inr, ℕ, ◌<◌, List, [], ◌∷◌, ◌++◌, length, get_or, Option, Some, None, refl, sym, ap, ap₂, ◌∙◌, subst, arith}
 use Rattle.std.specs.Prelude.{◌↔◌, true}
 use Rattle.xdg_ast.specs.declared.names.Name.{Name}
 use Rattle.xdg_ast.specs.declared.names.Spanned.{Spanned}
@@ -17,23 +17,10 @@ use Rattle.xdg_terms.proofs.Placing.{are_chosen}
 use Rattle.xdg_terms.proofs.Right.{Stands}
 use Rattle.xdg_terms.proofs.Read.{listed_numbers, numbers_listed, plain_alike, bracketed_alike, each_long}
 use Rattle.xdg_facts.specs.Membership.{In, Differ}
-use Rattle.xdg_facts.proofs.In.{in_get, in_map, map_in}
+use Rattle.xdg_facts.proofs.In.{in_map, map_in, one_place}
 use Rattle.xdg_facts.specs.Rises.{has}
 use Rattle.xdg_domain.proofs.Constants.{domain_differs}
 use Rattle.xdg_ast.specs.Texts.{texts as texts_of}
-
--- ---- constants
-
-pub among_at : (cs : List (List ℕ)) (k : ℕ) (t : List ℕ) → k < length cs → get_or cs k [] ≡ t → In cs t
-among_at cs k t within is = subst (In cs) is (in_get cs k [] within)
-
--- in a list whose texts all differ a text stands in one place
-pub one_place : (cs : List (List ℕ)) (m n : ℕ) → Differ cs → m < length cs → n < length cs → get_or cs m [] ≡ get_or cs n [] → m ≡ n
-one_place [] m n h within inside e = absurd (omega (arith, within))
-one_place (c ∷ cs) zero zero h within inside e = refl
-one_place (c ∷ cs) zero (suc n) h within inside e = absurd (h.0 (among_at cs n c (omega (arith, inside)) (sym e)))
-one_place (c ∷ cs) (suc m) zero h within inside e = absurd (h.0 (among_at cs m c (omega (arith, within)) e))
-one_place (c ∷ cs) (suc m) (suc n) h within inside e = ap suc (one_place cs m n h.1 (omega (arith, within)) (omega (arith, inside)) e)
 
 -- ---- tuples
 

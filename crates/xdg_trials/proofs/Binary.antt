@@ -5,6 +5,7 @@ use Rattle.xdg_facts.specs.Fits.{Fits}
 use Rattle.xdg_facts.proofs.Fitting.{fits_front, fits_last}
 use Rattle.xdg_stream.specs.Apart.{IsApart}
 use Rattle.xdg_stream.specs.Forced.{AreLast}
+use Rattle.xdg_facts.proofs.Fronts.{first_number}
 
 abbrev three : List ℕ
 three = 2 ∷ 2 ∷ 2 ∷ []
@@ -41,11 +42,6 @@ run_last q (w ∷ t) x fits apart =
     )
 
 -- ---- what the code does
-
-first_number : (numbers : List ℕ) (len : ℕ) → 0 < len → 0 < length numbers → take len numbers ≡ get_or numbers 0 0 ∷ take (len - 1) (drop 1 numbers)
-first_number [] len some within = absurd (omega (arith, within))
-first_number (x ∷ numbers) zero some within = absurd (omega (arith, some))
-first_number (x ∷ numbers) (suc len) some within = (let e : len ≡ suc len - 1 = omega arith in ap (λ k. x ∷ take k numbers) e)
 
 apart_where : (now : List ℕ) → 0 < length now → (length now ≡ 0) ⊎ IsApart now → IsApart now
 apart_where now some (inl none) = absurd (omega (arith, some, none))

@@ -1,16 +1,11 @@
 -- What a table keeps, at a place of it.
-use Rattle.std.proofs.Common.{◌≡◌, ℕ, zero, suc, ◌<◌, List, [], ◌∷◌, length, get_or, Some, sym, subst, arith}
+use Rattle.std.proofs.Common.{◌≡◌, ℕ, ◌<◌, List, [], ◌∷◌, length, get_or, Some, sym}
 use Rattle.std.specs.Prelude.{slice_get}
 use Rattle.std.proofs.lemmas.Option.{get_or_from_slice_get, slice_get_within}
 use Rattle.xdg_domain.specs.Shapes.{fields_of, AreTypes}
 use Rattle.xdg_types.specs.declared.table.DimType.{DimType}
 use Rattle.xdg_types.specs.Table.{Typed, AreFeatures, KeepsDim, KeepDims, ArePlaces}
-
--- what holds of each element holds of the one at a place
-pub at_place : {X : Type 0} (All : List X → Type 0) (One : X → Type 0) → ((x : X) (xs : List X) → All (x ∷ xs) → One x × All xs) → (xs : List X) (i : ℕ) (x : X) → All xs → i < length xs → x ≡ get_or xs i x → One x
-at_place All One parts [] i x h within is = absurd (omega (arith, within))
-at_place All One parts (y ∷ xs) zero x h within is = subst One (sym is) (parts y xs h).0
-at_place All One parts (y ∷ xs) (suc i) x h within is = at_place All One parts xs i x (parts y xs h).1 (omega (arith, within)) is
+use Rattle.xdg_facts.proofs.Each.{at_place}
 
 pub keeps_at : (dims : List DimType) (k : ℕ) (dim : DimType) → KeepDims dims → k < length dims → dim ≡ get_or dims k dim → KeepsDim dim
 keeps_at = at_place KeepDims KeepsDim (λ _ _ h. h)

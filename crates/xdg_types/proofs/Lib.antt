@@ -7,7 +7,6 @@ pub mod Made
 pub mod NamesAgain
 pub mod NamesKnown
 pub mod FaultTurns
-pub mod Optional
 pub mod SeenTurns
 pub mod Treed
 pub mod InUse

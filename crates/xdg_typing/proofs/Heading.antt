@@ -2,7 +2,6 @@
 use Rattle.std.proofs.Common.{◌≡◌, ℕ, ◌<◌, ◌+◌, List, [], map, length, get_or, set, slice_index_or, Some, Bor, sym, ◌∙◌, ap, subst, arith}
 use Rattle.std.proofs.lemmas.List.{get_or-map, length-map, map-set}
 use Rattle.xdg_names.proofs.Texts.{place_of-Some}
-use Rattle.xdg_typing.proofs.Turning.{set_next}
 use Rattle.xdg_ast.specs.declared.names.Name.{Name}
 use Rattle.xdg_domain.specs.Shapes.{Shape}
 use Rattle.xdg_names.specs.Texts.{place_of}
@@ -10,6 +9,7 @@ use Rattle.xdg_types.specs.Written.{tree, named}
 use Rattle.xdg_types.specs.Parts.{TypeTerm}
 use Rattle.xdg_types.specs.Meaning.{meaning}
 use Rattle.xdg_typing.specs.Heads.{Agrees, IsDefined, IsRight, NamesFirst, RightBefore}
+use Rattle.xdg_facts.proofs.Each.{set_next}
 
 -- a type that is a name leads where the definition with that name leads
 pub found_right : (names : List ℕ → Shape) (own : List ℕ) (known : List (List ℕ)) (heads : List (Bor TypeTerm)) (body : TypeTerm) (name : Name) (text : List ℕ) (k : ℕ) (head : Bor TypeTerm)

@@ -10,10 +10,10 @@ use Rattle.xdg_types.specs.Parts.{Statement, used_places}
 use Rattle.xdg_types.specs.Kinds.{sites, reaching, IsNinthDimension, SiteOffends, KindOffends}
 use Rattle.xdg_typing.specs.KindFaults.{site_faults, faults_in, ninth_use_faults, all_faults}
 use Rattle.xdg_typing.proofs.KindRows.{all_site}
-use Rattle.xdg_typing.proofs.RecordRows.{at_place, between}
 use Rattle.xdg_typing.proofs.Walked.{joined}
 use Rattle.xdg_facts.specs.Membership.{In}
 use Rattle.xdg_facts.proofs.Parts.{Lists, lists_both, lists_each}
+use Rattle.xdg_facts.proofs.Fronts.{place_between, parts_between}
 
 ninth_use : (found : Option ℕ) (f : Fault) → In (ninth_use_faults found) f → (place : ℕ) × ((found ≡ Some place) × (f ≡ reaching causes.TooWide place 9))
 ninth_use None f h = absurd h
@@ -23,13 +23,13 @@ module _ (names : List ℕ → Shape) (statements : List Statement) where
   ninth_sound : (f : Fault) → In (ninth_use_faults (slice_get (used_places statements) 8)) f → IsNinthDimension statements f
   ninth_sound f h =
       let r = ninth_use (slice_get (used_places statements) 8) f h in
-      let p = between (used_places statements) 8 r.0 r.1.0 in
+      let p = parts_between (used_places statements) 8 r.0 r.1.0 in
       record { before = p.0; ninth = r.0; after = p.1.0; parts = p.1.1.0; eight = p.1.1.1; fault = r.1.1 }
 
   ninth_complete : (f : Fault) → IsNinthDimension statements f → In (ninth_use_faults (slice_get (used_places statements) 8)) f
   ninth_complete f h =
       let is : slice_get (used_places statements) 8 ≡ Some h.ninth =
-      ap (λ ns. slice_get ns 8) h.parts ∙ ap (λ k. slice_get (h.before ++ h.ninth ∷ h.after) k) (sym h.eight) ∙ at_place h.before h.ninth h.after in
+      ap (λ ns. slice_get ns 8) h.parts ∙ ap (λ k. slice_get (h.before ++ h.ninth ∷ h.after) k) (sym h.eight) ∙ place_between h.before h.ninth h.after in
       subst (λ o. In (ninth_use_faults o) f) (sym is) (inl (sym h.fault))
 
   all_kinds : Lists (all_faults names statements) (KindOffends names statements)

@@ -1,7 +1,6 @@
 -- The faults of one type are those of the rules.
-use Rattle.std.proofs.Common.{◌≡◌, ◌⊎◌, inl, inr, ℕ, ◌<◌, ◌-◌, ◌^◌, Bool, true, false, List, ◌++◌, length, refl, sym, subst, append_assoc}
+use Rattle.std.proofs.Common.{◌≡◌, ◌⊎◌, inl, inr, ℕ, ◌<◌, ◌-◌, ◌^◌, List, ◌++◌, length, refl, sym, subst, append_assoc}
 use Rattle.std.specs.Prelude.{min, not, ◌&&◌}
-use Rattle.std.proofs.lemmas.Bool.{true≢false, false≢true}
 use Rattle.xdg_base.specs.Faults.{fault_at}
 use Rattle.xdg_base.specs.declared.faults.Cause.TheVariants as causes
 use Rattle.xdg_base.specs.declared.faults.Fault.{Fault}
@@ -14,16 +13,7 @@ use Rattle.xdg_facts.proofs.Parts.{Lists, lists_as, lists_both, lists_unless}
 use Rattle.xdg_typing.proofs.RecordRows.{above_limit, all_attributes}
 use Rattle.xdg_typing.proofs.SharedRows.{shares_sound, shares_complete}
 use Rattle.xdg_facts.specs.Membership.{In}
-
-not_both : (right fieldless : Bool) → (right && not fieldless) ≡ false → (right ≡ false) ⊎ (fieldless ≡ true)
-not_both false b h = inl refl
-not_both true true h = inr refl
-not_both true false h = absurd (true≢false h)
-
-one_of : (right fieldless : Bool) → (right ≡ false) ⊎ (fieldless ≡ true) → (right && not fieldless) ≡ false
-one_of false b h = refl
-one_of true true h = refl
-one_of true false h = elim h [ inl e ↦ absurd (true≢false e) | inr e ↦ absurd (false≢true e) ]
+use Rattle.xdg_facts.proofs.Truths.{either_off, off_either}
 
 module _ (names : List ℕ → Shape) (site : Site) where
   abbrev count : ℕ
@@ -34,7 +24,7 @@ module _ (names : List ℕ → Shape) (site : Site) where
       let right = is_of_kind site.wanted (meaning names site.written) in
       let fieldless = has_no_field site.written in
       lists_as (lists_unless (right && not fieldless) (fault_at causes.WrongKind site.at))
-      (λ f. (λ r. record { kind = not_both right fieldless r.0; fault = sym r.1 }, λ h. (one_of right fieldless h.kind, sym h.fault)))
+      (λ f. (λ r. record { kind = either_off right fieldless r.0; fault = sym r.1 }, λ h. (off_either right fieldless h.kind, sym h.fault)))
 
   big_sound : (t : Tree) → site.written ≡ t → (f : Fault) → In (big_faults site.at t) f → IsTooBig site f
   big_sound (listed cs) is f h = let r = (above_limit 64 (length cs) (reaching causes.DomainTooBig site.at (length cs))).sound f h in record { constants = cs; is = is; many = r.0; fault = r.1 }

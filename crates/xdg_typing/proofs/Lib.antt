@@ -5,7 +5,6 @@ pub mod Heads
 pub mod GraphUses
 pub mod OneMeaning
 pub mod Ordered
-pub mod Turning
 pub mod Heading
 pub mod Joined
 pub mod Weighed

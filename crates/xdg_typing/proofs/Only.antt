@@ -29,6 +29,7 @@ use Rattle.xdg_types.proofs.Elements.{all_differ}
 use Rattle.xdg_types.proofs.Made.{names_made}
 use Rattle.xdg_facts.specs.Membership.{Differ}
 use Rattle.xdg_ast.specs.Texts.{texts}
+use Rattle.xdg_facts.proofs.Options.{one_value}
 
 -- ---- the dimensions
 
@@ -55,16 +56,13 @@ placed dims apart text k dim there named =
     let len : length (names_in dims) ≡ length dims = length-map dims (λ d. d.name) in
     ap (place_of (names_in dims)) (sym (named_at dims k dim there ∙ named)) ∙ place_of-at (names_in dims) k apart (omega (arith, within, len))
 
-one_place : (o : Option ℕ) (j k : ℕ) → o ≡ Some j → o ≡ Some k → j ≡ k
-one_place o j k e f = cc
-
 one_used : (dims : List DimType) → AllDiffer (names_in dims) → (names : List Name) (js ks : List ℕ) → AreUsed dims names js → AreUsed dims names ks → js ≡ ks
 one_used dims apart [] [] [] h u = refl
 one_used dims apart [] (j ∷ js) ks h u = absurd h
 one_used dims apart (name ∷ names) [] ks h u = absurd h
 one_used dims apart (name ∷ names) (j ∷ js) (k ∷ ks) h u =
     ap₂ (λ z zs. z ∷ zs)
-    (one_place (place_of (names_in dims) name.text) j k
+    (one_value (place_of (names_in dims) name.text) j k
     (placed dims apart name.text j h.0.0 h.0.1.0 h.0.1.1)
     (placed dims apart name.text k u.0.0 u.0.1.0 u.0.1.1))
     (one_used dims apart names js ks h.1 u.1)

@@ -1,8 +1,7 @@
 -- How many tuples a tuple type has, up to the greatest number of 64 bits.
-use Rattle.std.proofs.Common.{◌≡◌, ℕ, zero, suc, ◌<◌, ◌≤◌, ◌+◌, ◌*◌, ltb, List, [], ◌∷◌, length, drop, get_or, refl, sym, ap, ◌∙◌, inl, inr, arith}
+use Rattle.std.proofs.Common.{◌≡◌, ℕ, suc, ◌<◌, ◌≤◌, ◌+◌, ◌*◌, List, [], ◌∷◌, length, drop, get_or, refl, sym, ap, ◌∙◌, arith}
 use Rattle.std.specs.Prelude.{min}
-use Rattle.std.proofs.Math.Nat.{mul_assoc, min-eq_left, min-eq_right, le-mul_of_pos_right}
-use Rattle.std.proofs.lemmas.Bool.{cases_Bool, ltb-true, ltb-false}
+use Rattle.std.proofs.Math.Nat.{min-eq_left}
 use Rattle.std.proofs.lemmas.List.{at_drop_more, drop_all}
 use Rattle.xdg_ast.specs.declared.names.Name.{Name}
 use Rattle.xdg_domain.specs.Shapes.{Shape, constants, sizes, product}
@@ -11,23 +10,7 @@ use Rattle.xdg_types.specs.Parts.{TypeTerm}
 use Rattle.xdg_types.specs.Meaning.{meaning, domains_meaning, as_domain}
 use Rattle.xdg_typing.specs.KindFaults.{trees}
 use Rattle.xdg_ast.specs.Texts.{texts}
-
-past : (m p top : ℕ) → top < m → min (top * p) top ≡ min (m * p) top
-past m zero top h = let e : top * zero ≡ m * zero = omega arith in ap (λ x. min x top) e
-past m (suc p) top h =
-    let a : top ≤ top * suc p = le-mul_of_pos_right top (omega arith) in
-    let b : m ≤ m * suc p = le-mul_of_pos_right m (omega arith) in
-    let c : top ≤ m * suc p = omega arith in
-    min-eq_right a ∙ sym (min-eq_right c)
-
--- to stop at a number, and then to multiply, loses nothing
-pub stop_then : (a n p top : ℕ) → min (min (a * n) top * p) top ≡ min (a * (n * p)) top
-stop_then a n p top = elim (cases_Bool (ltb top (a * n))) [
-  | inl over ↦ (let h : top < a * n = ltb-true top (a * n) over in
-      let k : top ≤ a * n = omega arith in
-      ap (λ m. min (m * p) top) (min-eq_right k) ∙ past (a * n) p top h ∙ ap (λ m. min m top) (mul_assoc a n p))
-  | inr under ↦ (let h : a * n ≤ top = ltb-false top (a * n) under in ap (λ m. min (m * p) top) (min-eq_left h) ∙ ap (λ m. min m top) (mul_assoc a n p))
-]
+use Rattle.xdg_facts.proofs.Capped.{past, stop_then}
 
 pub texts_length : (names : List Name) → length (texts names) ≡ length names
 texts_length [] = refl

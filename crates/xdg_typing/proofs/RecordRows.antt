@@ -1,5 +1,5 @@
 -- What is wrong with a record of attributes is found as the rule says.
-use Rattle.std.proofs.Common.{◌≡◌, ◌<◌, inl, inr, ℕ, zero, suc, ltb, true, List, [], ◌∷◌, ◌++◌, length, Option, None, Some, refl, sym, ap, subst, ◌∙◌}
+use Rattle.std.proofs.Common.{◌≡◌, ◌<◌, inl, inr, ℕ, ltb, true, List, [], ◌∷◌, ◌++◌, Option, None, Some, refl, sym, ap, subst, ◌∙◌}
 use Rattle.std.specs.Prelude.{slice_get, not, if◌then◌else◌}
 use Rattle.std.proofs.lemmas.Bool.{or_cases, or_left, or_right, lt-ltb, ltb-true, true≢false}
 use Rattle.xdg_base.specs.Faults.{fault_at}
@@ -14,16 +14,7 @@ use Rattle.xdg_types.specs.Kinds.{Wanted, the_attributes, Site, is_attribute, re
 use Rattle.xdg_typing.specs.KindFaults.{ninth_name_faults, has_other, named_faults, record_faults, attributes_faults}
 use Rattle.xdg_facts.proofs.Truths.{from_not}
 use Rattle.xdg_facts.specs.Membership.{In}
-
--- what stands at a place stands between others
-pub between : {A : Type 0} (xs : List A) (k : ℕ) (x : A) → slice_get xs k ≡ Some x → (before : List A) × ((after : List A) × ((xs ≡ before ++ x ∷ after) × (length before ≡ k)))
-between [] k x h = absurd cc
-between (y ∷ xs) zero x h = let e : y ≡ x = cc in ([], (xs, (ap (λ z. z ∷ xs) e, refl)))
-between (y ∷ xs) (suc k) x h = let r = between xs k x h in (y ∷ r.0, (r.1.0, (ap (λ ys. y ∷ ys) r.1.1.0, ap suc r.1.1.1)))
-
-pub at_place : {A : Type 0} (before : List A) (x : A) (after : List A) → slice_get (before ++ x ∷ after) (length before) ≡ Some x
-at_place [] x after = refl
-at_place (y ∷ before) x after = at_place before x after
+use Rattle.xdg_facts.proofs.Fronts.{place_between, parts_between}
 
 -- a fault where a limit is passed
 pub above_limit : (limit count : ℕ) (fault : Fault) → Lists (if ltb limit count then fault ∷ [] else []) (λ f. (limit < count) × (f ≡ fault))
@@ -55,11 +46,11 @@ module _ (names : List ℕ → Shape) where
   all_record at (recorded ms) = record {
     sound = λ f h.
         let r = ninth_name (slice_get (member_names ms) 8) f h in
-        let p = between (member_names ms) 8 r.0 r.1.0 in
+        let p = parts_between (member_names ms) 8 r.0 r.1.0 in
         (p.0, (r.0, (p.1.0, (p.1.1.0, (p.1.1.1, r.1.1)))));
     complete = λ f h.
         let is : slice_get (member_names ms) 8 ≡ Some h.1.0 =
-        ap (λ ns. slice_get ns 8) h.1.1.1.0 ∙ ap (λ k. slice_get (h.0 ++ h.1.0 ∷ h.1.1.0) k) (sym h.1.1.1.1.0) ∙ at_place h.0 h.1.0 h.1.1.0 in
+        ap (λ ns. slice_get ns 8) h.1.1.1.0 ∙ ap (λ k. slice_get (h.0 ++ h.1.0 ∷ h.1.1.0) k) (sym h.1.1.1.1.0) ∙ place_between h.0 h.1.0 h.1.1.0 in
         subst (λ o. In (ninth_name_faults o) f) (sym is) (inl (sym h.1.1.1.1.1));
   }
   all_record at (named name) = all_named at (names name.text)

@@ -22,15 +22,16 @@ use Rattle.xdg_types.specs.Table.{Typed, typed, typed_fields, fields_in, first_m
 use Rattle.xdg_typing.specs.Used.{found, places}
 use Rattle.xdg_typing.specs.Branches.{Naming}
 use Rattle.xdg_typing.specs.Right.{AreRight}
-use Rattle.xdg_types.proofs.Elements.{not_more, part_at}
 use Rattle.xdg_types.proofs.Made.{names_in, names_made}
 use Rattle.xdg_types.proofs.NamesKnown.{each_known}
 use Rattle.xdg_typing.proofs.RightTypes.{IsFine, AreFine, AllOnce, HaveTypes, as_type, domain_of, attribute_of, kind_of, right_type, right_attributes}
 use Rattle.xdg_typing.proofs.RightText.{Stands, type_stands, site_fine, differ_once, lists_once, uses_right}
 use Rattle.xdg_facts.specs.Membership.{In, Differ}
 use Rattle.xdg_facts.proofs.Lists.{some_at}
+use Rattle.xdg_facts.proofs.Fronts.{part_at}
 use Rattle.xdg_facts.proofs.In.{in_left, in_right, in_flat_map}
 use Rattle.xdg_ast.specs.Texts.{texts}
+use Rattle.xdg_facts.proofs.Numbers.{not_more}
 
 -- ---- fields
 

@@ -1,7 +1,6 @@
 -- What a written type means is a type as grammars may have it where nothing is wrong with it.
-use Rattle.std.proofs.Common.{◌≡◌, inl, inr, ℕ, ◌*◌, ◌<◌, ◌≤◌, true, false, List, [], ◌∷◌, length, ap, sym, ◌∙◌, refl, subst, arith}
+use Rattle.std.proofs.Common.{◌≡◌, inl, inr, ℕ, ◌<◌, ◌≤◌, true, false, List, [], ◌∷◌, length, ap, sym, ◌∙◌, refl, subst, arith}
 use Rattle.std.specs.Prelude.{◌&&◌}
-use Rattle.std.proofs.Math.Nat.{mul-lt-mul_of_pos_left}
 use Rattle.std.proofs.lemmas.Bool.{cases_Bool, true≢false, false≢true}
 use Rattle.std.proofs.lemmas.List.{length-map}
 use Rattle.xdg_base.specs.Faults.{fault_at}
@@ -14,11 +13,12 @@ use Rattle.xdg_types.specs.Written.{Tree, nothing, listed, recorded, tupled, set
 use Rattle.xdg_types.specs.Meaning.{meaning, domains_meaning, fields_meaning, as_domain}
 use Rattle.xdg_types.specs.Kinds.{Wanted, anything, a_domain, a_small, a_mapped, an_attribute, Site, inside, inside_trees, inside_members, inside_attributes, is_domain, is_small, is_mapped, is_empty_domain, are_domains, has_empty_domain, has_no_tuple, is_attribute, is_of_kind, SiteOffends, Split, SharesAt}
 use Rattle.xdg_typing.specs.Branches.{Naming}
-use Rattle.xdg_types.proofs.Elements.{not_more, among_name, differ_append}
+use Rattle.xdg_types.proofs.Elements.{among_name}
 use Rattle.xdg_facts.proofs.Truths.{from_not, none_or}
 use Rattle.xdg_facts.specs.Membership.{In, Differ}
-use Rattle.xdg_facts.proofs.In.{in_left, in_right, in_append}
+use Rattle.xdg_facts.proofs.In.{in_left, in_right, in_append, differ_append}
 use Rattle.xdg_ast.specs.Texts.{texts}
+use Rattle.xdg_facts.proofs.Numbers.{not_more, both_positive}
 
 -- ---- shapes of the wanted kind
 
@@ -54,9 +54,6 @@ some_constant : (s : Shape) → IsDomain s → is_empty_domain s ≡ false → 0
 some_constant (domain []) h k = absurd (true≢false k)
 some_constant (domain (c ∷ cs)) h k = omega arith
 some_constant other h k = absurd h
-
-both_positive : (m n : ℕ) → 0 < m → 0 < n → 0 < m * n
-both_positive m n h k = omega (arith, mul-lt-mul_of_pos_left {m = 0} {n = n} {k = m} k h)
 
 some_tuple : (ss : Shapes) → AreDomains ss → has_empty_domain ss ≡ false → 0 < product (sizes ss)
 unfolding product

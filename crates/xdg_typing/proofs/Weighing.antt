@@ -2,7 +2,6 @@
 use Rattle.std.proofs.Common.{◌≡◌, ℕ, ◌<◌, ◌+◌, List, [], map, length, get_or, set, slice_index_or, Some, None, Bor, refl, sym, ◌∙◌, ap, subst, arith}
 use Rattle.std.proofs.lemmas.List.{get_or-map, length-map}
 use Rattle.xdg_names.proofs.Texts.{place_of-Some}
-use Rattle.xdg_typing.proofs.Turning.{set_next}
 use Rattle.xdg_domain.specs.Shapes.{Shape}
 use Rattle.xdg_names.specs.Texts.{place_of}
 use Rattle.xdg_types.specs.Written.{tree, uses}
@@ -12,6 +11,7 @@ use Rattle.xdg_typing.specs.Heads.{Agrees}
 use Rattle.xdg_typing.specs.Weights.{weighed, named_weight, looked, weight_of, leaf, UsesFirst, WeighedBefore}
 use Rattle.xdg_typing.proofs.WeightLaws.{weigh_right}
 use Rattle.xdg_facts.specs.Membership.{In}
+use Rattle.xdg_facts.proofs.Each.{set_next}
 
 module _ (names : List ℕ → Shape) (known : List (List ℕ)) (bodies : List TypeTerm) (order : List ℕ) (agrees : Agrees names known bodies) (first : UsesFirst known bodies order)
     (within : (i : ℕ) → i < length order → slice_index_or order i 0 < length bodies) where

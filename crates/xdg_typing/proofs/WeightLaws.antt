@@ -10,14 +10,12 @@ use Rattle.xdg_facts.proofs.Numbers.{below_one}
 use Rattle.xdg_facts.specs.Membership.{In}
 use Rattle.xdg_facts.proofs.In.{in_left, in_right}
 use Rattle.xdg_ast.specs.Texts.{texts}
+use Rattle.xdg_facts.proofs.Capped.{capped_sum}
 
 -- ---- counts that stop
 
-sum_stops : (a b most : ℕ) → min (min a most + min b most) most ≡ min (a + b) most
-sum_stops a b most = omega arith
-
 pub beside_capped : (p q : ℕ) → beside (capped p) (capped q) ≡ capped (p + q)
-beside_capped p q = sum_stops p q (2 ^ 64 - 1)
+beside_capped p q = capped_sum p q (2 ^ 64 - 1)
 
 held_capped : (p : ℕ) → held (capped p) ≡ capped (1 + p)
 held_capped p = below_one p (2 ^ 64 - 1)

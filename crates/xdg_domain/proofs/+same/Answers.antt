@@ -1,7 +1,8 @@
 use Rattle.xdg_domain.specs.declared.values.Value.TheVariants as v
 use Rattle.xdg_domain.specs.declared.values.Value.TheOpen.{Value-F}
-use Rattle.xdg_domain.proofs.Compared.{differ_key, differ_value, made}
+use Rattle.xdg_domain.proofs.Compared.{made}
 use Rattle.xdg_domain.proofs.+same.Goals as goal
+use Rattle.xdg_facts.proofs.Mapped.{differ_key, differ_value}
 
 pub values::Value::equals-returns-in-Valency-Valency : goal.values::Value::equals-returns-in-Valency-Valency
 values::Value::equals-returns-in-Valency-Valency t c =

@@ -1,6 +1,5 @@
 use Rattle.std.proofs.Common.{◌∙◌, refl, sym, subst, arith}
 use Rattle.std.specs.Prelude.{IsSome}
-use Rattle.xdg_split.proofs.Ending.{done_of, failed_of}
 use Rattle.xdg_arrange.specs.Lists.{Listed}
 use Rattle.xdg_arrange.specs.Texts.{AreArranged}
 use Rattle.xdg_arrange.proofs.Closing.{fails_done, fails_spent, leaves_done, leaves_failed, leaves_going, leaves_reached, leaves_spent, spent_searched, whole_searched}
@@ -9,6 +8,7 @@ use Rattle.xdg_arrange.proofs.Going.{goes_first, goes_on, goes_whole}
 use Rattle.xdg_arrange.proofs.Passing.{arranged_said}
 use Rattle.xdg_inputs.specs.Answers.{grammar_in}
 use Rattle.xdg_arrange.proofs.printing.print_arrangements.Goals as goal
+use Rattle.xdg_facts.proofs.Options.{done_of, failed_of}
 
 pub returns-in_default-clause-leaves : goal.returns-in_default-clause-leaves
 returns-in_default-clause-leaves g c =

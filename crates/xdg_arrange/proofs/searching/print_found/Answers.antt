@@ -1,6 +1,5 @@
 use Rattle.std.proofs.Common.{◌∙◌, arith, map, refl, subst, sym}
 use Rattle.std.specs.Prelude.{codes}
-use Rattle.xdg_split.proofs.Ending.{done_of, failed_of}
 use Rattle.xdg_split.proofs.FoundSoFar.{analysis_is}
 use Rattle.xdg_problem.specs.Analyses.{IsAnalysis}
 use Rattle.xdg_text.specs.Lines.{line}
@@ -8,6 +7,7 @@ use Rattle.xdg_text.specs.Words.{word_text}
 use Rattle.xdg_arrange.proofs.Laying.{adds_spent, adds_whole, block_failed, in_range, laid_more, laid_none}
 use Rattle.xdg_stream.proofs.Streaming.{found_fits}
 use Rattle.xdg_arrange.proofs.searching.print_found.Goals as goal
+use Rattle.xdg_facts.proofs.Options.{done_of, failed_of}
 
 pub draw-init : goal.draw-init
 draw-init g c = record {

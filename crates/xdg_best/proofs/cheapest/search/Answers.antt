@@ -1,7 +1,7 @@
 use Rattle.std.proofs.Common.{◌∙◌, sym, true, false}
-use Rattle.xdg_split.proofs.Ending.{done_of, failed_of}
 use Rattle.xdg_best.proofs.Ending.{answer_ends, answer_front, found_fits}
 use Rattle.xdg_best.proofs.cheapest.search.Goals as goal
+use Rattle.xdg_facts.proofs.Options.{done_of, failed_of}
 
 pub write_answer-written-requires : goal.write_answer-written-requires
 write_answer-written-requires g c = found_fits c.args.problem.now c.in-Ok.answer.found c.in-Ok.ensures.answers.solution

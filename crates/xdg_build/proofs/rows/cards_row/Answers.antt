@@ -1,17 +1,18 @@
 use Rattle.std.proofs.Common.{◌+◌, sym, ◌∙◌}
-use Rattle.xdg_build.proofs.Cardinalities.{between, passed, pushed, taken_at_end}
+use Rattle.xdg_build.proofs.Cardinalities.{passed, pushed, taken_at_end}
+use Rattle.xdg_facts.proofs.Members.{members_from}
 use Rattle.xdg_build.proofs.rows.cards_row.Goals as goal
 
 pub loop-number-preserved-then-not-contains : goal.loop-number-preserved-then-not-contains
 loop-number-preserved-then-not-contains c = (
-  passed (c.greatest-end.result + 1) c.loop-number.number c.args.cards.now c.loop-number.numbers.items (between c.least-least.result (c.greatest-end.result + 1) c.args.cards.now)
+  passed (c.greatest-end.result + 1) c.loop-number.number c.args.cards.now c.loop-number.numbers.items (members_from (c.greatest-end.result + 1) c.args.cards.now c.least-least.result)
       c.loop-number-test.true (sym c.if-not-contains.ensures.value) c.loop-number.invariant.0,
   λ _. c.contains.ensures.cards,
 )
 
 pub loop-number-preserved : goal.loop-number-preserved
 loop-number-preserved c = (
-  pushed (c.greatest-end.result + 1) c.loop-number.number c.args.cards.now c.loop-number.numbers.items c.push.new.self.items (between c.least-least.result (c.greatest-end.result + 1) c.args.cards.now)
+  pushed (c.greatest-end.result + 1) c.loop-number.number c.args.cards.now c.loop-number.numbers.items c.push.new.self.items (members_from (c.greatest-end.result + 1) c.args.cards.now c.least-least.result)
       c.loop-number-test.true (sym c.if-not-contains.ensures.value) (cc (c.in_ok-push.ensures.items, c.from.ensures)) c.loop-number.invariant.0,
   λ _. c.contains.ensures.cards,
 )

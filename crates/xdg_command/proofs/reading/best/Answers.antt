@@ -1,9 +1,10 @@
 use Rattle.std.proofs.Common.{refl, sym}
 use Rattle.std.specs.Prelude.{codes}
 use Rattle.xdg_command.specs.Commands.{HasBudget}
-use Rattle.xdg_command.proofs.Commanded.{double, exactly, flag_said, lacking, matched, operand_said, unfit, unread, value_said}
+use Rattle.xdg_command.proofs.Commanded.{exactly, flag_said, lacking, matched, operand_said, unfit, unread, value_said}
 use Rattle.xdg_command.proofs.Meanings.{best_is}
 use Rattle.xdg_command.proofs.reading.best.Goals as goal
+use Rattle.xdg_facts.proofs.Lists.{double}
 
 pub returns-in_default : goal.returns-in_default
 returns-in_default c = unfit best_is (matched best_is _ _ c.in_ok-found.ensures c.in_ok-best.ensures c.in_default.is)

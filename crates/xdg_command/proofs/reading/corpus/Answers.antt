@@ -1,9 +1,10 @@
 use Rattle.std.proofs.Common.{refl, sym}
 use Rattle.std.specs.Prelude.{codes}
 use Rattle.xdg_command.specs.Commands.{HasBudget, HasFirst}
-use Rattle.xdg_command.proofs.Commanded.{exactly, flag_said, lacking, matched, operand_said, single, unfit, unread, value_said}
+use Rattle.xdg_command.proofs.Commanded.{exactly, flag_said, lacking, matched, operand_said, unfit, unread, value_said}
 use Rattle.xdg_command.proofs.Meanings.{corpus_is}
 use Rattle.xdg_command.proofs.reading.corpus.Goals as goal
+use Rattle.xdg_facts.proofs.Lists.{single}
 
 pub returns-in_default : goal.returns-in_default
 returns-in_default c = unfit corpus_is (matched corpus_is _ _ c.in_ok-found.ensures c.in_ok-corpus.ensures c.in_default.is)

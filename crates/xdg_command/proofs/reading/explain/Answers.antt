@@ -1,8 +1,9 @@
 use Rattle.std.proofs.Common.{◌∙◌, refl, sym}
 use Rattle.std.specs.Prelude.{codes}
-use Rattle.xdg_command.proofs.Commanded.{double, exactly, lacking, matched, operand_said, unfit}
+use Rattle.xdg_command.proofs.Commanded.{exactly, lacking, matched, operand_said, unfit}
 use Rattle.xdg_command.proofs.Meanings.{explain_is}
 use Rattle.xdg_command.proofs.reading.explain.Goals as goal
+use Rattle.xdg_facts.proofs.Lists.{double}
 
 pub returns-in_default : goal.returns-in_default
 returns-in_default c = unfit explain_is (matched explain_is _ _ c.in_ok-found.ensures c.in_ok-explain.ensures c.in_default.is)

@@ -1,8 +1,9 @@
 use Rattle.std.proofs.Common.{refl, sym}
 use Rattle.std.specs.Prelude.{codes}
-use Rattle.xdg_command.proofs.Commanded.{exactly, lacking, matched, operand_said, single, unfit}
+use Rattle.xdg_command.proofs.Commanded.{exactly, lacking, matched, operand_said, unfit}
 use Rattle.xdg_command.proofs.Meanings.{file_is}
 use Rattle.xdg_command.proofs.reading.one_file.Goals as goal
+use Rattle.xdg_facts.proofs.Lists.{single}
 
 pub returns-in_default : goal.returns-in_default
 returns-in_default c = unfit file_is (matched file_is _ _ c.in_ok-found.ensures c.in_ok-one_file.ensures c.in_default.is)

@@ -1,9 +1,10 @@
 use Rattle.std.proofs.Common.{◌∙◌, refl, sym}
 use Rattle.std.specs.Prelude.{codes}
 use Rattle.xdg_command.specs.Commands.{HasBudget, HasFirst, HasText}
-use Rattle.xdg_command.proofs.Commanded.{double, exactly, lacking, matched, operand_said, unfit, unread, value_said}
+use Rattle.xdg_command.proofs.Commanded.{exactly, lacking, matched, operand_said, unfit, unread, value_said}
 use Rattle.xdg_command.proofs.Meanings.{resume_is}
 use Rattle.xdg_command.proofs.reading.resume.Goals as goal
+use Rattle.xdg_facts.proofs.Lists.{double}
 
 pub returns-in_default : goal.returns-in_default
 returns-in_default c = unfit resume_is (matched resume_is _ _ c.in_ok-found.ensures c.in_ok-resume.ensures c.in_default.is)

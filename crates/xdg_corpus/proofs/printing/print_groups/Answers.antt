@@ -5,12 +5,12 @@ use Rattle.std.proofs.lemmas.Result.{IfOk-at_ok}
 use Rattle.xdg_build.specs.Stocks.{IsStock}
 use Rattle.xdg_corpus.specs.Groups.{TakesLines}
 use Rattle.xdg_corpus.specs.Outcomes.{AreSearched}
-use Rattle.xdg_split.proofs.Ending.{done_of, failed_of}
 use Rattle.xdg_inputs.specs.Answers.{grammar_in, meaning_of}
 use Rattle.xdg_split.specs.Answers.{IsAnswer}
 use Rattle.xdg_corpus.proofs.Parting.{memory_part}
 use Rattle.xdg_corpus.proofs.Searching.{PrintedSoFar, numbers, printed_all, printed_front, printed_group, printed_none, printed_part, rest_within}
 use Rattle.xdg_corpus.proofs.printing.print_groups.Goals as goal
+use Rattle.xdg_facts.proofs.Options.{done_of, failed_of}
 
 pub returns-in_default-clause-leaves : goal.returns-in_default-clause-leaves
 returns-in_default-clause-leaves g c = memory_part (AreSearched c.args.options.now (meaning_of c.args.expanded.now) c.args.text.now) (g.K.Sink.held c.args.out.now)

@@ -1,5 +1,5 @@
-use Rattle.xdg_domain.proofs.Compared.{differ_key, differ_value}
 use Rattle.xdg_domain.proofs.comparing.same_cards.Goals as goal
+use Rattle.xdg_facts.proofs.Mapped.{differ_key, differ_value}
 
 pub returns-then-one-at : goal.returns-then-one-at
 returns-then-one-at c = differ_key _ _ _ _ _ c.loop-at-test.true c.if-one-at.true

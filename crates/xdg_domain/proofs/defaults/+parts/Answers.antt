@@ -3,9 +3,9 @@ use Rattle.xdg_domain.specs.Shapes.{shape, mapping, fields, count}
 use Rattle.xdg_domain.specs.Defaults.{weight, weights}
 use Rattle.xdg_domain.proofs.Made.{seen}
 use Rattle.xdg_domain.proofs.Shaped.{shape_rec}
-use Rattle.xdg_domain.proofs.Capped.{capped_parts, capped_one}
 use Rattle.xdg_domain.proofs.defaults.+parts.Goals as goal
 use Rattle.xdg_domain.proofs.Opened.{shape_map}
+use Rattle.xdg_facts.proofs.Capped.{capped_parts, capped_one}
 
 pub parts-returns-in-Map : goal.parts-returns-in-Map
 parts-returns-in-Map t c =

@@ -3,8 +3,9 @@ use Rattle.std.proofs.lemmas.Bool.{false≢true}
 use Rattle.xdg_problem.specs.Boxes.{Has, entry_decision}
 use Rattle.xdg_problem.specs.Truths.{says, HasTruth}
 use Rattle.xdg_graph.proofs.Remaining.{entry_end}
-use Rattle.xdg_formula_value.proofs.Told.{alike, differ, has_truth, truth_is}
+use Rattle.xdg_formula_value.proofs.Told.{has_truth, truth_is}
 use Rattle.xdg_formula_value.proofs.atoms.entries_told.Goals as goal
+use Rattle.xdg_facts.proofs.Truths.{alike, differ}
 
 pub returns-then-says-truth-clause-exact : goal.returns-then-says-truth-clause-exact
 returns-then-says-truth-clause-exact c = (λ t. absurd (false≢true t), λ each. absurd (differ c.says.result c.args.truth c.if-says-truth.true (c.says.ensures ∙ truth_is c.args.truth (says c.args.table.now c.args.node.0 c.loop-place.place) (each c.loop-place.place (c.if-not-entry_in.ensures.exact.0 refl)))))

@@ -1,8 +1,9 @@
 use Rattle.xdg_nodeset.specs.Nodes.{without}
 use Rattle.xdg_propcore.specs.Standing.{box_at}
-use Rattle.xdg_formula_value.proofs.Keeping.{fewer_minus, fewer_remove, last_beyond, last_either, last_fewer}
+use Rattle.xdg_formula_value.proofs.Keeping.{last_beyond, last_either, last_fewer}
 use Rattle.xdg_formula_value.proofs.kept.leads.Goals as goal
 use Rattle.xdg_facts.proofs.Rising.{head_in}
+use Rattle.xdg_facts.proofs.Sets.{fewer_minus, fewer_remove}
 
 pub lasting-more-requires-clause-mother : goal.lasting-more-requires-clause-mother
 lasting-more-requires-clause-mother c = (c.loop-turn.invariant.1 c.in-Some.node.0 (head_in c.loop-turn.ahead (without c.loop-turn.ahead c.in-Some.node.0) c.in-Some.node.0 c.in-Some.ensures.value.0)).0

@@ -1,7 +1,7 @@
 use Rattle.xdg_problem.specs.Truths.{stands}
 use Rattle.xdg_formula_value.proofs.Wholes.{several_skip, several_turn, every_told, any_told}
-use Rattle.xdg_formula_value.proofs.Told.{alike, differ}
 use Rattle.xdg_formula_value.proofs.value.+whole.Goals as goal
+use Rattle.xdg_facts.proofs.Truths.{alike, differ}
 
 pub makes_joined-loop-formula-preserved-then-so_far-each : goal.makes_joined-loop-formula-preserved-then-so_far-each
 makes_joined-loop-formula-preserved-then-so_far-each t c = several_skip c.args.store.now.parts c.args.store.now.now c.args.truth (stands c.args.binding.now) c.args.each c.args.formulas.now c.loop-formula.formula-index c.formula-item.result c.loop-formula.so_far c.loop-formula-test.true c.formula-item.is c.loop-formula.invariant (differ c.loop-formula.so_far c.args.each c.if-so_far-each.true)

@@ -2,8 +2,8 @@ use Rattle.std.proofs.Common.{[], get_or, arith, length, ◌≤◌}
 use Rattle.std.proofs.lemmas.Bool.{false≢true}
 use Rattle.std.proofs.lemmas.List.{get_or_default}
 use Rattle.xdg_nodeset.specs.Tables.{Meet}
-use Rattle.xdg_nodeset.proofs.Meetings.{none_more, none_end}
 use Rattle.xdg_judge.proofs.paths.meets.Goals as goal
+use Rattle.xdg_facts.proofs.Meetings.{none_more, none_end}
 
 pub loop-label-preserved : goal.loop-label-preserved
 loop-label-preserved c =

@@ -1,9 +1,10 @@
 use Rattle.std.proofs.Common.{◌<◌, ◌∙◌, length, vec_len, arith, sym, subst}
 use Rattle.xdg_classes.specs.Bodies.{body}
 use Rattle.xdg_lexicon.specs.Frames.{open_in, Leaves}
-use Rattle.xdg_lexicon.proofs.Framed.{begun, ended, is_none, is_some}
+use Rattle.xdg_lexicon.proofs.Framed.{begun, ended}
 use Rattle.xdg_lexicon.proofs.Weighed.{some_weighs}
 use Rattle.xdg_lexicon.proofs.frames.denote.Goals as goal
+use Rattle.xdg_facts.proofs.Numbers.{is_none, is_some}
 
 pub enter-requires : goal.enter-requires
 enter-requires c = record { enters = begun c.args.checked.now (body c.args.whole.now) c.new.result.items (record { bindings = c.new-bindings.result; depth = c.args.depth }) c.new.ensures.items c.new-bindings.ensures c.requires.within c.requires.ranked c.requires.right }

@@ -1,7 +1,7 @@
 use Rattle.std.proofs.Common.{◌<◌, length, subst, arith}
-use Rattle.xdg_names.proofs.Climbs.{is_last}
 use Rattle.xdg_names.proofs.Merging.{IsMerging, merging_starts, merging_goes, merging_ends}
 use Rattle.xdg_names.proofs.walk.merge.Goals as goal
+use Rattle.xdg_facts.proofs.In.{is_last}
 
 pub merge-init : goal.merge-init
 merge-init c = merging_starts _ _ _ c.requires.climb

@@ -1,22 +1,23 @@
 use Rattle.std.proofs.Common.{◌≡◌, false, ◌++◌, sym, arith}
 use Rattle.std.proofs.lemmas.Result.{on_ok_weaker}
 use Rattle.xdg_packed.specs.Spelling as spec
-use Rattle.xdg_packed.proofs.Writing.{cards_from, cards_begin, next_card, card_written, cards_end}
+use Rattle.xdg_packed.proofs.Writing.{cards_begin, card_written, cards_end}
 use Rattle.xdg_packed.proofs.spelling.push_cards.Goals as goal
+use Rattle.xdg_facts.proofs.Members.{members_from, next_member}
 
 pub loop-number-init : goal.loop-number-init
 loop-number-init c = (cards_begin c.args.cards.now c.args.out.now c.least-number.result c.least-number.ensures.below c.least-number.ensures.least, λ h. absurd (omega (arith, h)))
 
 pub loop-number-preserved-then-not-contains : goal.loop-number-preserved-then-not-contains
 loop-number-preserved-then-not-contains c = (
-  next_card (λ l. c.loop-number.out ++ spec.numbers l ≡ c.args.out.now ++ spec.numbers (cards_from 128 c.args.cards.now 0)) 128 c.args.cards.now c.loop-number.number false
+  next_member (λ l. c.loop-number.out ++ spec.numbers l ≡ c.args.out.now ++ spec.numbers (members_from 128 c.args.cards.now 0)) 128 c.args.cards.now c.loop-number.number false
       (omega (arith, c.loop-number-test.true, c.greatest-number-end.ensures.below)) (sym c.if-not-contains.ensures.value) c.loop-number.invariant.0,
   λ h. c.contains.ensures.cards,
 )
 
 pub loop-number-preserved : goal.loop-number-preserved
 loop-number-preserved c = (
-  card_written 128 c.args.cards.now c.loop-number.out c.push_str.new.self c.push_number.new.out (c.args.out.now ++ spec.numbers (cards_from 128 c.args.cards.now 0)) c.loop-number.number
+  card_written 128 c.args.cards.now c.loop-number.out c.push_str.new.self c.push_number.new.out (c.args.out.now ++ spec.numbers (members_from 128 c.args.cards.now 0)) c.loop-number.number
       (omega (arith, c.loop-number-test.true, c.greatest-number-end.ensures.below)) (sym c.if-not-contains.ensures.value) c.in_ok-push_str.ensures.ok (rw (sym c.from.ensures) c.in_ok-push_number.ensures) c.loop-number.invariant.0,
   λ h. c.contains.ensures.cards,
 )

@@ -1,8 +1,8 @@
 use Rattle.std.proofs.Common.{sym, ◌∙◌}
-use Rattle.xdg_nodeset.proofs.TableSets.{both}
 use Rattle.xdg_pagree.proofs.Bringing.{mothers_found}
 use Rattle.xdg_pagree.proofs.mothers.mothers_at.Goals as goal
 use Rattle.xdg_facts.specs.Rises.{has}
+use Rattle.xdg_facts.proofs.Sets.{both}
 
 pub mothers_of-requires-clause-daughters : goal.mothers_of-requires-clause-daughters
 mothers_of-requires-clause-daughters c v there = (c.requires.sentence v).0 ((both (has c.args.touched.now.attrs v) (has c.args.sentence v)).0 (sym (c.meet-daughters.ensures.members v) ∙ there)).1

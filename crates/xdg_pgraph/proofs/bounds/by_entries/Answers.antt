@@ -5,9 +5,9 @@ use Rattle.xdg_rules.specs.Rules.{HasNoneWithin}
 use Rattle.xdg_graph.proofs.Remaining.{entry_end}
 use Rattle.xdg_pgraph.specs.Bounding.{Widens}
 use Rattle.xdg_pgraph.specs.Bundles.{numbers_of}
-use Rattle.xdg_pgraph.proofs.Below.{up_to}
 use Rattle.xdg_pgraph.proofs.Allowed.{tells_next, tells_skip, tells_start}
 use Rattle.xdg_pgraph.proofs.bounds.by_entries.Goals as goal
+use Rattle.xdg_facts.proofs.Numbers.{up_to}
 
 pub entry_in-requires : goal.entry_in-requires
 entry_in-requires c = record {

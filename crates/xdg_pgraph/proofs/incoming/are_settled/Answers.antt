@@ -1,8 +1,9 @@
 use Rattle.std.proofs.Common.{◌∙◌, refl, ap, sym}
 use Rattle.std.specs.Prelude.{nat_lt}
 use Rattle.xdg_facts.proofs.Rising.{tail_in}
-use Rattle.xdg_pgraph.proofs.Sources.{all_settled, counts_settle, next_within, settled_next, settled_start}
+use Rattle.xdg_pgraph.proofs.Sources.{all_settled, counts_settle, settled_next, settled_start}
 use Rattle.xdg_pgraph.proofs.incoming.are_settled.Goals as goal
+use Rattle.xdg_facts.proofs.Sets.{next_within}
 
 pub loop-node-init : goal.loop-node-init
 loop-node-init c = (tt, tt, (λ v h. h), settled_start c.args.store.now.parts c.args.store.now.now c.args.plane.now.dim.0 c.into_iter-node-iterator.result)

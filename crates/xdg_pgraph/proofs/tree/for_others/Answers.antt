@@ -1,12 +1,12 @@
 use Rattle.std.proofs.Common.{◌∙◌, ◌||◌, not, sym}
 use Rattle.xdg_facts.specs.Rises.{has}
-use Rattle.xdg_nodeset.proofs.TableSets.{both}
 use Rattle.xdg_rules.specs.Rules.{may_edges}
 use Rattle.xdg_graph.specs.declared.which.Which.TheVariants as whichs
 use Rattle.xdg_pgraph.proofs.Single.{no_root_left, one_root_left, more_roots_left}
 use Rattle.xdg_pgraph.proofs.Sources.{not_single}
 use Rattle.xdg_pgraph.proofs.Told.{entered_within}
 use Rattle.xdg_pgraph.proofs.tree.for_others.Goals as goal
+use Rattle.xdg_facts.proofs.Sets.{both}
 
 pub only_mother-requires-clause-within : goal.only_mother-requires-clause-within
 only_mother-requires-clause-within c v h =

@@ -1,10 +1,10 @@
 use Rattle.std.proofs.Common.{get_or, arith, length, ◌≤◌}
 use Rattle.std.proofs.lemmas.Bool.{false≢true}
 use Rattle.std.proofs.lemmas.List.{get_or_default}
-use Rattle.xdg_nodeset.proofs.Meetings.{none_more, none_end}
 use Rattle.xdg_rules.specs.Rules.{may_edges}
 use Rattle.xdg_plink.proofs.Leading.{LedBy, led_by}
 use Rattle.xdg_plink.proofs.entries.is_led.Goals as goal
+use Rattle.xdg_facts.proofs.Meetings.{none_more, none_end}
 
 pub loop-label-preserved : goal.loop-label-preserved
 loop-label-preserved c =

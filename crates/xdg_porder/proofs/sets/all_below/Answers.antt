@@ -1,10 +1,11 @@
 use Rattle.std.proofs.Common.{◌≡◌, ◌∙◌, ◌↔◌, ℕ, true, sym, subst}
 use Rattle.xdg_nodeset.specs.Tables.{In}
 use Rattle.xdg_nodeset.specs.Nodes.{IsNodes}
-use Rattle.xdg_porder.proofs.Gathering.{gathers_start, gathers_next, gathers_end, nodes_small, same_set, small_later, both_exact}
+use Rattle.xdg_porder.proofs.Gathering.{nodes_small}
 use Rattle.xdg_facts.proofs.Rising.{head_in}
 use Rattle.xdg_porder.proofs.sets.all_below.Goals as goal
 use Rattle.xdg_facts.specs.Rises.{has}
+use Rattle.xdg_facts.proofs.Gathering.{gathers_start, gathers_next, gathers_end, same_set, small_later, both_exact}
 
 pub loop-node-init : goal.loop-node-init
 loop-node-init c = (tt, tt, nodes_small c.into_iter-node-iterator.result (subst IsNodes (sym (c.into_iter-node-iterator.ensures.into_iter_gives ∙ c.iter-node-items.ensures.value)) c.iter-node-items.ensures.nodes), gathers_start (λ v x. In c.args.table.now v x) c.into_iter-node-iterator.result c.empty-below.result c.empty-below.ensures.value)

@@ -1,6 +1,6 @@
 use Rattle.xdg_nodeset.specs.Tables.{In}
-use Rattle.xdg_porder.proofs.Gathering.{AreSmall, Gathers}
 use Rattle.xdg_porder.proofs.sets.all_below.Given as goal
+use Rattle.xdg_facts.proofs.Gathering.{AreSmall, Gathers}
 
 abbrev pub invariant-loop-node : goal.invariant-loop-node
 invariant-loop-node l =

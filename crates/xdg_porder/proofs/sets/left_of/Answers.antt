@@ -1,7 +1,8 @@
 use Rattle.std.proofs.Common.{sym, ◌∙◌}
 use Rattle.std.specs.Prelude.{◌≤◌}
-use Rattle.xdg_porder.proofs.Bounding.{last_small, left_exact, none_exact}
+use Rattle.xdg_porder.proofs.Bounding.{last_small, left_exact}
 use Rattle.xdg_porder.proofs.sets.left_of.Goals as goal
+use Rattle.xdg_facts.proofs.Sets.{none_exact}
 
 pub up_to-requires : goal.up_to-requires
 up_to-requires c = last_small c.args.ends c.next_back.new.self c.in-Some.end.0 c.iter.ensures.nodes (sym c.iter.ensures.value ∙ c.in-Some.ensures.steps)

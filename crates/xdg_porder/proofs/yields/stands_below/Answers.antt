@@ -1,9 +1,9 @@
 use Rattle.std.proofs.Common.{ℕ}
 use Rattle.xdg_nodeset.specs.Tables.{In}
 use Rattle.xdg_porder.specs.Items.{MayFollow, MayStand}
-use Rattle.xdg_porder.proofs.Gathering.{both_exact}
 use Rattle.xdg_porder.proofs.Settling.{below_of}
 use Rattle.xdg_porder.proofs.yields.stands_below.Goals as goal
+use Rattle.xdg_facts.proofs.Gathering.{both_exact}
 
 pub returns : goal.returns
 returns c = both_exact (MayStand c.args.store.now.parts c.args.group.now c.args.store.now.now c.args.u.0 c.args.label.0)

@@ -2,9 +2,11 @@ use Rattle.std.proofs.Common.{◌≤◌, length, subst, sym, arith, map, List}
 use Rattle.std.proofs.lemmas.Bool.{false≢true}
 use Rattle.xdg_facts.specs.Fits.{Fits}
 use Rattle.xdg_problem.specs.declared.parts.AttrPlan.{AttrPlan}
-use Rattle.xdg_problem.proofs.FitSteps.{wide_enough, left_after, dim_step, dim_refused, refuses, accepts}
+use Rattle.xdg_problem.proofs.FitSteps.{dim_step, dim_refused}
 use Rattle.xdg_problem.proofs.fitting.dim_fits.Goals as goal
 use Rattle.xdg_facts.proofs.Facts.{both_steps}
+use Rattle.xdg_facts.proofs.Numbers.{wide_enough, left_after}
+use Rattle.xdg_facts.proofs.Truths.{refuses, accepts}
 
 pub returns-then-not-node_fits : goal.returns-then-not-node_fits
 returns-then-not-node_fits c =

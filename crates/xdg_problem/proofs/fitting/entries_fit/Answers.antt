@@ -1,8 +1,9 @@
 use Rattle.std.proofs.Common.{get_or, subst, sym, ◌∙◌, ◌≡◌, arith}
 use Rattle.std.specs.Prelude.{Contains}
 use Rattle.std.proofs.lemmas.Bool.{false≢true}
-use Rattle.xdg_problem.proofs.FitSteps.{entries_refused, refuses}
+use Rattle.xdg_problem.proofs.FitSteps.{entries_refused}
 use Rattle.xdg_problem.proofs.fitting.entries_fit.Goals as goal
+use Rattle.xdg_facts.proofs.Truths.{refuses}
 
 pub returns-then-not-is_candidate : goal.returns-then-not-is_candidate
 returns-then-not-is_candidate c =

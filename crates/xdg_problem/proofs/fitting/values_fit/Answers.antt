@@ -1,8 +1,9 @@
 use Rattle.std.proofs.Common.{◌*◌, ap}
 use Rattle.std.proofs.lemmas.Bool.{false≢true}
-use Rattle.xdg_problem.proofs.FitSteps.{values_step, values_refused, refuses, accepts}
+use Rattle.xdg_problem.proofs.FitSteps.{values_step, values_refused}
 use Rattle.xdg_problem.proofs.fitting.values_fit.Goals as goal
 use Rattle.xdg_facts.proofs.Facts.{both_steps}
+use Rattle.xdg_facts.proofs.Truths.{refuses, accepts}
 
 pub returns-then-not-dim_fits : goal.returns-then-not-dim_fits
 returns-then-not-dim_fits c = (

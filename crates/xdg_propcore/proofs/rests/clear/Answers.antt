@@ -1,6 +1,6 @@
 use Rattle.std.proofs.Common.{◌∙◌, None, arith, length-set}
-use Rattle.xdg_propcore.proofs.Holding.{filled_more}
 use Rattle.xdg_propcore.proofs.rests.clear.Goals as goal
+use Rattle.xdg_facts.proofs.Lists.{filled_more}
 
 pub loop-at-preserved : goal.loop-at-preserved
 loop-at-preserved c = record {

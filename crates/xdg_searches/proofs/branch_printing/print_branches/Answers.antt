@@ -1,8 +1,8 @@
 use Rattle.std.proofs.Common.{◌∙◌, subst, sym}
-use Rattle.xdg_split.proofs.Ending.{done_of, failed_of}
 use Rattle.xdg_searches.specs.Branched.{IsBranched}
 use Rattle.xdg_searches.proofs.Branching.{branched_laws, found_fit, written_all, written_front}
 use Rattle.xdg_searches.proofs.branch_printing.print_branches.Goals as goal
+use Rattle.xdg_facts.proofs.Options.{done_of, failed_of}
 
 pub print_found-written-requires : goal.print_found-written-requires
 print_found-written-requires g c = found_fit c.args.problem.now c.parts-parts.ensures.kept c.args.budget c.args.first c.in-Ok.answer.ending c.as_slice.result.now (subst (IsBranched c.args.budget c.args.first c.args.problem.now c.in-Ok.answer.ending) (sym c.as_slice.ensures.value) c.in-Ok.ensures)

@@ -1,9 +1,9 @@
 use Rattle.std.proofs.Common.{◌∙◌, ap, length, sym}
-use Rattle.xdg_split.proofs.Ending.{done_of, failed_of}
 use Rattle.xdg_inputs.specs.Answers.{meaning_of}
 use Rattle.xdg_searches.proofs.Drilled.{drilled_ends, drilled_front}
 use Rattle.xdg_searches.proofs.SearchLeaves.{ends_so, no_fault}
 use Rattle.xdg_searches.proofs.drilling.drill_problem.Goals as goal
+use Rattle.xdg_facts.proofs.Options.{done_of, failed_of}
 
 pub returns-then-is_err-clause-leaves : goal.returns-then-is_err-clause-leaves
 returns-then-is_err-clause-leaves g c =

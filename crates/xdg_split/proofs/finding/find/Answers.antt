@@ -1,7 +1,7 @@
 use Rattle.std.proofs.Common.{◌≡◌, ◌∙◌, length, rules, sym}
-use Rattle.xdg_split.proofs.FoundSoFar.{is_wanted, not_wanted}
 use Rattle.xdg_split.proofs.Collecting.{collected_end, collected_first, collected_more, collected_none, collected_spent}
 use Rattle.xdg_split.proofs.finding.find.Goals as goal
+use Rattle.xdg_facts.proofs.Options.{is_wanted, not_wanted}
 
 pub draw-init : goal.draw-init
 draw-init g c = collected_none c.args.first c.args.stream.now c.new-found.result.items c.requires.some c.requires.begun c.requires.charged c.new-found.ensures.items

@@ -2,9 +2,12 @@ use Rattle.std.proofs.Common.{◌+◌, ◌++◌, [], ◌∷◌, arith, length, l
 use Rattle.xdg_io.specs.Held.{AppendsFront}
 use Rattle.xdg_facts.specs.declared.Ending.TheVariants as endings
 use Rattle.xdg_text.specs.Blocks.{shown}
-use Rattle.xdg_split.proofs.FoundSoFar.{analysis_is, counted_more, first_answered, found_answered, found_more, is_wanted, not_wanted, up_to, written_more}
-use Rattle.xdg_split.proofs.Ending.{block_failed, complete_written, done_of, ended_written, failed_of, spent_written}
+use Rattle.xdg_split.proofs.FoundSoFar.{analysis_is, first_answered, found_answered, found_more, written_more}
+use Rattle.xdg_split.proofs.Ending.{block_failed, complete_written, ended_written, spent_written}
 use Rattle.xdg_split.proofs.printing.print_found.Goals as goal
+use Rattle.xdg_facts.proofs.Lists.{counted_more}
+use Rattle.xdg_facts.proofs.Options.{is_wanted, not_wanted, done_of, failed_of}
+use Rattle.xdg_facts.proofs.Wanted.{wanted_reached}
 
 pub returns-then-is_err-clause-written : goal.returns-then-is_err-clause-written
 returns-then-is_err-clause-written g c other text prints =
@@ -17,7 +20,7 @@ returns-then-is_err-clause-written g c other text prints =
     let failed = failed_of c.write_parts-written.result _ (sym c.is_err.ensures.value ∙ c.if-is_err.true) c.write_parts-written.ensures.front in
     block_failed c.args.form _ c.args.first parts _ f.found new.last (c.draw.count + 1) _ _ _ c.requires.parts
     (found_answered f step)
-    (omega (arith, n)) (up_to c.args.first (length f.found) _ f.below (let l = length-append f.found (new.last ∷ []) in omega (arith, l))) f.written
+    (omega (arith, n)) (wanted_reached c.args.first (length f.found) _ f.below (let l = length-append f.found (new.last ∷ []) in omega (arith, l))) f.written
     (subst (λ z. AppendsFront (g.K.Sink.held c.draw.sink) (g.K.Sink.held c.write_parts-written.new.sink) (shown c.args.form parts (c.draw.count + 1) z)) is failed)
     other text prints
 

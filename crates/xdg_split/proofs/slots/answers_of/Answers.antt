@@ -2,14 +2,14 @@ use Rattle.std.proofs.Common.{None, sym, subst, arith, get_or}
 use Rattle.std.specs.List.{AllZip}
 use Rattle.xdg_split.specs.Answers.{IsAnswer}
 use Rattle.xdg_split.specs.Slots.{Fits}
-use Rattle.xdg_split.proofs.Slotted.{zip_set, zip_at, zip_turn}
 use Rattle.xdg_split.proofs.slots.answers_of.Goals as goal
+use Rattle.xdg_facts.proofs.Zips.{zip_set, zip_turn, zip_at}
 
 pub answer_of-requires : goal.answer_of-requires
 answer_of-requires g c =
     subst (Fits c.index-jobs-place.result) (sym c.exchange-slot.ensures.given)
     (subst (λ job. Fits job (get_or c.loop-place.slots.items c.loop-place.place None)) (sym c.index-jobs-place.is)
-    (zip_at Fits c.args.jobs.now c.loop-place.slots.items c.loop-place.place c.index-jobs-place.result None (omega arith) c.loop-place.invariant.0))
+    (zip_at Fits c.args.jobs.now c.loop-place.slots.items c.loop-place.place c.index-jobs-place.result None c.loop-place.invariant.0 (omega arith)))
 
 pub loop-place-preserved : goal.loop-place-preserved
 loop-place-preserved g c = (

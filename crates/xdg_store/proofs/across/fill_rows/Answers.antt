@@ -1,7 +1,7 @@
 use Rattle.std.proofs.Common.{arith}
 use Rattle.xdg_store.specs.Across.{IsFull, daughter_at, no_mothers}
-use Rattle.xdg_store.proofs.Renewed.{one_set}
 use Rattle.xdg_store.proofs.across.fill_rows.Goals as goal
+use Rattle.xdg_facts.proofs.Lists.{one_set}
 
 pub loop-place-preserved : goal.loop-place-preserved
 loop-place-preserved c =

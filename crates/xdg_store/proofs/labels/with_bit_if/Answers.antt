@@ -1,7 +1,7 @@
 use Rattle.std.specs.Int.{w32}
 use Rattle.std.proofs.lemmas.Nat.Bits.{bit_at_set_other}
-use Rattle.xdg_store.proofs.Labelled.{clear_here, clear_others, set_here}
 use Rattle.xdg_store.proofs.labels.with_bit_if.Goals as goal
+use Rattle.xdg_facts.proofs.Words.{clear_here, clear_others, set_here}
 
 pub returns-then-wanted-clause-here : goal.returns-then-wanted-clause-here
 returns-then-wanted-clause-here c = set_here c.args.word c.args.bit c.args.wanted c.requires c.if-wanted.true

@@ -4,8 +4,9 @@ use Rattle.xdg_facts.proofs.Fitting.{fits_length}
 use Rattle.xdg_stream.specs.Progress.{Progress}
 use Rattle.xdg_stream.specs.Vectors.{vectors}
 use Rattle.xdg_stream.proofs.Progressing.{progress_found, progress_end, progress_spent}
-use Rattle.xdg_stream.proofs.Wanted.{wanted_go_on, wanted_more, vectors_length, vectors_push}
+use Rattle.xdg_stream.proofs.Wanted.{vectors_length, vectors_push}
 use Rattle.xdg_stream.proofs.run.collect.Goals as goal
+use Rattle.xdg_facts.proofs.Wanted.{wanted_go_on, wanted_more}
 
 pub draw-preserved : goal.draw-preserved
 draw-preserved g c =

@@ -2,8 +2,10 @@ use Rattle.std.proofs.Common.{get_or, arith, refl, sym, subst, ◌∙◌, ◌++�
 use Rattle.xdg_facts.specs.Fits.{Fits}
 use Rattle.xdg_stream.proofs.Same.{same_then}
 use Rattle.xdg_stream.proofs.Steps.{taken_stands}
-use Rattle.xdg_stream.proofs.StartPushed.{start_fits, start_more, start_refused, start_done, start_range}
+use Rattle.xdg_stream.proofs.StartPushed.{start_refused, start_done}
 use Rattle.xdg_stream.proofs.search.descend.Goals as goal
+use Rattle.xdg_facts.proofs.Fitting.{start_fits, start_range}
+use Rattle.xdg_facts.proofs.Fronts.{start_more}
 
 pub push-requires-clause-fits : goal.push-requires-clause-fits
 push-requires-clause-fits g c =

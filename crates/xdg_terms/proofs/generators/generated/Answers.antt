@@ -2,10 +2,11 @@ use Rattle.std.proofs.Common.{◌≡◌, ℕ, Bool, sym, ap, ap₂, ◌∙◌, a
 use Rattle.xdg_domain.specs.Shapes.{shape}
 use Rattle.xdg_terms.specs.Built.{texts_at}
 use Rattle.xdg_terms.specs.Means.{chosen, fulfils}
-use Rattle.xdg_terms.proofs.SameMembers.{below_start, below_more, below_same}
+use Rattle.xdg_terms.proofs.SameMembers.{below_start}
 use Rattle.xdg_terms.proofs.Generating.{told_set}
 use Rattle.xdg_terms.proofs.generators.generated.Goals.{then-is_fulfilled+in_ok-push, else-is_fulfilled}
 use Rattle.xdg_terms.proofs.generators.generated.Goals as goal
+use Rattle.xdg_facts.proofs.Turns.{below_more, below_same}
 
 pub loop-number-init : goal.loop-number-init
 loop-number-init c = c.new-numbers.ensures.items ∙ below_start (λ n. fulfils (texts_at (shape c.args.ty.now) n) c.args.generator.now.kind)

@@ -1,9 +1,9 @@
 use Rattle.std.proofs.Common.{ap, ◌∙◌}
-use Rattle.xdg_domain.proofs.Masks.{members_are_cards, none_beyond}
+use Rattle.xdg_domain.proofs.Masks.{members_are_cards}
 use Rattle.std.proofs.Common.{arith}
 use Rattle.xdg_domain.proofs.cards.CardSet.contains.Goals as goal
 use Rattle.xdg_facts.specs.Rises.{has}
-use Rattle.xdg_facts.proofs.BitMembers.{contains_bits}
+use Rattle.xdg_facts.proofs.BitMembers.{contains_bits, none_beyond}
 
 pub returns-then-number-ge128-clause-value : goal.returns-then-number-ge128-clause-value
 returns-then-number-ge128-clause-value c = none_beyond c.self.inside.bits c.args.number (omega (arith, c.if-number-ge128.true)) ∙ ap (λ s. has s c.args.number) c.self.view_is

@@ -1,6 +1,7 @@
 use Rattle.std.proofs.Common.{◌*◌, ◌%◌, ◌^◌}
-use Rattle.xdg_domain.proofs.Masks.{members_are_cards, one_bits, one_within}
+use Rattle.xdg_domain.proofs.Masks.{members_are_cards}
 use Rattle.xdg_domain.proofs.cards.CardSet.one.Goals as goal
+use Rattle.xdg_facts.proofs.BitMembers.{one_bits, one_within}
 
 pub invariant_of-result : goal.invariant_of-result
 invariant_of-result c = one_within c.args.number c.requires

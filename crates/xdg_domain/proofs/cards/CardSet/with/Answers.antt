@@ -1,7 +1,7 @@
 use Rattle.std.proofs.Common.{◌*◌, ◌%◌, ◌^◌, ap, ◌∙◌, bit_or}
 use Rattle.xdg_domain.specs.Cards.{with_card}
-use Rattle.xdg_domain.proofs.Masks.{members_are_cards, with_has, with_within}
-use Rattle.xdg_facts.proofs.BitMembers.{with_bits}
+use Rattle.xdg_domain.proofs.Masks.{members_are_cards, with_has}
+use Rattle.xdg_facts.proofs.BitMembers.{with_bits, with_within}
 use Rattle.xdg_domain.proofs.cards.CardSet.with.Goals as goal
 
 pub invariant_of-result : goal.invariant_of-result

@@ -3,10 +3,10 @@ use Rattle.std.specs.Prelude.{eqb}
 use Rattle.std.specs.List.Sorted.{IsStrictlyIncreasing}
 use Rattle.std.proofs.lemmas.List.Filters.{dedup_is}
 use Rattle.std.proofs.lemmas.Map.Keys.{IsStrictlyIncreasing-dedup}
-use Rattle.xdg_domain.proofs.Sorting.{dedup_has, permuted_has}
 use Rattle.xdg_domain.proofs.sets.SetOf.of.Goals.{After-dedup}
 use Rattle.xdg_domain.proofs.sets.SetOf.of.Goals as goal
 use Rattle.xdg_facts.specs.Rises.{has}
+use Rattle.xdg_facts.proofs.Sorting.{dedup_has, permuted_has}
 
 rises : (c : After-dedup) → IsStrictlyIncreasing c.dedup.new.self.items
 rises c =

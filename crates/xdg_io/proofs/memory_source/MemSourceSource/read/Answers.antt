@@ -1,6 +1,6 @@
 use Rattle.std.proofs.Common.{◌≡◌, ◌<◌, ℕ, length, min, subst, ap, rules}
-use Rattle.xdg_io.proofs.Read.{ends_exactly}
 use Rattle.xdg_io.proofs.memory_source.MemSourceSource.read.Goals as goal
+use Rattle.xdg_facts.proofs.Numbers.{ends_exactly}
 
 pub returns-clause-end : goal.returns-clause-end
 returns-clause-end c =

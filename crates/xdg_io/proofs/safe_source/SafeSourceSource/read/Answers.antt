@@ -1,6 +1,6 @@
 use Rattle.std.proofs.Common.{◌≡◌, length, min, rules}
-use Rattle.xdg_io.proofs.Read.{ends_exactly}
 use Rattle.xdg_io.proofs.safe_source.SafeSourceSource.read.Goals as goal
+use Rattle.xdg_facts.proofs.Numbers.{ends_exactly}
 
 pub returns-clause-end : goal.returns-clause-end
 returns-clause-end c =

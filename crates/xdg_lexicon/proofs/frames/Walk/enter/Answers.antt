@@ -9,12 +9,13 @@ use Rattle.xdg_lexicon.specs.Partial.{ArePartial, IsPartial, SaysRecord, nothing
 use Rattle.xdg_lexicon.specs.Right.{AreRight, IsRightUnder}
 use Rattle.xdg_lexicon.specs.Weights.{heavy, sized, weigh}
 use Rattle.xdg_lexicon.proofs.Denoted.{record_denotes, as_use}
-use Rattle.xdg_lexicon.proofs.Framed.{is_none, is_some, pushed, part_stands, or_parts, and_parts, first_listed, last_joined, nothing_listed, nothing_joined, use_entered, further}
+use Rattle.xdg_lexicon.proofs.Framed.{pushed, part_stands, or_parts, and_parts, first_listed, last_joined, nothing_listed, nothing_joined, use_entered, further}
 use Rattle.xdg_lexicon.proofs.Settled.{record_right}
 use Rattle.xdg_lexicon.proofs.Weighed.{IsLighter, or_lighter, and_lighter, use_lighter}
 use Rattle.xdg_lexicon.proofs.frames.Walk.enter.Goals.{After-dims-dims, Else-is_empty-2}
 use Rattle.xdg_lexicon.proofs.frames.Walk.enter.Goals as goal
 use Rattle.xdg_facts.specs.Membership.{In}
+use Rattle.xdg_facts.proofs.Numbers.{is_none, is_some}
 
 -- the dimensions are those of the table
 dims_are : (c : After-dims-dims) → c.dims-dims.result.now ≡ c.args.checked.now.types.dims

@@ -1,10 +1,11 @@
 use Rattle.std.proofs.Common.{◌≡◌, ◌<◌, length, sym, subst, arith}
 use Rattle.std.proofs.lemmas.List.{get_or_read}
 use Rattle.xdg_names.specs.Leads.{number}
-use Rattle.xdg_names.proofs.Climbs.{is_last, marked_within}
+use Rattle.xdg_names.proofs.Climbs.{marked_within}
 use Rattle.xdg_names.proofs.Leaving.{last_on, last_of_path}
 use Rattle.xdg_names.proofs.walk.Walk.step.Goals as goal
 use Rattle.xdg_facts.specs.Membership.{In}
+use Rattle.xdg_facts.proofs.In.{is_last}
 
 pub index-requires : goal.index-requires
 index-requires c =

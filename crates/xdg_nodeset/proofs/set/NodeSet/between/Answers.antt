@@ -1,6 +1,7 @@
 use Rattle.xdg_nodeset.proofs.Standing.{between_has}
-use Rattle.xdg_nodeset.proofs.Masks.{between_bits, between_rises}
+use Rattle.xdg_nodeset.proofs.Masks.{between_bits}
 use Rattle.xdg_nodeset.proofs.set.NodeSet.between.Goals as goal
+use Rattle.xdg_facts.proofs.BitMembers.{between_rises}
 
 pub overflow_sub-from_low : goal.overflow_sub-from_low
 overflow_sub-from_low c = rw (c.min-low.ensures, c.max-high.ensures) (between_rises c.args.a.0 c.args.b.0 c.requires.0 c.requires.1)

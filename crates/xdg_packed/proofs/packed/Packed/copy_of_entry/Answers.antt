@@ -1,9 +1,10 @@
 use Rattle.std.proofs.Common.{◌<◌, ◌++◌, ◌∷◌, [], get_or, map, length, sym, ap, ap₂, subst, ◌∙◌, arith}
 use Rattle.std.proofs.lemmas.List.{take_all}
 use Rattle.xdg_packed.specs.Tables.{records}
-use Rattle.xdg_packed.proofs.Unpacked.{HoldsDim, holds_packed, read_dim, row_back, map_next}
+use Rattle.xdg_packed.proofs.Unpacked.{HoldsDim, holds_packed, read_dim, row_back}
 use Rattle.xdg_packed.proofs.packed.Packed.copy_of_entry.Goals.{After-table-item}
 use Rattle.xdg_packed.proofs.packed.Packed.copy_of_entry.Goals as goal
+use Rattle.xdg_facts.proofs.Fronts.{map_next}
 
 table : (c : After-table-item) → HoldsDim c.args.self.now.entries c.loop-table.table-index c.table-item.result
 table c =

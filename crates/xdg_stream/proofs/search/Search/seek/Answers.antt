@@ -4,8 +4,9 @@ use Rattle.xdg_facts.proofs.Fitting.{fits_length}
 use Rattle.xdg_stream.specs.Place.{Stands}
 use Rattle.xdg_stream.proofs.Passing.{next_first}
 use Rattle.xdg_stream.proofs.Same.{same_then}
-use Rattle.xdg_stream.proofs.Steps.{back_passes, back_smaller, back_stands, begins_back, begins_taken, finished, grew, push_counts, push_fits, ran_counts, ran_finds, ran_kept, ran_passes, ran_smaller, ran_stands, refused_passes, refused_smaller, stands_room, taken_spent, whole_test}
+use Rattle.xdg_stream.proofs.Steps.{back_passes, back_smaller, back_stands, finished, grew, push_counts, push_fits, ran_counts, ran_finds, ran_kept, ran_passes, ran_smaller, ran_stands, refused_passes, refused_smaller, stands_room, taken_spent, whole_test}
 use Rattle.xdg_stream.proofs.search.Search.seek.Goals as goal
+use Rattle.xdg_facts.proofs.Fronts.{begins_back, begins_taken}
 
 pub candidate-requires : goal.candidate-requires
 candidate-requires g c = stands_room _ _ _ _ _ c.steps.invariant.same c.steps.invariant.stands

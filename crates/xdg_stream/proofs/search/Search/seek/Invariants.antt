@@ -3,8 +3,8 @@ use Rattle.std.specs.Vec.{vec_capacity}
 use Rattle.xdg_stream.specs.Problem.{SameProblem}
 use Rattle.xdg_stream.specs.Place.{place, Next, Stands}
 use Rattle.xdg_stream.proofs.Passing.{Passes}
-use Rattle.xdg_stream.proofs.Measure.{ahead}
 use Rattle.xdg_stream.proofs.search.Search.seek.Given as goal
+use Rattle.xdg_facts.proofs.Measure.{ahead}
 
 abbrev pub invariant-steps : goal.invariant-steps
 invariant-steps g l =

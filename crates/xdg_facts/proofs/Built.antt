@@ -1,6 +1,6 @@
--- Trees that are built alike are the same if what they are built of is.
-use Rattle.std.proofs.Common.{◌≡◌, true, false, sym, ◌∙◌, ap}
-use Rattle.std.specs.Prelude.{◌↔◌, IsTrue, Bool}
+-- Whether two things that are built are the same, part by part.
+use Rattle.std.proofs.Common.{sym, ap, ◌≡◌, ◌∙◌, true, false}
+use Rattle.std.specs.Prelude.{Bool, IsTrue, ◌↔◌}
 
 pub built : {K L : Type 0} (f : K → K) (build : L → K) (part : L → L) → ((x : L) → f (build x) ≡ build (part x)) → ((x y : L) → build x ≡ build y → x ≡ y)
     → (same : Bool) (one other : K) (x y s t : L) → one ≡ build x → other ≡ build y → s ≡ x → t ≡ y → (IsTrue same ↔ (part s ≡ part t)) → IsTrue same ↔ (f one ≡ f other)

@@ -1,15 +1,16 @@
 -- What stands in a list stays there when it is sorted and loses its repetitions.
-use Rattle.std.proofs.Common.{◌≡◌, ℕ, ◌<◌, ◌+◌, zero, suc, List, [], ◌∷◌, ◌++◌, length, get_or, refl, ap, sym, ◌∙◌, arith}
-use Rattle.std.specs.Prelude.{true, eqb, ◌||◌, ◌==◌}
-use Rattle.std.specs.List.{range_with_len, Contains, dedup, list_any}
-use Rattle.std.specs.List.Sorted.{IsStrictlyIncreasing, IsPermutation}
-use Rattle.std.proofs.lemmas.List.Sorted.{IsPermutation-sym, Contains-permutation}
-use Rattle.std.proofs.lemmas.List.Kept.{Contains-dedup_nat, Contains-from_dedup}
+use Rattle.std.proofs.Common.{arith, get_or, ℕ, ◌≡◌, ◌<◌, ◌+◌, zero, suc, ap, [], ◌∷◌, ◌++◌, ◌∙◌, sym, List, length, refl, ◌≤◌}
+use Rattle.std.specs.Prelude.{true, ◌||◌, ◌==◌, eqb}
 use Rattle.std.proofs.lemmas.Bool.{eq-eqb}
-use Rattle.std.proofs.lemmas.List.FromFn.{length-range_with_len, get_or-range_with_len}
+use Rattle.std.proofs.lemmas.List.FromFn.{get_or-range_with_len, length-range_with_len}
+use Rattle.std.proofs.lemmas.List.Kept.{Contains-dedup_nat, Contains-from_dedup}
+use Rattle.std.proofs.lemmas.List.Sorted.{Contains-permutation, IsPermutation-sym}
+use Rattle.std.specs.List.{range_with_len, Contains, dedup, list_any, AllByRecursion}
+use Rattle.std.specs.List.Sorted.{IsStrictlyIncreasing, IsPermutation}
+use Rattle.xdg_facts.proofs.Each.{each_from, each_push}
+use Rattle.xdg_facts.proofs.Rising.{contains_of_has}
 use Rattle.xdg_facts.proofs.Truths.{or_true, same_flag}
 use Rattle.xdg_facts.specs.Rises.{has}
-use Rattle.xdg_facts.proofs.Rising.{contains_of_has}
 
 pub range_rises : (first count : ℕ) → IsStrictlyIncreasing (range_with_len first count)
 range_rises first count k h =
@@ -50,3 +51,19 @@ permuted_has s t n p = same_members t s n (Contains-permutation t s n (IsPermuta
 pub any_has : (s : List ℕ) (n : ℕ) → list_any (λ m. m == n) s ≡ has s n
 any_has [] n = refl
 any_has (m ∷ s) n = ap (λ t. (m == n) || t) (any_has s n)
+
+-- no number is smaller than one before it
+abbrev pub Climbs : List ℕ → Type 0
+Climbs [] = Unit {0}
+Climbs (x ∷ xs) = AllByRecursion (λ y. x ≤ y) xs × Climbs xs
+
+pub climbs_from : (xs : List ℕ) → ((i j : ℕ) → i ≤ j → j < length xs → get_or xs i 0 ≤ get_or xs j 0) → Climbs xs
+climbs_from [] sorted = tt
+climbs_from (x ∷ xs) sorted = (
+  each_from (λ y. x ≤ y) xs (λ k lt. sorted 0 (suc k) (omega arith) (omega arith)),
+  climbs_from xs (λ i j le lt. sorted (suc i) (suc j) (omega arith) (omega arith)),
+)
+
+pub climbs_push : (xs : List ℕ) (x : ℕ) → Climbs xs → AllByRecursion (λ y. y ≤ x) xs → Climbs (xs ++ x ∷ [])
+climbs_push [] x c each = (tt, tt)
+climbs_push (y ∷ ys) x c each = (each_push (λ z. y ≤ z) ys x c.0 each.0, climbs_push ys x c.1 each.1)
