@@ -21,7 +21,7 @@ use Rattle.xdg_inputs.specs.declared.refusals.Refusal.TheVariants as refusals
 use Rattle.xdg_problem.specs.declared.parts.SentenceWord.{SentenceWord}
 use Rattle.xdg_linear.specs.Segments.{words_in}
 use Rattle.xdg_inputs.proofs.Taking.{all_taken, input_rejected, long_rejected, taken_or_not}
-use Rattle.xdg_build.specs.Refusals.{fault}
+use Rattle.xdg_base.specs.Faults.{fault_reaching}
 
 -- ---- an input
 
@@ -63,12 +63,12 @@ taken_within told (Some rest) count input t e =
 
 -- more bytes than a sentence may have are refused
 pub long_stops : (made : Expanded) → HasRightLexicon made → (segment : Bool) (told new : Option (List ℕ)) (before after : ℕ) (stop : ReadStop) (reached : ℕ) (refusal : Refusal)
-    → ((r : ℕ) → stop ≡ stopped.TooLong r → (r ≡ sentence_limit + 1) × TakesCount told new (sentence_limit + 1)) → stop ≡ stopped.TooLong reached → refusal ≡ refusals.Text (fault causes.TooLong 0 reached) (record { line = 1; column = 1 })
+    → ((r : ℕ) → stop ≡ stopped.TooLong r → (r ≡ sentence_limit + 1) × TakesCount told new (sentence_limit + 1)) → stop ≡ stopped.TooLong reached → refusal ≡ refusals.Text (fault_reaching causes.TooLong 0 reached) (record { line = 1; column = 1 })
     → (input : List ℕ) → Stops (told ≡ Some input) before after Listed (IsBadList (meaning_of made) segment input) (HasList (meaning_of made) segment input) refusal
 long_stops made right segment told new before after stop reached refusal takes is says input =
     let long = takes reached is in
-    let refusal_is : refusal ≡ refusals.Text (fault causes.TooLong 0 (sentence_limit + 1)) (record { line = 1; column = 1 }) =
-    says ∙ ap (λ n. refusals.Text (fault causes.TooLong 0 n) (record { line = 1; column = 1 })) long.0 in
+    let refusal_is : refusal ≡ refusals.Text (fault_reaching causes.TooLong 0 (sentence_limit + 1)) (record { line = 1; column = 1 }) =
+    says ∙ ap (λ n. refusals.Text (fault_reaching causes.TooLong 0 n) (record { line = 1; column = 1 })) long.0 in
     subst (Stops (told ≡ Some input) before after Listed (IsBadList (meaning_of made) segment input) (HasList (meaning_of made) segment input)) (sym refusal_is)
     (λ e. long_rejected refusing made right segment input (HasList (meaning_of made) segment input) (list_taken made right segment input) (let some = taken_within told new (sentence_limit + 1) input long.1 e in omega (arith, some)))
 

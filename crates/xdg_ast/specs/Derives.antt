@@ -8,6 +8,7 @@ use Rattle.xdg_ast.specs.declared.grammar.Grammar.{Grammar}
 use Rattle.xdg_ast.specs.Language.{span_of}
 use Rattle.xdg_ast.specs.Grammar.{statements}
 use Rattle.xdg_ast.specs.Brackets.{is_opening, walk}
+use Rattle.xdg_base.specs.Faults.{fault_at}
 
 -- ---- for any texts
 
@@ -68,7 +69,7 @@ pub record IsTooDeepAt {A : Type 0} (means : Family A) (ts : List Lexeme) (place
 
 -- Why tokens are refused, where the text ends at a place.
 pub data IsRefused {A : Type 0} (means : Family A) (ts : List Lexeme) (end : ℕ) : Fault → Type 0 where
-  unexpected : (place : ℕ) → IsUnexpectedAt means ts end place → IsRefused means ts end (record { cause = causes.Unexpected; at = place; reached = 0 })
+  unexpected : (place : ℕ) → IsUnexpectedAt means ts end place → IsRefused means ts end (fault_at causes.Unexpected place)
   too_deep : (place : ℕ) → IsTooDeepAt means ts place → IsRefused means ts end (record { cause = causes.TooDeep; at = place; reached = 65 })
 
 -- the bytes spell tokens that stand for this, with at most 64 brackets open at a time

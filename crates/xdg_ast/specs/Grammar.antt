@@ -25,8 +25,7 @@ use Rattle.xdg_ast.specs.declared.grammar.DimPartKind.{DimPartKind}
 use Rattle.xdg_ast.specs.declared.grammar.DimPartKind.TheVariants as d
 use Rattle.xdg_ast.specs.declared.grammar.StatementKind.{StatementKind}
 use Rattle.xdg_ast.specs.declared.grammar.StatementKind.TheVariants as s
-use Rattle.xdg_ast.specs.Language.{Language, Kinds, is, ◌or◌, Within, full, room, token, nothing, bind, both, either, many, nested, spanned, made, behind, pair}
-use Rattle.xdg_ast.specs.Language.{optional, chain}
+use Rattle.xdg_ast.specs.Language.{Language, Kinds, is, ◌or◌, Within, full, room, token, nothing, bind, both, either, many, nested, spanned, made, behind, pair, optional, chain}
 use Rattle.xdg_base.specs.Texts.{has_text}
 
 abbrev pub Term : Type 0

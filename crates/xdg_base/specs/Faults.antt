@@ -81,3 +81,7 @@ tells_reached _ = false
 -- a fault at a place that tells no number reached
 abbrev pub fault_at : Cause → ℕ → Fault
 fault_at cause place = record { cause = cause; at = place; reached = 0 }
+
+-- a fault at a place that tells how much was reached
+abbrev pub fault_reaching : Cause → ℕ → ℕ → Fault
+fault_reaching cause place reached = record { cause = cause; at = place; reached = reached }

@@ -1,6 +1,5 @@
 -- What stands as a name in a text, and how any other text is quoted.
-use Rattle.std.specs.Prelude.{ℕ, ◌==◌, ◌&&◌, ◌||◌, Bool, false, List, [], ◌∷◌, ◌++◌}
-use Rattle.std.specs.Prelude.{cond, not, codes, ◌≡◌, ◌<◌, Option, Some, None, get_or, length, if◌then◌else◌}
+use Rattle.std.specs.Prelude.{ℕ, ◌==◌, ◌&&◌, ◌||◌, Bool, false, List, [], ◌∷◌, ◌++◌, cond, not, codes, ◌≡◌, ◌<◌, Option, Some, None, get_or, length, if◌then◌else◌}
 use Rattle.std.specs.Char.{is_ascii_alphabetic, is_ascii_alphanumeric}
 use Rattle.std.specs.List.{flat_map, list_all}
 use Rattle.xdg_base.specs.Texts.{has_text}

@@ -15,7 +15,7 @@ use Rattle.xdg_inputs.specs.declared.refusals.Refusal.{Refusal}
 use Rattle.xdg_inputs.proofs.Trees.{first_byte, told_file}
 use Rattle.xdg_problem.specs.Costs.{CostLists}
 use Rattle.xdg_types.specs.Table.{Table}
-use Rattle.xdg_build.specs.Refusals.{fault}
+use Rattle.xdg_base.specs.Faults.{fault_reaching}
 use Rattle.xdg_facts.proofs.Options.{one_value}
 
 module _ (table : Table) (entries : ℕ) where
@@ -53,11 +53,11 @@ module _ (table : Table) (entries : ℕ) where
           let e : ◌≡◌ {A = Result CostLists Fault} (Ok costs) (Err f) = only (Ok costs) (subst (λ z. Says z table entries costs) (one_value (files name) h.text text h.file file) h.says) in cc;
     }
 
-    long_one : (g : Fault) → costs_limit < length text → IsBadCosts table entries text g → g ≡ fault causes.TooLong 0 (costs_limit + 1)
+    long_one : (g : Fault) → costs_limit < length text → IsBadCosts table entries text g → g ≡ fault_reaching causes.TooLong 0 (costs_limit + 1)
     long_one g long (too_long more e) = e
     long_one g long (wrong small u) = absurd (omega (arith, long, small))
 
-    pub long_rejected : costs_limit < length text → RejectsAt CostLists (HasBadCosts files name table entries) (HasCosts files name table entries) (fault causes.TooLong 0 (costs_limit + 1)) (record { line = 1; column = 1 })
+    pub long_rejected : costs_limit < length text → RejectsAt CostLists (HasBadCosts files name table entries) (HasCosts files name table entries) (fault_reaching causes.TooLong 0 (costs_limit + 1)) (record { line = 1; column = 1 })
     long_rejected long = record {
       text = text;
       rejects = record {
@@ -65,7 +65,7 @@ module _ (table : Table) (entries : ℕ) where
         one = λ t g q. let e = one_value (files name) t text q.file file in (e, long_one g long (subst (λ z. IsBadCosts table entries z g) e q.because));
         never = λ costs h. let e = ap length (one_value (files name) h.text text h.file file) in let w = h.within in omega (arith, e, w, long);
       };
-      place_is = first_byte text (fault causes.TooLong 0 (costs_limit + 1)) refl;
+      place_is = first_byte text (fault_reaching causes.TooLong 0 (costs_limit + 1)) refl;
     }
 
   -- ---- what a shelf gives

@@ -5,7 +5,7 @@ use Rattle.xdg_base.specs.declared.faults.Fault.{Fault}
 use Rattle.xdg_best.specs.Texts.{IsRefused, Says}
 use Rattle.xdg_problem.specs.Costs.{CostLists}
 use Rattle.xdg_types.specs.Table.{Table}
-use Rattle.xdg_build.specs.Refusals.{fault}
+use Rattle.xdg_base.specs.Faults.{fault_reaching}
 
 -- how many bytes a costs file may have
 abbrev pub costs_limit : ℕ
@@ -13,7 +13,7 @@ costs_limit = 4194304
 
 -- a text is too long, or else it says no costs
 pub data IsBadCosts (table : Table) (entries : ℕ) (text : List ℕ) (refused : Fault) : Type 0 where
-  too_long : costs_limit < length text → refused ≡ fault causes.TooLong 0 (costs_limit + 1) → IsBadCosts table entries text refused
+  too_long : costs_limit < length text → refused ≡ fault_reaching causes.TooLong 0 (costs_limit + 1) → IsBadCosts table entries text refused
   wrong : length text ≤ costs_limit → IsRefused text table entries refused → IsBadCosts table entries text refused
 
 -- the file of this name is there, and its text is refused

@@ -1,11 +1,12 @@
 -- What formulas say, form by form.
 use Rattle.xdg_facts.proofs.Facts.{both_steps}
-use Rattle.xdg_facts.proofs.Lists.{contains_more}
+use Rattle.xdg_facts.proofs.Lists.{length_more, contains_more}
+use Rattle.xdg_facts.proofs.Contained.{contains_head}
 use Rattle.xdg_facts.proofs.Truths.{none_or}
 use Rattle.std.proofs.Common.{◌≡◌, ◌↔◌, ◌⊎◌, inl, inr, ℕ, zero, suc, ◌<◌, ◌+◌, ◌%◌, Bool, true, false, cond, List, [], ◌∷◌, ◌++◌, length, get_or, refl, sym, ap, ◌∙◌, subst, arith}
 use Rattle.std.specs.Prelude.{◌==◌, Contains, bytes_eq}
 use Rattle.std.proofs.lemmas.Bool.{cases_eq, eq-eqb, ne_eqb}
-use Rattle.std.proofs.lemmas.List.{get_or_append_left, get_or-append-add, length-append}
+use Rattle.std.proofs.lemmas.List.{get_or_append_left, get_or-append-add}
 use Rattle.std.proofs.lemmas.Slice.Eq.{bytes_eq-Decides}
 use Rattle.xdg_ast.specs.declared.names.Name.{Name}
 use Rattle.xdg_packed.specs.Lexicon.{Lexicon}
@@ -122,9 +123,6 @@ module _ (table : Table) (lexicon : Lexicon) (parts : Parts) where
     abbrev n : ℕ
     n = length scope
 
-    one_more : length (scope ++ name.text ∷ []) ≡ length scope + 1
-    one_more = length-append scope (name.text ∷ [])
-
     -- another name of the scope stays what it was
     other : (names : List (List ℕ)) (i : ℕ) → has_text names name.text ≡ false → i < length names → bytes_eq (get_or names i []) name.text ≡ false
     other [] i missing l = absurd (omega (arith, l))
@@ -141,7 +139,7 @@ module _ (table : Table) (lexicon : Lexicon) (parts : Parts) where
           ap (bind b name.text v) here ∙ ap (λ same. cond same v (b name.text)) ((bytes_eq-Decides name.text name.text).1 refl) in
           (stands ∙ sym meant, subst (λ m. m < nodes parts) (sym stands) within)
       | inr earlier ↦
-          let before : i < length scope = omega (arith, l, one_more, earlier) in
+          let before : i < length scope = omega (arith, l, length_more scope name.text, earlier) in
           let here : get_or (scope ++ name.text ∷ []) i [] ≡ get_or scope i [] = get_or_append_left scope (name.text ∷ []) [] i before in
           let stands : bound numbered n v i ≡ numbered i = ap (λ same. cond same v (numbered i)) (ne_eqb i n earlier) in
           let meant : bind b name.text v (get_or (scope ++ name.text ∷ []) i []) ≡ b (get_or scope i []) =
@@ -149,13 +147,10 @@ module _ (table : Table) (lexicon : Lexicon) (parts : Parts) where
           (stands ∙ (agree i before).0 ∙ sym meant, subst (λ m. m < nodes parts) (sym stands) (agree i before).1)
     ]
 
-    head_in : (numbers : List ℕ) → Contains (n ∷ numbers) n
-    head_in numbers = (0, omega arith, refl)
-
     bound_inside : (numbers : List ℕ) → ((i : ℕ) → i < length scope → Contains numbers i) → IsBound (n ∷ numbers) c
     bound_inside numbers each = says.bound (n ∷ numbers) (λ i l. elim (cases_eq i (length scope)) [
-      | inl last ↦ subst (Contains (n ∷ numbers)) (sym last) (head_in numbers)
-      | inr earlier ↦ contains_more n numbers i (each i (omega (arith, l, one_more, earlier)))
+      | inl last ↦ subst (Contains (n ∷ numbers)) (sym last) (contains_head n numbers)
+      | inr earlier ↦ contains_more n numbers i (each i (omega (arith, l, length_more scope name.text, earlier)))
     ])
 
     pub says_every : Says table lexicon parts scope (w.every name at tree) (every n c)

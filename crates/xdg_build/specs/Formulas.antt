@@ -15,8 +15,7 @@ use Rattle.xdg_types.specs.Table.{Table, firsts, typed}
 use Rattle.xdg_build.specs.Readings.{type_at}
 use Rattle.xdg_formula.specs.Tables.{member_shape, no_dim, used_dims}
 use Rattle.xdg_formula.specs.declared.tree.Rule.{Rule}
-use Rattle.xdg_formula.specs.Written.{Tree, negation, conjunction, disjunction, every, any, edge, above, left, same, attr, feat}
-use Rattle.xdg_formula.specs.Written.{Trees, no_tree, tree_then, tree}
+use Rattle.xdg_formula.specs.Written.{Tree, negation, conjunction, disjunction, every, any, edge, above, left, same, attr, feat, Trees, no_tree, tree_then, tree}
 use Rattle.xdg_build.specs.Places.{names_at}
 use Rattle.xdg_build.specs.Signs.{denies}
 use Rattle.xdg_build.specs.Tables.{number_in, table_of}

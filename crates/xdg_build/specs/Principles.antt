@@ -1,6 +1,5 @@
 -- What each principle asks of an analysis, in words of the grammar: the table of principles, line by line.
-use Rattle.std.specs.Prelude.{◌≡◌, ℕ, ◌<◌, ◌≤◌, ◌⊎◌, true, Some, codes}
-use Rattle.std.specs.Prelude.{List, [], ◌∷◌, ◌++◌, length, map, get_or, Contains, All, Any, AllPairs}
+use Rattle.std.specs.Prelude.{◌≡◌, ℕ, ◌<◌, ◌≤◌, ◌⊎◌, true, Some, codes, List, [], ◌∷◌, ◌++◌, length, map, get_or, Contains, All, Any, AllPairs}
 use Rattle.xdg_problem.specs.declared.analysis.Analysis.{Analysis}
 use Rattle.xdg_problem.specs.declared.analysis.Edge.{Edge}
 use Rattle.xdg_problem.specs.declared.parts.Principle.{Principle}
@@ -11,8 +10,7 @@ use Rattle.xdg_problem.specs.Paths.{edges_into, edges_out_of, edges_joining, mot
 use Rattle.xdg_principles.specs.declared.building.Arg.TheVariants as arg
 use Rattle.xdg_principles.specs.declared.building.PrincipleUse.{PrincipleUse}
 use Rattle.xdg_build.specs.Grammars.{Grammar}
-use Rattle.xdg_build.specs.Readings.{IsMember, IsMemberAt, IsAllowedAt, argument, feature_place, attribute_place, label_places}
-use Rattle.xdg_build.specs.Readings.{dimension, label_text, edges_in, OnFeature, value_of}
+use Rattle.xdg_build.specs.Readings.{IsMember, IsMemberAt, IsAllowedAt, argument, feature_place, attribute_place, label_places, dimension, label_text, edges_in, OnFeature, value_of}
 
 -- ---- paths
 

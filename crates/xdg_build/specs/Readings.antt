@@ -1,7 +1,6 @@
 -- What a principle use and an analysis say in words of the grammar: dimensions by their places among all, arguments by their keys,
 -- labels by their names, and values by their constants, as the types of the grammar list them.
-use Rattle.std.specs.Prelude.{◌≡◌, ℕ, ◌+◌, ◌*◌, ◌==◌, cond, bytes_eq, List, [], ◌∷◌, length, filter, get_or, slice_get, Contains}
-use Rattle.std.specs.Prelude.{Option, None, Some, MatchOption}
+use Rattle.std.specs.Prelude.{◌≡◌, ℕ, ◌+◌, ◌*◌, ◌==◌, cond, bytes_eq, List, [], ◌∷◌, length, filter, get_or, slice_get, Contains, Option, None, Some, MatchOption}
 use Rattle.xdg_domain.specs.Shapes.{Shape, domain, tuple, text, set, iset, valency, mapping}
 use Rattle.xdg_domain.specs.Valencies.{said_at}
 use Rattle.xdg_domain.specs.declared.values.Value.{Value, out-Value}

@@ -9,13 +9,11 @@ use Rattle.xdg_base.specs.declared.faults.Stop.TheVariants as stops
 use Rattle.xdg_packed.specs.Lexicon.{Lexicon, words_of, numbers_of}
 use Rattle.xdg_problem.specs.declared.parts.SentenceWord.{SentenceWord}
 use Rattle.xdg_build.specs.Grammars.{Grammar}
-
-abbrev pub fault : Cause → ℕ → ℕ → Fault
-fault cause at reached = record { cause = cause; at = at; reached = reached }
+use Rattle.xdg_base.specs.Faults.{fault_reaching}
 
 -- the fault of a word that has these entries, or what comes behind it
 abbrev pub unknown_or : SentenceWord → List EntryNo → Option Fault → Option Fault
-unknown_or word [] later = Some (fault causes.UnknownWord word.at 0)
+unknown_or word [] later = Some (fault_reaching causes.UnknownWord word.at 0)
 unknown_or word (entry ∷ more) later = later
 
 -- the first word that has no entry in the lexicon
@@ -26,11 +24,11 @@ first_unknown lexicon (word ∷ words) = unknown_or word (numbers_of (words_of l
 -- the word that is one too many where that many may stand, or what else is wrong
 abbrev pub too_many_or : ℕ → Cause → Option SentenceWord → Option Fault → Option Fault
 too_many_or most too_many None other = other
-too_many_or most too_many (Some word) other = Some (fault too_many word.at (most + 1))
+too_many_or most too_many (Some word) other = Some (fault_reaching too_many word.at (most + 1))
 
 -- there are words, at most that many, and each has an entry in the lexicon: the first of these that does not hold
 abbrev pub refusal_within : ℕ → Cause → Lexicon → List SentenceWord → Option Fault
-refusal_within most too_many lexicon [] = Some (fault causes.EmptySentence 0 0)
+refusal_within most too_many lexicon [] = Some (fault_reaching causes.EmptySentence 0 0)
 refusal_within most too_many lexicon (word ∷ words) = too_many_or most too_many (slice_get (word ∷ words) most) (first_unknown lexicon (word ∷ words))
 
 -- the most words that a sentence has

@@ -15,8 +15,7 @@ use Rattle.xdg_types.specs.Table.{Table, firsts}
 use Rattle.xdg_build.specs.Grammars.{Grammar}
 use Rattle.xdg_build.specs.Readings.{IsMember, OnFeature, dimension, edges_in, label_text, value_of, value_texts}
 use Rattle.xdg_formula.specs.declared.tree.Rule.{Rule}
-use Rattle.xdg_formula.specs.Written.{Tree, negation, conjunction, disjunction, every, any, edge, above, left, same, attr, feat}
-use Rattle.xdg_formula.specs.Written.{Trees, no_tree, tree_then, tree}
+use Rattle.xdg_formula.specs.Written.{Tree, negation, conjunction, disjunction, every, any, edge, above, left, same, attr, feat, Trees, no_tree, tree_then, tree}
 use Rattle.xdg_facts.specs.Membership.{In}
 
 -- ---- values

@@ -6,7 +6,8 @@ use Rattle.std.proofs.lemmas.Option.{slice_get-get_or, slice_get-map, slice_get_
 use Rattle.xdg_names.specs.Texts.{place_of}
 use Rattle.xdg_classes.specs.Bodies.{Body, body, Called, calls}
 use Rattle.xdg_check.specs.declared.checked.Class.{Class}
-use Rattle.xdg_check.specs.Counts.{Counting, uses, combos, class_texts, Agrees, capped, AreCounted, bare, kept_by, kept_at, looked_up}
+use Rattle.xdg_check.specs.Counts.{Counting, uses, combos, class_texts, Agrees, AreCounted, bare, kept_by, kept_at, looked_up}
+use Rattle.xdg_facts.specs.Capped.{capped}
 use Rattle.xdg_check.specs.Checked.{IsOrder}
 use Rattle.xdg_check.specs.Filled.{AreFilled}
 use Rattle.xdg_check.proofs.SameCounts.{same_uses, same_combos, uses_stop, combos_stop}

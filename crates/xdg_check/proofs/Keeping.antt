@@ -21,7 +21,8 @@ use Rattle.xdg_classes.specs.Wants.{NamedBody, Wants, at_feature, at_argument, f
 use Rattle.xdg_check.specs.declared.checked.Class.{Class}
 use Rattle.xdg_check.specs.Completed.{completed, bound_by, left_out}
 use Rattle.xdg_check.specs.Answers.{IsClassOf, AreClassesOf}
-use Rattle.xdg_check.specs.Checked.{named_body, named_bodies, IsRight, IsScoped, IsRightRecord, IsRightCall, IsRightBody}
+use Rattle.xdg_check.specs.Checked.{named_body, named_bodies, IsScoped, IsRightRecord, IsRightCall, IsRightBody}
+use Rattle.xdg_terms.specs.Replaced.{IsOpenRight}
 use Rattle.xdg_check.proofs.Binding.{class_of, is_bound, left_pair}
 use Rattle.xdg_check.proofs.Opened.{less_open, wants_stand}
 use Rattle.xdg_classes.proofs.Known.{named_in}
@@ -38,16 +39,16 @@ use Rattle.xdg_facts.proofs.Zips.{zip_second}
 -- the features that are said are there, each is said once, and the terms are right
 pub record IsRightSaid (table : Table) (params : List (List ℕ)) (said : Said) : Type 0 where
   pub once : Differ (texts (keys said.pairs))
-  pub pairs : (pair : Pair Term) → In said.pairs pair → (s : Shape) × ((feature_shape table said.dim.text pair.key.text ≡ Some s) × IsRight params s pair.value)
+  pub pairs : (pair : Pair Term) → In said.pairs pair → (s : Shape) × ((feature_shape table said.dim.text pair.key.text ≡ Some s) × IsOpenRight params s pair.value)
   pub scoped : (pair : Pair Term) → In said.pairs pair → IsScoped params pair.value
 
 pub record RightBodies (statements : List Statement) (table : Table) : Type 0 where
   pub said : (b : Scoped) → In (bodies statements) b → (said : Said) → In (records b.body) said → IsRightSaid table b.params said
   pub called : (b : Scoped) → In (bodies statements) b → (call : Called) → In (calls b.body) call → (pair : Pair Term) → In call.args pair
-      → (s : Shape) → Wants table (w.named_bodies statements) call.name.text pair.key.text s → IsRight b.params s pair.value
+      → (s : Shape) → Wants table (w.named_bodies statements) call.name.text pair.key.text s → IsOpenRight b.params s pair.value
   pub scoped : (b : Scoped) → In (bodies statements) b → (call : Called) → In (calls b.body) call → (pair : Pair Term) → In call.args pair → IsScoped b.params pair.value
   pub presets : (c : ClassDef) → In (classes statements) c → (p : ClassParam) → In c.params p → (t : Term) → p.preset ≡ Some t
-      → (s : Shape) → Wants table (w.named_bodies statements) c.name.text p.name.text s → IsRight [] s t
+      → (s : Shape) → Wants table (w.named_bodies statements) c.name.text p.name.text s → IsOpenRight [] s t
   pub closed : (c : ClassDef) → In (classes statements) c → (p : ClassParam) → In c.params p → (t : Term) → p.preset ≡ Some t → IsScoped [] t
 
 -- ---- features

@@ -4,7 +4,8 @@ use Rattle.std.proofs.lemmas.List.{drop_all}
 use Rattle.xdg_ast.specs.declared.expressions.ExprKind.{ExprKind}
 use Rattle.xdg_classes.specs.Bodies.{Expr, Body, Bodies, no_body, body}
 use Rattle.xdg_classes.proofs.Bodied.{trees}
-use Rattle.xdg_check.specs.Counts.{Counting, combos, product_of_combos, capped}
+use Rattle.xdg_check.specs.Counts.{Counting, combos, product_of_combos}
+use Rattle.xdg_facts.specs.Capped.{capped}
 use Rattle.xdg_facts.proofs.Lists.{from_place}
 use Rattle.xdg_facts.proofs.Numbers.{alone as alone_too}
 use Rattle.xdg_facts.proofs.Capped.{factor_more}

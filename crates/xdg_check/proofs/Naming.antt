@@ -5,7 +5,6 @@ use Rattle.std.proofs.lemmas.List.{length-map, get_or-map}
 use Rattle.std.proofs.lemmas.Option.{slice_get-get_or, get_or_from_slice_get, slice_get_within}
 use Rattle.xdg_names.specs.Texts.{has_text, place_of}
 use Rattle.xdg_names.proofs.Texts.{place_of-Some, place_of-None, place_of-at, None-place_of, has_among, among_has}
-use Rattle.xdg_types.proofs.Elements.{all_differ}
 use Rattle.xdg_classes.specs.Bodies.{Body, body, Called, calls}
 use Rattle.xdg_check.specs.declared.checked.Class.{Class}
 use Rattle.xdg_check.specs.Counts.{Counting, class_texts, Agrees}
@@ -33,7 +32,7 @@ placed cs apart c h =
       record {
         stands = stands;
         within = i.1.0;
-        place = ap (place_of (class_texts cs)) (sym (name_at cs i.0 c stands)) ∙ place_of-at (class_texts cs) i.0 (all_differ (class_texts cs) apart) (omega (arith, len, i.1.0));
+        place = ap (place_of (class_texts cs)) (sym (name_at cs i.0 c stands)) ∙ place_of-at (class_texts cs) i.0 apart (omega (arith, len, i.1.0));
       },
     )
 

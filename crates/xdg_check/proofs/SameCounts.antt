@@ -1,7 +1,8 @@
 -- The counts of a body turn on the classes that it uses alone.
 use Rattle.std.proofs.Common.{◌≡◌, ℕ, ◌+◌, ◌*◌, ◌-◌, ◌^◌, List, refl, ap₂, inl}
 use Rattle.xdg_classes.specs.Bodies.{Body, either, both, saying, calling, Bodies, no_body, body_then, Called, calls, calls_in}
-use Rattle.xdg_check.specs.Counts.{Counting, uses, sum_of_uses, combos, sum_of_combos, product_of_combos, capped}
+use Rattle.xdg_check.specs.Counts.{Counting, uses, sum_of_uses, combos, sum_of_combos, product_of_combos}
+use Rattle.xdg_facts.specs.Capped.{capped}
 use Rattle.xdg_facts.specs.Membership.{In}
 use Rattle.xdg_facts.proofs.In.{in_left, in_right}
 use Rattle.xdg_facts.proofs.Capped.{capped_again, product_stops, sum_stops}

@@ -15,7 +15,8 @@ use Rattle.xdg_classes.specs.Bodies.{Term, Said, records}
 use Rattle.xdg_classes.specs.Definitions.{Scoped, bodies}
 use Rattle.xdg_classes.specs.Offences.{ValueOffends}
 use Rattle.xdg_classes.specs.Wants.{feature_shape}
-use Rattle.xdg_check.specs.Checked.{IsRight, IsScoped}
+use Rattle.xdg_check.specs.Checked.{IsScoped}
+use Rattle.xdg_terms.specs.Replaced.{IsOpenRight}
 use Rattle.xdg_check.proofs.Keeping.{RightBodies}
 use Rattle.xdg_facts.specs.Membership.{In}
 
@@ -27,10 +28,10 @@ scoped_unless free t none name stands = elim (among_or_not free name.text) [
 
 module _ (statements : List Statement) (table : Table) (none : None_of (ValueOffends statements table)) where
   pair_right : (b : Scoped) → In (bodies statements) b → (said : Said) → In (records b.body) said → (pair : Pair Term) → In said.pairs pair
-      → (s : Shape) × ((feature_shape table said.dim.text pair.key.text ≡ Some s) × IsRight b.params s pair.value)
+      → (s : Shape) × ((feature_shape table said.dim.text pair.key.text ≡ Some s) × IsOpenRight b.params s pair.value)
   pair_right b h said i pair j = by (feature_shape table said.dim.text pair.key.text) refl
     where
-      by : (o : Option Shape) → feature_shape table said.dim.text pair.key.text ≡ o → (s : Shape) × ((feature_shape table said.dim.text pair.key.text ≡ Some s) × IsRight b.params s pair.value)
+      by : (o : Option Shape) → feature_shape table said.dim.text pair.key.text ≡ o → (s : Shape) × ((feature_shape table said.dim.text pair.key.text ≡ Some s) × IsOpenRight b.params s pair.value)
       by None e = absurd (none (fault_at causes.UnknownName pair.key.span.start) (inl (record { scoped = b; among = h; said = said; stands = i; pair = pair; has = j; missing = e; fault = refl })))
       by (Some s) e = (s, (e, λ f k. none f (inr (inr (inl (record { scoped = b; among = h; said = said; stands = i; pair = pair; has = j; shape = s; feature = e; offends = k }))))))
 

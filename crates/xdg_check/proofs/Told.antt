@@ -3,7 +3,8 @@ use Rattle.std.proofs.Common.{◌≡◌, ℕ, List, None, Some, refl, sym, ap, s
 use Rattle.xdg_names.specs.Texts.{place_of}
 use Rattle.xdg_classes.specs.Bodies.{Body}
 use Rattle.xdg_check.specs.declared.checked.Class.{Class}
-use Rattle.xdg_check.specs.Counts.{Counting, uses, combos, class_texts, Agrees, capped, AreCounted, kept_by, kept_at, looked_up}
+use Rattle.xdg_check.specs.Counts.{Counting, uses, combos, class_texts, Agrees, AreCounted, kept_by, kept_at, looked_up}
+use Rattle.xdg_facts.specs.Capped.{capped}
 use Rattle.xdg_check.proofs.Naming.{name_of_place, place_within, no_among}
 use Rattle.xdg_check.proofs.SameCounts.{uses_stop, combos_stop}
 use Rattle.xdg_facts.proofs.Lists.{some_at}

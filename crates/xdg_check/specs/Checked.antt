@@ -2,12 +2,10 @@
 use Rattle.std.specs.Prelude.{◌≡◌, ℕ, ◌<◌, List, [], length, map, slice_get, slice_index_or, Some}
 use Rattle.xdg_ast.specs.declared.names.Name.{Name}
 use Rattle.xdg_ast.specs.declared.names.Pair.{Pair}
-use Rattle.xdg_base.specs.declared.faults.Fault.{Fault}
 use Rattle.xdg_domain.specs.Shapes.{Shape}
 use Rattle.xdg_names.specs.Texts.{place_of}
 use Rattle.xdg_types.specs.declared.table.DimType.{DimType}
 use Rattle.xdg_types.specs.Table.{Table, Typed, typed, IsTable}
-use Rattle.xdg_terms.specs.Offences.{OpenOffends}
 use Rattle.xdg_terms.specs.Stray.{tokens}
 use Rattle.xdg_classes.specs.Bodies.{Term, Body, body, Said, Called, records, calls}
 use Rattle.xdg_types.specs.Parts.{keys}
@@ -20,6 +18,7 @@ use Rattle.xdg_check.specs.Counts.{class_texts, uses, combos, AreCounted}
 use Rattle.xdg_check.specs.Lex.{HasLex}
 use Rattle.xdg_facts.specs.Membership.{In, Differ}
 use Rattle.xdg_ast.specs.Texts.{texts}
+use Rattle.xdg_terms.specs.Replaced.{IsOpenRight}
 
 -- ---- what it has
 
@@ -55,15 +54,11 @@ pub record IsBound (cs : List Class) (call : Called) : Type 0 where
 abbrev pub IsScoped : List (List ℕ) → Term → Type 0
 IsScoped params t = (name : Name) → In (tokens t.kind) name → In params name.text
 
--- nothing is wrong with the term where a value of that type is wanted; these parameters may stand in it
-abbrev pub IsRight : List (List ℕ) → Shape → Term → Type 0
-IsRight params s t = (f : Fault) → OpenOffends params s t f → ⊥
-
 -- the key is a feature, and the term is right where its type is wanted
 pub record IsRightPair (features : Typed) (params : List (List ℕ)) (pair : Pair Term) : Type 0 where
   pub type : Shape
   pub has : In features (pair.key.text, type)
-  pub right : IsRight params type pair.value
+  pub right : IsOpenRight params type pair.value
   pub scoped : IsScoped params pair.value
 
 -- the dimension is defined, and its features are said, each once, by terms that are right
@@ -77,7 +72,7 @@ pub record IsRightRecord (table : Table) (params : List (List ℕ)) (said : Said
 -- the use binds what it has to, and each argument is right where any type is wanted that is wanted of its parameter
 pub record IsRightCall (table : Table) (cs : List Class) (params : List (List ℕ)) (call : Called) : Type 0 where
   pub bound : IsBound cs call
-  pub right : (pair : Pair Term) → In call.args pair → (s : Shape) → Wants table (named_bodies cs) call.name.text pair.key.text s → IsRight params s pair.value
+  pub right : (pair : Pair Term) → In call.args pair → (s : Shape) → Wants table (named_bodies cs) call.name.text pair.key.text s → IsOpenRight params s pair.value
   pub scoped : (pair : Pair Term) → In call.args pair → IsScoped params pair.value
 
 -- each record and each use in the body is right, where these parameters may stand

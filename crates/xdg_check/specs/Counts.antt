@@ -1,9 +1,10 @@
 -- How many uses of classes and how many combinations a body has.
-use Rattle.std.specs.Prelude.{◌≡◌, ℕ, ◌+◌, ◌*◌, ◌-◌, ◌^◌, min, List, map, slice_get, Option, None, Some}
+use Rattle.std.specs.Prelude.{◌≡◌, ℕ, ◌+◌, ◌*◌, List, map, slice_get, Option, None, Some}
 use Rattle.xdg_names.specs.Texts.{place_of}
 use Rattle.xdg_classes.specs.Bodies.{Body, either, both, saying, calling, Bodies, no_body, body_then, body}
 use Rattle.xdg_check.specs.declared.checked.Class.{Class}
 use Rattle.xdg_facts.specs.Membership.{In}
+use Rattle.xdg_facts.specs.Capped.{capped}
 
 -- a number for each name of a class
 abbrev pub Counting : Type 0
@@ -46,10 +47,6 @@ class_texts cs = map (λ c. c.name) cs
 pub record Agrees (count : Counting → Body → ℕ) (cs : List Class) (names : Counting) : Type 0 where
   pub defined : (c : Class) → In cs c → names c.name ≡ count names (body c.body.kind)
   pub undefined : (name : List ℕ) → (In (class_texts cs) name → ⊥) → names name ≡ 0
-
--- the number, or the greatest that is kept
-abbrev pub capped : ℕ → ℕ
-capped n = min n (2 ^ 64 - 1)
 
 -- One assignment of counts agrees with all bodies, and the classes keep it.
 pub record AreCounted (count : Counting → Body → ℕ) (kept : Class → ℕ) (cs : List Class) : Type 0 where

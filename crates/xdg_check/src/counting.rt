@@ -3,6 +3,7 @@
 ghost use Rattle.std.specs.Prelude.{◌≡◌};
 ghost use Rattle.xdg_classes.specs.Bodies.{body};
 ghost use Rattle.xdg_check.specs.Counts as spec;
+ghost use Rattle.xdg_facts.specs.Capped.{capped};
 
 use crate::checked::Class;
 use xdg_ast::{Expr, ExprKind};
@@ -36,7 +37,7 @@ pub(crate) fn kept_combos(names: &Index, classes: &[Class], name: &str) -> u64
 
 /// The unfolded uses of classes in an expression, or the greatest `u64`.
 pub(crate) fn uses_in(names: &Index, classes: &[Class], expr: &ExprKind) -> u64
-    ensures { result ≡ spec.capped (spec.uses (spec.looked_up (λ c. c.uses) names.now classes.now) (body expr.now)) }
+    ensures { result ≡ capped (spec.uses (spec.looked_up (λ c. c.uses) names.now classes.now) (body expr.now)) }
 {
     match expr {
         ExprKind::Or(members) => {
@@ -60,7 +61,7 @@ pub(crate) fn uses_in(names: &Index, classes: &[Class], expr: &ExprKind) -> u64
 
 /// The combinations of an expression, or the greatest `u64`.
 pub(crate) fn combos_in(names: &Index, classes: &[Class], expr: &ExprKind) -> u64
-    ensures { result ≡ spec.capped (spec.combos (spec.looked_up (λ c. c.combos) names.now classes.now) (body expr.now)) }
+    ensures { result ≡ capped (spec.combos (spec.looked_up (λ c. c.combos) names.now classes.now) (body expr.now)) }
 {
     match expr {
         ExprKind::Or(members) => {

@@ -3,7 +3,7 @@ use Rattle.std.specs.Prelude.{◌≡◌, ℕ, ◌<◌, ◌≤◌, ◌+◌, List,
 use Rattle.std.specs.Str.{IsValidUpTo}
 use Rattle.xdg_base.specs.declared.faults.Cause.TheVariants as causes
 use Rattle.xdg_base.specs.declared.faults.Fault.{Fault}
-use Rattle.xdg_build.specs.Refusals.{fault}
+use Rattle.xdg_base.specs.Faults.{fault_reaching}
 
 -- how many bytes the input of a corpus may have
 abbrev pub corpus_limit : ℕ
@@ -11,8 +11,8 @@ corpus_limit = 4194304
 
 -- an input is refused: it is too long, or else it isn't UTF-8
 pub data IsNoCorpus (input : List ℕ) (refused : Fault) : Type 0 where
-  too_long : corpus_limit < length input → refused ≡ fault causes.TooLong 0 (corpus_limit + 1) → IsNoCorpus input refused
-  no_text : (at : ℕ) → length input ≤ corpus_limit → (IsUtf8 input → ⊥) → IsValidUpTo input at → refused ≡ fault causes.BadUtf8 at 0 → IsNoCorpus input refused
+  too_long : corpus_limit < length input → refused ≡ fault_reaching causes.TooLong 0 (corpus_limit + 1) → IsNoCorpus input refused
+  no_text : (at : ℕ) → length input ≤ corpus_limit → (IsUtf8 input → ⊥) → IsValidUpTo input at → refused ≡ fault_reaching causes.BadUtf8 at 0 → IsNoCorpus input refused
 
 -- the input is refused
 abbrev pub IsBadCorpus : List ℕ → List ℕ → Fault → Type 0

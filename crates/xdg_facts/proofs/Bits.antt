@@ -96,3 +96,7 @@ joined_high low high n l h above =
     ∙ ap₂ (λ x z. max x (bit_at z n)) (bit_at_above low 64 n l above) (no_wrap high h)
     ∙ zero_max (bit_at (high * 2 ^ 64 + 0) n)
     ∙ bit_at_cat_high high 64 0 n (omega arith) above
+
+-- a word that is zero has no bit
+pub no_bit : (word bit : ℕ) → word ≡ 0 → bit_at word bit ≡ 1 → ⊥
+no_bit word bit e h = (let z = ap (λ w. bit_at w bit) e ∙ bit_at-zero bit in omega (arith, z, h))

@@ -53,9 +53,9 @@ map_contained f (x ∷ xs) n c = elim (contains_cases (f x) (map f xs) n c) [
   | inr there ↦ (let more = map_contained f xs n there in (more.0, contains_more x xs more.0 more.1, more.2))
 ]
 
-pub contains_one : (label l : ℕ) → Contains (label ∷ []) l → l ≡ label
-contains_one label l (zero, m, e) = sym e
-contains_one label l (suc k, m, e) = absurd (omega (arith, m))
+pub contains_one : {X : Type 0} (x y : X) → Contains (x ∷ []) y → y ≡ x
+contains_one x y (zero, m, e) = sym e
+contains_one x y (suc k, m, e) = absurd (omega (arith, m))
 
 pub contains_flat : {X Y : Type 0} (f : X → List Y) (xs : List X) (x : X) (y : Y) → Contains xs x → Contains (f x) y → Contains (flat_map f xs) y
 contains_flat f [] x y c d = absurd (contains_none x c)

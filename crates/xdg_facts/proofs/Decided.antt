@@ -65,12 +65,15 @@ decided_all P (x ∷ xs) each = decided_like (P x × All P xs) (All P (x ∷ xs)
     (λ all. (All-head P x xs all, All-tail P x xs all))
     (decided_both (P x) (All P xs) (each x) (decided_all P xs each))
 
-pub decided_contains : (numbers : List ℕ) (number : ℕ) → Decided (Contains numbers number)
-decided_contains [] number = inr (contains_none number)
-decided_contains (m ∷ numbers) number = elim (cases_eq m number) [
-  | inl e ↦ inl (subst (Contains (m ∷ numbers)) e (contains_head m numbers))
-  | inr other ↦ decided_like (Contains numbers number) (Contains (m ∷ numbers) number) (contains_more m numbers number) (λ c. elim (contains_cases m numbers number c) [ inl e ↦ absurd (other e) | inr later ↦ later ]) (decided_contains numbers number)
+pub decided_among : {X : Type 0} → ((x y : X) → Decided (x ≡ y)) → (xs : List X) (x : X) → Decided (Contains xs x)
+decided_among equal [] x = inr (contains_none x)
+decided_among equal (y ∷ xs) x = elim (equal y x) [
+  | inl e ↦ inl (subst (Contains (y ∷ xs)) e (contains_head y xs))
+  | inr other ↦ decided_like (Contains xs x) (Contains (y ∷ xs) x) (contains_more y xs x) (λ c. elim (contains_cases y xs x c) [ inl e ↦ absurd (other e) | inr later ↦ later ]) (decided_among equal xs x)
 ]
+
+pub decided_contains : (numbers : List ℕ) (number : ℕ) → Decided (Contains numbers number)
+decided_contains = decided_among decided_equal
 
 pub decided_either : (P Q : Type 0) → Decided P → Decided Q → Decided (P ⊎ Q)
 decided_either P Q (inl p) other = inl (inl p)

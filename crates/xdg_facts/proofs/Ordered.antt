@@ -1,6 +1,7 @@
 -- The order is strict and total, and how it goes with extensions.
 use Rattle.std.proofs.Common.{◌≡◌, ℕ, ◌<◌, ◌+◌, ◌⊎◌, inl, inr, List, [], ◌∷◌, ◌++◌, refl, ap, sym, ◌∙◌, arith, subst, zero, suc, length}
 use Rattle.xdg_facts.specs.Order.{Less, AtMost, Past, IsStrictOrder}
+use Rattle.std.proofs.lemmas.List.{append-nil}
 
 pub less_irreflexive : (x : List ℕ) → Less x x → ⊥
 less_irreflexive [] h = h
@@ -83,10 +84,6 @@ some_above x (b ∷ y) l = tt
 abbrev pub Extends : List ℕ → List ℕ → Type 0
 Extends p x = (t : List ℕ) × (x ≡ p ++ t)
 
-append_empty : (p : List ℕ) → p ≡ p ++ []
-append_empty [] = refl
-append_empty (a ∷ p) = ap (λ z. a ∷ z) (append_empty p)
-
 less_cases : (p x : List ℕ) → Less p x → Extends p x ⊎ Past p x
 less_cases [] x h = inl (x, refl)
 less_cases (a ∷ p) [] h = absurd h
@@ -98,7 +95,7 @@ less_cases (a ∷ p) (b ∷ x) (inr h) = elim (less_cases p x h.1) [
 
 -- what does not come before p begins with it or is past it
 pub extends_or_past : (p x : List ℕ) → AtMost p x → Extends p x ⊎ Past p x
-extends_or_past p x (inl e) = inl ([], sym e ∙ append_empty p)
+extends_or_past p x (inl e) = inl ([], sym e ∙ sym (append-nil p))
 extends_or_past p x (inr l) = less_cases p x l
 
 pub less_push : (p : List ℕ) (v : ℕ) → Less p (p ++ v ∷ [])

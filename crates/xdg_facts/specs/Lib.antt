@@ -10,5 +10,7 @@ pub mod Prefixes
 pub mod Examples
 pub mod Membership
 pub mod Rises
+pub mod Capped
+pub mod Flags
 pub mod BitSets
 pub mod Onward

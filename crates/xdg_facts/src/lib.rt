@@ -37,7 +37,7 @@ pub fn compare(first: &[u16], second: &[u16]) -> Ordering
 }
 
 /// Whether a list of numbers goes with the front of a shape: it is no longer, and each number is one of the values of its
-/// decision.
+/// decision. No code calls it: it carries the law that what is decided of such lists has one listing.
 pub fn fits(shape: &[u16], numbers: &[u16]) -> bool
     ensures exact { IsTrue result ↔ Fits shape.now numbers.now }
     // Whatever is tested, what fits and passes the test has one listing from any start.

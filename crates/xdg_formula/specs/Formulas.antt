@@ -13,8 +13,7 @@ use Rattle.xdg_types.specs.declared.table.DimType.{DimType}
 use Rattle.xdg_types.specs.Table.{Table, dim_named}
 use Rattle.xdg_formula.specs.declared.tree.Rule.{Rule}
 use Rattle.xdg_formula.specs.Rules.{RuleTerm}
-use Rattle.xdg_formula.specs.Written.{Tree, negation, conjunction, disjunction, every, any, edge, above, left, same, attr, feat, Trees, no_tree, tree_then}
-use Rattle.xdg_formula.specs.Written.{tree}
+use Rattle.xdg_formula.specs.Written.{Tree, negation, conjunction, disjunction, every, any, edge, above, left, same, attr, feat, Trees, no_tree, tree_then, tree}
 use Rattle.xdg_formula.specs.Tables.{used_dims, type_named, member_shape}
 use Rattle.xdg_names.specs.Texts.{has_text}
 

@@ -12,8 +12,7 @@ use Rattle.xdg_ast.specs.Grammar.{Term, name_of, at_span}
 use Rattle.xdg_formula.specs.declared.tree.Rule.{Rule}
 use Rattle.xdg_formula.specs.declared.tree.RuleKind.{RuleKind}
 use Rattle.xdg_formula.specs.declared.tree.RuleKind.TheVariants as r
-use Rattle.xdg_formula.specs.Words.{rule_word, all_word, some_word, edge_word, above_word, left_word, same_word, attr_word, feat_word, is_name}
-use Rattle.xdg_formula.specs.Words.{is_rule_constant}
+use Rattle.xdg_formula.specs.Words.{rule_word, all_word, some_word, edge_word, above_word, left_word, same_word, attr_word, feat_word, is_name, is_rule_constant}
 
 abbrev pub RuleTerm : Type 0
 RuleTerm = Spanned RuleKind

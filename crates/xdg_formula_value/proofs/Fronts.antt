@@ -10,7 +10,7 @@ use Rattle.xdg_problem.specs.Truths.{bound}
 use Rattle.xdg_rules.specs.Worths.{Makes, MakesEach, MakesSome}
 use Rattle.xdg_formula_value.specs.Rows.{Joined, Over}
 use Rattle.xdg_formula_value.specs.Several.{MakesSeveral}
-use Rattle.xdg_problem.proofs.FormulaFronts.{front_more}
+use Rattle.xdg_facts.proofs.Fronts.{map_next}
 
 -- what the parts of a formula name is there
 pub part_of : (parts : Parts) (fs : List Formula) (i : ℕ) (d : Formula) → i < length fs → EachIsOf parts (claims_of (map claim fs)) → IsOf parts (claim (get_or fs i d))
@@ -42,7 +42,7 @@ module _ (parts : Parts) (box : List (List Bool)) (b : ℕ → ℕ) where
 
   -- the first parts, and one more
   pub several_more : (truth each : Bool) (fs : List Formula) (i : ℕ) (f : Formula) → i < length fs → f ≡ get_or fs i f → Joined each (MakesSeveral each parts box (claims_of (map claim (take i fs))) truth b) (Makes parts box (claim f) truth b) ↔ MakesSeveral each parts box (claims_of (map claim (take (i + 1) fs))) truth b
-  several_more truth each fs i f l is = subst (λ cs. Joined each (MakesSeveral each parts box (claims_of (map claim (take i fs))) truth b) (Makes parts box (claim f) truth b) ↔ MakesSeveral each parts box (claims_of cs) truth b) (sym (front_more fs i f l is)) (several_split each truth (map claim (take i fs)) (claim f))
+  several_more truth each fs i f l is = subst (λ cs. Joined each (MakesSeveral each parts box (claims_of (map claim (take i fs))) truth b) (Makes parts box (claim f) truth b) ↔ MakesSeveral each parts box (claims_of cs) truth b) (sym (map_next claim fs i f l is)) (several_split each truth (map claim (take i fs)) (claim f))
 
   -- no part yet
   pub several_none : (truth each : Bool) → (each ≡ true) ↔ MakesSeveral each parts box none truth b

@@ -8,7 +8,7 @@ use Rattle.xdg_problem.specs.Claims.{Claim, claims_of, claim}
 use Rattle.xdg_formula_value.specs.ClaimKinds.{IsKindOf, SomeKindOf, HasKinds}
 use Rattle.xdg_formula_value.proofs.Fronts.{item_of}
 use Rattle.xdg_facts.proofs.Bits.{or_left_bit, has_right}
-use Rattle.xdg_problem.proofs.FormulaFronts.{front_more}
+use Rattle.xdg_facts.proofs.Fronts.{map_next}
 
 -- a set has the kinds of some claims
 abbrev pub HasEach : List Formula → ℕ → Type 0
@@ -23,7 +23,7 @@ split_kinds (d ∷ cs) c kind k = elim k [
 
 -- one more
 pub each_more : (fs : List Formula) (i : ℕ) (f : Formula) (old here : ℕ) → f ≡ get_or fs i f → i < length fs → HasEach (take i fs) old → HasKinds (claim f) here → HasEach (take (i + 1) fs) (bit_or old here)
-each_more fs i f old here is l before one kind k = elim (split_kinds (map claim (take i fs)) (claim f) kind (subst (λ cs. SomeKindOf (claims_of cs) kind) (front_more fs i f l is) k)) [
+each_more fs i f old here is l before one kind k = elim (split_kinds (map claim (take i fs)) (claim f) kind (subst (λ cs. SomeKindOf (claims_of cs) kind) (map_next claim fs i f l is) k)) [
   | inl front ↦ or_left_bit old here kind (before kind front)
   | inr last ↦ has_right old here kind (one kind last)
 ]

@@ -4,7 +4,7 @@ use Rattle.std.proofs.lemmas.List.{take_all}
 use Rattle.xdg_problem.specs.declared.formula.Formula.{Formula}
 use Rattle.xdg_problem.specs.Claims.{Claim, claims_of, claim}
 use Rattle.xdg_formula_value.specs.Lost.{AsksIf, EachAsksIf}
-use Rattle.xdg_problem.proofs.FormulaFronts.{front_more}
+use Rattle.xdg_facts.proofs.Fronts.{map_next}
 
 module _ (P : Type 0) where
   -- each of some formulas does
@@ -16,7 +16,7 @@ module _ (P : Type 0) where
   each_and (d ∷ cs) c each one = (each.0, each_and cs c each.1 one)
 
   pub asks_more : (fs : List Formula) (i : ℕ) (f : Formula) → f ≡ get_or fs i f → i < length fs → AllAskIf (take i fs) → AsksIf P (claim f) → AllAskIf (take (i + 1) fs)
-  asks_more fs i f is l each one = subst (λ cs. EachAsksIf P (claims_of cs)) (sym (front_more fs i f l is)) (each_and (map claim (take i fs)) (claim f) each one)
+  asks_more fs i f is l each one = subst (λ cs. EachAsksIf P (claims_of cs)) (sym (map_next claim fs i f l is)) (each_and (map claim (take i fs)) (claim f) each one)
 
 -- what a loop over formulas asks for
 pub ruleset each_steps = (take_all, asks_more)

@@ -12,8 +12,7 @@ use Rattle.xdg_problem.specs.declared.parts.Principle.{Principle}
 use Rattle.xdg_problem.specs.declared.parts.Principle.TheVariants as principles
 use Rattle.xdg_problem.specs.Arguments.{first_dim, label_count}
 use Rattle.xdg_problem.specs.Boxes.{Has, IsBox, LiesIn, attr_decision, entry_decision, edge_decision}
-use Rattle.xdg_problem.specs.Claims.{Claim, negation, conjunction, disjunction, every, some, joined, above, left, same, valued, fitting, Claims, none}
-use Rattle.xdg_problem.specs.Claims.{claim_then, claim, IsOf, EachIsOf, Suits}
+use Rattle.xdg_problem.specs.Claims.{Claim, negation, conjunction, disjunction, every, some, joined, above, left, same, valued, fitting, Claims, none, claim_then, claim, IsOf, EachIsOf, Suits}
 use Rattle.xdg_problem.specs.Paths.{Above}
 use Rattle.xdg_problem.specs.Places.{edge, nodes, places}
 use Rattle.xdg_problem.specs.Problems.{IsProblem, IsGroup, IsSuited}

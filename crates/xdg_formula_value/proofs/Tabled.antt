@@ -3,7 +3,7 @@ use Rattle.std.proofs.Common.{◌≡◌, ◌↔◌, ℕ, ◌+◌, ◌<◌, ◌�
 use Rattle.std.specs.Prelude.{slice_index_or, slice_set}
 use Rattle.std.proofs.lemmas.Bool.{cases_eq, false≢true}
 use Rattle.std.proofs.lemmas.List.{get_or-set_same, get_or-set_other}
-use Rattle.xdg_nodeset.specs.Tables.{In}
+use Rattle.xdg_nodeset.specs.Tables.{InTable}
 use Rattle.xdg_problem.specs.Paths.{Above}
 use Rattle.xdg_graph.specs.declared.which.Which.{Which}
 use Rattle.xdg_graph.specs.Edges.{edges_of}
@@ -22,11 +22,11 @@ module _ (way : Way) (which : Which) (s : State) (k : ℕ) (known : List Bool) (
   ]
 
   -- the table of one more
-  pub tells_more : (table : List (List ℕ)) → k < length tables → ((a b : ℕ) → In table a b ↔ Along way (Above (edges_of which s.parts s.now k)) a b) → TellsPaths way which s (k + 1) known (slice_set tables k table)
+  pub tells_more : (table : List (List ℕ)) → k < length tables → ((a b : ℕ) → InTable table a b ↔ Along way (Above (edges_of which s.parts s.now k)) a b) → TellsPaths way which s (k + 1) known (slice_set tables k table)
   tells_more table within is dim l wanted = elim (cases_eq dim k) [
-    | inl same ↦ subst (λ j. (a b : ℕ) → In (slice_index_or (slice_set tables k table) j []) a b ↔ Along way (Above (edges_of which s.parts s.now j)) a b) (sym same)
-        (subst (λ t. (a b : ℕ) → In t a b ↔ Along way (Above (edges_of which s.parts s.now k)) a b) (sym (get_or-set_same tables k table [] within)) is)
-    | inr other ↦ subst (λ t. (a b : ℕ) → In t a b ↔ Along way (Above (edges_of which s.parts s.now dim)) a b) (sym (get_or-set_other tables k dim table [] other)) (before dim (omega (arith, l, other)) wanted)
+    | inl same ↦ subst (λ j. (a b : ℕ) → InTable (slice_index_or (slice_set tables k table) j []) a b ↔ Along way (Above (edges_of which s.parts s.now j)) a b) (sym same)
+        (subst (λ t. (a b : ℕ) → InTable t a b ↔ Along way (Above (edges_of which s.parts s.now k)) a b) (sym (get_or-set_same tables k table [] within)) is)
+    | inr other ↦ subst (λ t. (a b : ℕ) → InTable t a b ↔ Along way (Above (edges_of which s.parts s.now dim)) a b) (sym (get_or-set_other tables k dim table [] other)) (before dim (omega (arith, l, other)) wanted)
   ]
 
 -- a table of one way
@@ -36,7 +36,7 @@ pub tells_all : (way : Way) (which : Which) (s : State) (k : ℕ) (known : List 
 tells_all way which s k known tables past all dim l = all dim (omega (arith, l, past))
 
 -- what a table has for a node
-pub at_node : (way : Way) (which : Which) (s : State) (dim : ℕ) (table : List (List ℕ)) (node : ℕ) (set : List ℕ) → ((a b : ℕ) → In table a b ↔ Along way (Above (edges_of which s.parts s.now dim)) a b) → set ≡ slice_index_or table node [] → (x : ℕ) → (has set x ≡ true) ↔ Along way (Above (edges_of which s.parts s.now dim)) node x
+pub at_node : (way : Way) (which : Which) (s : State) (dim : ℕ) (table : List (List ℕ)) (node : ℕ) (set : List ℕ) → ((a b : ℕ) → InTable table a b ↔ Along way (Above (edges_of which s.parts s.now dim)) a b) → set ≡ slice_index_or table node [] → (x : ℕ) → (has set x ≡ true) ↔ Along way (Above (edges_of which s.parts s.now dim)) node x
 at_node way which s dim table node set exact is x = subst (λ t. (has t x ≡ true) ↔ Along way (Above (edges_of which s.parts s.now dim)) node x) (sym is) (exact node x)
 
 -- the same for edges that are told by a name

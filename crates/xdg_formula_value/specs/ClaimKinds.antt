@@ -1,8 +1,7 @@
 -- The kinds of values at which claims look.
 use Rattle.std.specs.Prelude.{◌≡◌, ◌⊎◌, ℕ}
 use Rattle.std.specs.Int.{bit_at}
-use Rattle.xdg_problem.specs.Claims.{Claim, negation, conjunction, disjunction, every, some, joined, above, left, same, valued, fitting, Claims, none}
-use Rattle.xdg_problem.specs.Claims.{claim_then}
+use Rattle.xdg_problem.specs.Claims.{Claim, negation, conjunction, disjunction, every, some, joined, above, left, same, valued, fitting, Claims, none, claim_then}
 use Rattle.xdg_propcore.specs.Kinds.{entry_kind, attr_kind, edge_kind}
 
 -- a claim looks at values of a kind

@@ -1,6 +1,6 @@
 -- Tables of paths, dimension by dimension.
 use Rattle.std.specs.Prelude.{◌≡◌, ◌↔◌, ℕ, ◌<◌, ◌≤◌, Bool, true, false, List, [], IfSome, slice_index_or}
-use Rattle.xdg_nodeset.specs.Tables.{In}
+use Rattle.xdg_nodeset.specs.Tables.{InTable}
 use Rattle.xdg_problem.specs.Paths.{Above}
 use Rattle.xdg_problem.specs.Places.{nodes}
 use Rattle.xdg_graph.specs.declared.which.Which.{Which}
@@ -18,7 +18,7 @@ use Rattle.xdg_formula_value.specs.declared.way.Way.TheVariants as ways
 abbrev pub TellsPaths : Way → Which → State → ℕ → List Bool → List (List (List ℕ)) → Type 0
 TellsPaths way which s k known tables =
     (dim : ℕ) → dim < k → slice_index_or known dim false ≡ true → (a b : ℕ)
-    → In (slice_index_or tables dim []) a b ↔ Along way (Above (edges_of which s.parts s.now dim)) a b
+    → InTable (slice_index_or tables dim []) a b ↔ Along way (Above (edges_of which s.parts s.now dim)) a b
 
 -- the tables of both kinds of edges do
 pub record AreFilled (way : Way) (s : State) (filled : Filled) : Type 0 where

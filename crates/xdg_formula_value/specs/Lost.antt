@@ -3,8 +3,7 @@ use Rattle.std.specs.Prelude.{◌≡◌, ◌⊎◌, ℕ, ◌<◌, ◌≤◌, Boo
 use Rattle.xdg_problem.specs.declared.analysis.Edge.{Edge}
 use Rattle.xdg_problem.specs.declared.parts.Parts.{Parts}
 use Rattle.xdg_problem.specs.Boxes.{IsBox, LiesIn, May, Must}
-use Rattle.xdg_problem.specs.Claims.{Claim, negation, conjunction, disjunction, every, some, joined, above, left, same, valued, fitting, Claims, none}
-use Rattle.xdg_problem.specs.Claims.{claim_then}
+use Rattle.xdg_problem.specs.Claims.{Claim, negation, conjunction, disjunction, every, some, joined, above, left, same, valued, fitting, Claims, none, claim_then}
 use Rattle.xdg_problem.specs.Paths.{Above}
 use Rattle.xdg_problem.specs.Places.{nodes}
 use Rattle.xdg_problem.specs.Truths.{bound, unbound, AreNodes}

@@ -1,7 +1,7 @@
 //! The nodes of a sentence, and the paths in a box on the dimensions of which they are asked for often.
 
 ghost use Rattle.std.specs.Prelude.{◌≡◌, ◌<◌, ◌↔◌, ℕ, true, IfSome, IsTrue};
-ghost use Rattle.xdg_nodeset.specs.Tables.{In};
+ghost use Rattle.xdg_nodeset.specs.Tables.{InTable};
 ghost use Rattle.xdg_facts.specs.Rises.{has};
 ghost use Rattle.xdg_problem.specs.Places.{nodes};
 ghost use Rattle.xdg_problem.specs.Paths.{Above};
@@ -71,7 +71,7 @@ fn note(formula: &Formula, dims: &mut [bool; 8]) {
 
 /// For each node those to which paths lead, one way.
 fn table(store: &Store, way: Way, which: Which, dim: DimId) -> [NodeSet; 128]
-    ensures { (a b : ℕ) → In result a b ↔ Along way (Above (edges_of which store.now.parts store.now.now dim.0)) a b }
+    ensures { (a b : ℕ) → InTable result a b ↔ Along way (Above (edges_of which store.now.parts store.now.now dim.0)) a b }
 {
     match way {
         Way::Down => above(store, which, dim),

@@ -3,7 +3,7 @@ use Rattle.std.proofs.Common.{◌≡◌, ℕ, ◌<◌, ◌≤◌, ◌+◌, ◌�
 use Rattle.std.proofs.lemmas.Bool.{cases_eq}
 use Rattle.xdg_facts.specs.Rises.{has}
 use Rattle.xdg_facts.proofs.Rising.{head_in, head_or_tail, no_member, tail_in}
-use Rattle.xdg_nodeset.specs.Tables.{In}
+use Rattle.xdg_nodeset.specs.Tables.{InTable}
 use Rattle.xdg_problem.specs.declared.parts.Parts.{Parts}
 use Rattle.xdg_problem.specs.Boxes.{IsBox}
 use Rattle.xdg_problem.specs.Paths.{IsDaughter}
@@ -18,12 +18,12 @@ use Rattle.xdg_graph.proofs.Edges.{which_exact}
 
 -- a table, and what the nodes still to come add to it, is another, and what all of them add
 abbrev pub Adds : List ℕ → List ℕ → ℕ → List (List ℕ) → List (List ℕ) → Type 0
-Adds first left to old new = (a b : ℕ) → (In new a b ⊎ ((has left a ≡ true) × (to ≡ b))) ↔ (In old a b ⊎ ((has first a ≡ true) × (to ≡ b)))
+Adds first left to old new = (a b : ℕ) → (InTable new a b ⊎ ((has left a ≡ true) × (to ≡ b))) ↔ (InTable old a b ⊎ ((has first a ≡ true) × (to ≡ b)))
 
 pub adds_start : (first items left : List ℕ) (to : ℕ) (table : List (List ℕ)) → items ≡ first → left ≡ items → Adds first left to table table
 adds_start first items left to table same at = subst (λ s. Adds first s to table table) (sym (at ∙ same)) (λ a b. (λ h. h, λ h. h))
 
-pub adds_next : (first left rest : List ℕ) (v to : ℕ) (old mid new : List (List ℕ)) → left ≡ v ∷ rest → ((a b : ℕ) → In new a b ↔ (In mid a b ⊎ ((v ≡ a) × (to ≡ b)))) → Adds first left to old mid → Adds first rest to old new
+pub adds_next : (first left rest : List ℕ) (v to : ℕ) (old mid new : List (List ℕ)) → left ≡ v ∷ rest → ((a b : ℕ) → InTable new a b ↔ (InTable mid a b ⊎ ((v ≡ a) × (to ≡ b)))) → Adds first left to old mid → Adds first rest to old new
 adds_next first left rest v to old mid new is step so_far a b = (
   λ h. elim h [
     | inl there ↦ elim ((step a b).0 there) [
@@ -41,7 +41,7 @@ adds_next first left rest v to old mid new is step so_far a b = (
   ],
 )
 
-pub adds_end : (first left : List ℕ) (to : ℕ) (old new : List (List ℕ)) → left ≡ [] → Adds first left to old new → (a b : ℕ) → In new a b ↔ (In old a b ⊎ ((has first a ≡ true) × (to ≡ b)))
+pub adds_end : (first left : List ℕ) (to : ℕ) (old new : List (List ℕ)) → left ≡ [] → Adds first left to old new → (a b : ℕ) → InTable new a b ↔ (InTable old a b ⊎ ((has first a ≡ true) × (to ≡ b)))
 adds_end first left to old new is all a b = (
   λ h. (all a b).0 (inl h),
   λ h. elim ((all a b).1 h) [ inl there ↦ there | inr (more, at) ↦ absurd (no_member left a is more) ],
@@ -51,12 +51,12 @@ adds_end first left to old new is all a b = (
 
 -- a table leads to the first nodes, from where a relation does
 abbrev pub LeadsBelow : (ℕ → ℕ → Type 0) → ℕ → List (List ℕ) → Type 0
-LeadsBelow leads k table = (a b : ℕ) → In table a b ↔ (leads a b × (b < k))
+LeadsBelow leads k table = (a b : ℕ) → InTable table a b ↔ (leads a b × (b < k))
 
 pub below_none : (leads : ℕ → ℕ → Type 0) (table : List (List ℕ)) → IsBlank table → LeadsBelow leads 0 table
 below_none leads table blank a b = (λ h. absurd (blank a b h), λ h. absurd (let l = h.1 in omega (arith, l)))
 
-pub below_more : (leads : ℕ → ℕ → Type 0) (k : ℕ) (mothers : List ℕ) (old new : List (List ℕ)) → ((x : ℕ) → IsTrue (has mothers x) ↔ leads x k) → ((a b : ℕ) → In new a b ↔ (In old a b ⊎ ((has mothers a ≡ true) × (k ≡ b)))) → LeadsBelow leads k old → LeadsBelow leads (k + 1) new
+pub below_more : (leads : ℕ → ℕ → Type 0) (k : ℕ) (mothers : List ℕ) (old new : List (List ℕ)) → ((x : ℕ) → IsTrue (has mothers x) ↔ leads x k) → ((a b : ℕ) → InTable new a b ↔ (InTable old a b ⊎ ((has mothers a ≡ true) × (k ≡ b)))) → LeadsBelow leads k old → LeadsBelow leads (k + 1) new
 below_more leads k mothers old new exact step so_far a b = (
   λ h. elim ((step a b).0 h) [
     | inl earlier ↦ (let p = (so_far a b).0 earlier in (p.0, (let l = p.1 in omega (arith, l))))
@@ -69,7 +69,7 @@ below_more leads k mothers old new exact step so_far a b = (
 )
 
 -- where nothing is added
-pub blank_none : (leads : ℕ → ℕ → Type 0) (table : List (List ℕ)) → IsBlank table → ((a b : ℕ) → leads a b → ⊥) → (a b : ℕ) → In table a b ↔ leads a b
+pub blank_none : (leads : ℕ → ℕ → Type 0) (table : List (List ℕ)) → IsBlank table → ((a b : ℕ) → leads a b → ⊥) → (a b : ℕ) → InTable table a b ↔ leads a b
 blank_none leads table blank none a b = (λ h. absurd (blank a b h), λ h. absurd (none a b h))
 
 pub below_skip : (leads : ℕ → ℕ → Type 0) (k : ℕ) (table : List (List ℕ)) → ((a : ℕ) → leads a k → ⊥) → LeadsBelow leads k table → LeadsBelow leads (k + 1) table
@@ -94,8 +94,8 @@ module _ (which : Which) (parts : Parts) (box : List (List Bool)) (dim : ℕ) (i
       let l = (is_place parts e stands.0.0).daughter in
       omega (arith, l, d)
 
-  pub below_end : (k : ℕ) (table : List (List ℕ)) → nodes parts ≤ k → LeadsBelow (IsDaughter (edges_of which parts box dim)) k table → (a b : ℕ) → In table a b ↔ IsDaughter (edges_of which parts box dim) a b
+  pub below_end : (k : ℕ) (table : List (List ℕ)) → nodes parts ≤ k → LeadsBelow (IsDaughter (edges_of which parts box dim)) k table → (a b : ℕ) → InTable table a b ↔ IsDaughter (edges_of which parts box dim) a b
   below_end k table all exact a b = (λ h. ((exact a b).0 h).0, λ d. (exact a b).1 (d, (let l = daughter_below a b d in omega (arith, l, all))))
 
-  pub none_from : (table : List (List ℕ)) → ((a b : ℕ) → In table a b ↔ IsDaughter (edges_of which parts box dim) a b) → HasNoneFrom (nodes parts) table
+  pub none_from : (table : List (List ℕ)) → ((a b : ℕ) → InTable table a b ↔ IsDaughter (edges_of which parts box dim) a b) → HasNoneFrom (nodes parts) table
   none_from table exact a b past h = (let l = mother_below a b ((exact a b).0 h) in omega (arith, l, past))

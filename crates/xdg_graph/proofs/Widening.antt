@@ -2,7 +2,7 @@
 use Rattle.std.proofs.Common.{◌≡◌, ℕ, ◌+◌, ◌<◌, ◌≤◌, ◌⊎◌, ◌↔◌, ◌||◌, inl, inr, true, false, List, [], length, get_or, sym, ◌∙◌, subst, arith}
 use Rattle.std.proofs.lemmas.Bool.{cases_eq, cases_lt, false≢true}
 use Rattle.std.specs.Prelude.{slice_set}
-use Rattle.xdg_nodeset.specs.Tables.{In, IsClosure}
+use Rattle.xdg_nodeset.specs.Tables.{InTable, IsClosure}
 use Rattle.xdg_nodeset.proofs.Closures.{closure_more}
 use Rattle.xdg_nodeset.proofs.TableSets.{Widened, widened_start, widened_more}
 use Rattle.xdg_graph.specs.Edges.{HasNoneFrom, IsLedTo}
@@ -10,7 +10,7 @@ use Rattle.xdg_facts.specs.Rises.{has}
 use Rattle.xdg_facts.proofs.Sets.{either, extended_yes, none_in}
 
 module _ (old now : List (List ℕ)) (size middle : ℕ) (rest : HasNoneFrom size old) where
-  pub widened_rest : (i : ℕ) → size ≤ i → Widened old now middle i → (a b : ℕ) → In now a b ↔ (In old a b ⊎ (In old a middle × In old middle b))
+  pub widened_rest : (i : ℕ) → size ≤ i → Widened old now middle i → (a b : ℕ) → InTable now a b ↔ (InTable old a b ⊎ (InTable old a middle × InTable old middle b))
   widened_rest i l w a b = elim (cases_lt a i) [
     | inl m ↦ w.done a b m
     | inr m ↦ (
@@ -26,8 +26,8 @@ pub widened_without : (old now : List (List ℕ)) (middle i : ℕ) → has (get_
 widened_without old now middle i none w = record {
   len = w.len;
   done = λ a b m. elim (cases_eq a i) [
-    | inl s ↦ subst (λ z. In now z b ↔ (In old z b ⊎ (In old z middle × In old middle b))) (sym s)
-        (subst (λ z. In now i b ↔ ((has z b ≡ true) ⊎ ((has z middle ≡ true) × In old middle b))) (w.left i (omega arith))
+    | inl s ↦ subst (λ z. InTable now z b ↔ (InTable old z b ⊎ (InTable old z middle × InTable old middle b))) (sym s)
+        (subst (λ z. InTable now i b ↔ ((has z b ≡ true) ⊎ ((has z middle ≡ true) × InTable old middle b))) (w.left i (omega arith))
         (λ h. inl h, λ h. elim h [ inl o ↦ o | inr o ↦ absurd (false≢true (sym none ∙ o.0)) ]))
     | inr other ↦ w.done a b (omega (arith, m, other))
   ];
@@ -40,7 +40,7 @@ widened_with old now middle i beyond set l is with_it members w = widened_more o
     (λ b. subst (λ z. (has set b ≡ true) ↔ ((has (get_or now i []) b ≡ true) ⊎ ((has (get_or now i []) middle ≡ true) × (has z b ≡ true)))) is (extended_yes (get_or now i []) beyond set middle b with_it (members b))) w
 
 -- where nothing lies beyond the middle all stays as it is
-pub widened_none : (table : List (List ℕ)) (middle : ℕ) (beyond : List ℕ) → beyond ≡ get_or table middle [] → length beyond ≡ 0 → (a b : ℕ) → In table a b ↔ (In table a b ⊎ (In table a middle × In table middle b))
+pub widened_none : (table : List (List ℕ)) (middle : ℕ) (beyond : List ℕ) → beyond ≡ get_or table middle [] → length beyond ≡ 0 → (a b : ℕ) → InTable table a b ↔ (InTable table a b ⊎ (InTable table a middle × InTable table middle b))
 widened_none table middle beyond is none a b = (
   λ h. inl h,
   λ h. elim h [ inl o ↦ o | inr o ↦ absurd (none_in beyond b none (subst (λ z. has z b ≡ true) (sym is) o.1)) ],
@@ -53,14 +53,14 @@ pub ruleset widened_steps = (widened_start, widened_without, widened_with, widen
 
 -- each node that one of the first sets has is among some
 abbrev pub IsLedToBy : ℕ → List (List ℕ) → List ℕ → Type 0
-IsLedToBy k table ends = (a b : ℕ) → a < k → In table a b → has ends b ≡ true
+IsLedToBy k table ends = (a b : ℕ) → a < k → InTable table a b → has ends b ≡ true
 
 pub led_start : (table : List (List ℕ)) (ends : List ℕ) → IsLedToBy 0 table ends
 led_start table ends a b l h = absurd (omega (arith, l))
 
 pub led_next : (table : List (List ℕ)) (k : ℕ) (ends set new : List ℕ) → set ≡ get_or table k [] → ((n : ℕ) → has new n ≡ (has ends n || has set n)) → IsLedToBy k table ends → IsLedToBy (k + 1) table new
 led_next table k ends set new at is so_far a b l h = is b ∙ (either (has ends b) (has set b)).1 (elim (cases_eq a k) [
-  | inl same ↦ inr (subst (λ s. has s b ≡ true) (sym at) (subst (λ i. In table i b) same h))
+  | inl same ↦ inr (subst (λ s. has s b ≡ true) (sym at) (subst (λ i. InTable table i b) same h))
   | inr other ↦ inl (so_far a b (omega (arith, l, other)) h)
 ])
 
@@ -72,5 +72,5 @@ pub closure_skip : (i : ℕ) (table now : List (List ℕ)) (ends : List ℕ) →
 closure_skip i table now ends none led c = closure_more i table now now c (λ a b. (λ h. inl h, λ h. elim h [ inl o ↦ o | inr o ↦ absurd (false≢true (sym none ∙ led a i o.0)) ]))
 
 -- what is added leads to nodes to which something led before
-pub led_widened : (old new : List (List ℕ)) (i : ℕ) (ends : List ℕ) → ((a b : ℕ) → In new a b ↔ (In old a b ⊎ (In old a i × In old i b))) → IsLedTo old ends → IsLedTo new ends
+pub led_widened : (old new : List (List ℕ)) (i : ℕ) (ends : List ℕ) → ((a b : ℕ) → InTable new a b ↔ (InTable old a b ⊎ (InTable old a i × InTable old i b))) → IsLedTo old ends → IsLedTo new ends
 led_widened old new i ends step led a b h = elim ((step a b).0 h) [ inl o ↦ led a b o | inr o ↦ led i b o.1 ]

@@ -1,7 +1,7 @@
--- The edges of a box.
+-- The edges of a box, and what is known of tables and rows of them.
 use Rattle.std.specs.Prelude.{◌≡◌, ℕ, ◌≤◌, ◌<◌, Bool, true, List, cond, length, slice_index_or}
 use Rattle.xdg_facts.specs.Rises.{has}
-use Rattle.xdg_nodeset.specs.Tables.{In}
+use Rattle.xdg_nodeset.specs.Tables.{InTable}
 use Rattle.xdg_problem.specs.declared.analysis.Edge.{Edge}
 use Rattle.xdg_problem.specs.declared.parts.DimPlan.{DimPlan}
 use Rattle.xdg_problem.specs.declared.parts.Parts.{Parts}
@@ -25,11 +25,11 @@ Stands whichs.Must = Must
 
 -- the sets of a table are empty from a place on
 abbrev pub HasNoneFrom : ℕ → List (List ℕ) → Type 0
-HasNoneFrom size table = (a b : ℕ) → size ≤ a → In table a b → ⊥
+HasNoneFrom size table = (a b : ℕ) → size ≤ a → InTable table a b → ⊥
 
 -- a table without nodes
 abbrev pub IsBlank : List (List ℕ) → Type 0
-IsBlank table = (a b : ℕ) → In table a b → ⊥
+IsBlank table = (a b : ℕ) → InTable table a b → ⊥
 
 -- how many labels the edges of a dimension can have: none where it has no edges
 abbrev pub plan_labels : DimPlan → ℕ
@@ -49,4 +49,4 @@ InSome which rows x = (label : ℕ) × (label < length rows) × (has (mothers_in
 
 -- each node that a set of a table has is among some
 abbrev pub IsLedTo : List (List ℕ) → List ℕ → Type 0
-IsLedTo table ends = (a b : ℕ) → In table a b → has ends b ≡ true
+IsLedTo table ends = (a b : ℕ) → InTable table a b → has ends b ≡ true

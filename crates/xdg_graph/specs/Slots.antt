@@ -1,4 +1,4 @@
--- Attributes of nodes.
+-- Attributes of nodes, as the code goes over them: a slot each.
 use Rattle.std.specs.Prelude.{◌≡◌, ℕ, ◌<◌, length}
 use Rattle.xdg_problem.specs.declared.parts.Parts.{Parts}
 use Rattle.xdg_problem.specs.Arguments.{attr_count, value_count}

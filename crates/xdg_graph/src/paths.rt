@@ -2,7 +2,7 @@
 
 ghost use Rattle.std.specs.Prelude.{◌≤◌, ◌<◌, ◌↔◌, ◌⊎◌, ℕ};
 ghost use Rattle.xdg_facts.specs.Rises.{has};
-ghost use Rattle.xdg_nodeset.specs.Tables.{In, IsClosure};
+ghost use Rattle.xdg_nodeset.specs.Tables.{InTable, IsClosure};
 ghost use Rattle.xdg_problem.specs.Paths.{Above};
 ghost use Rattle.xdg_store.specs.States.{Known};
 ghost use Rattle.xdg_graph.specs.Edges.{HasNoneFrom, IsBlank, IsLedTo, edges_of};
@@ -22,7 +22,7 @@ fn widen(table: &mut [NodeSet; 128], size: u8, middle: u8)
     requires size { size ≤ 128 }
     requires middle { middle < 128 }
     requires rest { HasNoneFrom size table.old }
-    ensures each { (a b : ℕ) → In table.new a b ↔ (In table.old a b ⊎ (In table.old a middle × In table.old middle b)) }
+    ensures each { (a b : ℕ) → InTable table.new a b ↔ (InTable table.old a b ⊎ (InTable table.old a middle × InTable table.old middle b)) }
     ensures rest { HasNoneFrom size table.new }
 {
     let beyond = table[usize::from(middle)];
@@ -71,7 +71,7 @@ fn close(table: &mut [NodeSet; 128], size: u8)
 /// Notes in a table without nodes, for each node, those below it, as `above` gives them. A caller that keeps the table copies none.
 pub fn note_above(table: &mut [NodeSet; 128], store: &Store, which: Which, dim: DimId)
     requires blank { IsBlank table.old }
-    ensures exact { (a b : ℕ) → In table.new a b ↔ Above (edges_of which store.now.parts store.now.now dim.0) a b }
+    ensures exact { (a b : ℕ) → InTable table.new a b ↔ Above (edges_of which store.now.parts store.now.now dim.0) a b }
     ensures known { Known store.now }
 {
     note_daughters(table, store, which, dim);
@@ -81,7 +81,7 @@ pub fn note_above(table: &mut [NodeSet; 128], store: &Store, which: Which, dim: 
 /// For each node those below it: a path of one or more of the edges leads to them. It takes an operation on sets for each two
 /// nodes, and one for each node and label.
 pub fn above(store: &Store, which: Which, dim: DimId) -> [NodeSet; 128]
-    ensures exact { (a b : ℕ) → In result a b ↔ Above (edges_of which store.now.parts store.now.now dim.0) a b }
+    ensures exact { (a b : ℕ) → InTable result a b ↔ Above (edges_of which store.now.parts store.now.now dim.0) a b }
     ensures known { Known store.now }
 {
     let mut table = [NodeSet::empty(); 128];
@@ -91,7 +91,7 @@ pub fn above(store: &Store, which: Which, dim: DimId) -> [NodeSet; 128]
 
 /// For each node those above it: a path of one or more of the edges leads from them. It takes as much as `above`.
 pub fn ancestors(store: &Store, which: Which, dim: DimId) -> [NodeSet; 128]
-    ensures exact { (a b : ℕ) → In result a b ↔ Above (edges_of which store.now.parts store.now.now dim.0) b a }
+    ensures exact { (a b : ℕ) → InTable result a b ↔ Above (edges_of which store.now.parts store.now.now dim.0) b a }
     ensures known { Known store.now }
 {
     let mut table = [NodeSet::empty(); 128];

@@ -2,7 +2,7 @@
 
 ghost use Rattle.std.specs.Prelude.{◌≡◌, ◌<◌, ◌↔◌, ◌⊎◌, ℕ, [], true, IsTrue, slice_index_or};
 ghost use Rattle.xdg_facts.specs.Rises.{has};
-ghost use Rattle.xdg_nodeset.specs.Tables.{In};
+ghost use Rattle.xdg_nodeset.specs.Tables.{InTable};
 ghost use Rattle.xdg_problem.specs.Paths.{IsDaughter, IsDaughterBy};
 ghost use Rattle.xdg_problem.specs.Places.{nodes};
 ghost use Rattle.xdg_store.specs.States.{Known};
@@ -60,7 +60,7 @@ pub fn daughters_of(store: &Store, which: Which, dim: DimId, mother: NodeId) -> 
 #[tactic(auto, using(crate::proofs::Noting::noted_next))]
 fn note_may(table: &mut [NodeSet; 128], store: &Store, dim: DimId)
     requires blank { IsBlank table.old }
-    ensures exact { (a b : ℕ) → In table.new a b ↔ IsDaughter (edges_of Which.May store.now.parts store.now.now dim.0) a b }
+    ensures exact { (a b : ℕ) → InTable table.new a b ↔ IsDaughter (edges_of Which.May store.now.parts store.now.now dim.0) a b }
     ensures known { Known store.now }
 {
     for mother in 0..node_count(store) {
@@ -73,7 +73,7 @@ fn note_may(table: &mut [NodeSet; 128], store: &Store, dim: DimId)
 fn add(table: &mut [NodeSet; 128], from: NodeId, to: NodeId)
     requires from { from.0 < 128 }
     requires to { to.0 < 128 }
-    ensures { (a b : ℕ) → In table.new a b ↔ (In table.old a b ⊎ ((from.0 ≡ a) × (to.0 ≡ b))) }
+    ensures { (a b : ℕ) → InTable table.new a b ↔ (InTable table.old a b ⊎ ((from.0 ≡ a) × (to.0 ≡ b))) }
 {
     table[usize::from(from.0)].insert(to);
 }
@@ -81,7 +81,7 @@ fn add(table: &mut [NodeSet; 128], from: NodeId, to: NodeId)
 /// Adds to a table that it leads from some nodes to one.
 fn add_all(table: &mut [NodeSet; 128], mothers: NodeSet, daughter: NodeId)
     requires { daughter.0 < 128 }
-    ensures { (a b : ℕ) → In table.new a b ↔ (In table.old a b ⊎ ((has mothers a ≡ true) × (daughter.0 ≡ b))) }
+    ensures { (a b : ℕ) → InTable table.new a b ↔ (InTable table.old a b ⊎ ((has mothers a ≡ true) × (daughter.0 ≡ b))) }
 {
     for mother in mothers.iter() {
         add(table, mother, daughter);
@@ -91,7 +91,7 @@ fn add_all(table: &mut [NodeSet; 128], mothers: NodeSet, daughter: NodeId)
 /// Notes for each node those to which an edge leads that must be present. Few edges must be, so that it goes from each daughter to its mothers.
 fn note_must(table: &mut [NodeSet; 128], store: &Store, dim: DimId)
     requires blank { IsBlank table.old }
-    ensures exact { (a b : ℕ) → In table.new a b ↔ IsDaughter (edges_of Which.Must store.now.parts store.now.now dim.0) a b }
+    ensures exact { (a b : ℕ) → InTable table.new a b ↔ IsDaughter (edges_of Which.Must store.now.parts store.now.now dim.0) a b }
     ensures known { Known store.now }
 {
     let labels = labels_of(store, dim);
@@ -112,7 +112,7 @@ fn note_must(table: &mut [NodeSet; 128], store: &Store, dim: DimId)
 /// Notes for each node its daughters; a node that the sentence has not has none.
 pub(crate) fn note_daughters(table: &mut [NodeSet; 128], store: &Store, which: Which, dim: DimId)
     requires blank { IsBlank table.old }
-    ensures exact { (a b : ℕ) → In table.new a b ↔ IsDaughter (edges_of which store.now.parts store.now.now dim.0) a b }
+    ensures exact { (a b : ℕ) → InTable table.new a b ↔ IsDaughter (edges_of which store.now.parts store.now.now dim.0) a b }
     ensures rest { HasNoneFrom (nodes store.now.parts) table.new }
     ensures known { Known store.now }
 {
@@ -124,7 +124,7 @@ pub(crate) fn note_daughters(table: &mut [NodeSet; 128], store: &Store, which: W
 
 /// For each node its daughters; a node that the sentence has not has none.
 pub fn daughters(store: &Store, which: Which, dim: DimId) -> [NodeSet; 128]
-    ensures exact { (a b : ℕ) → In result a b ↔ IsDaughter (edges_of which store.now.parts store.now.now dim.0) a b }
+    ensures exact { (a b : ℕ) → InTable result a b ↔ IsDaughter (edges_of which store.now.parts store.now.now dim.0) a b }
     ensures rest { HasNoneFrom (nodes store.now.parts) result }
     ensures known { Known store.now }
 {

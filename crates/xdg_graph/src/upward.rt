@@ -2,7 +2,7 @@
 
 ghost use Rattle.std.specs.Prelude.{◌≡◌, ◌<◌, ◌↔◌, ℕ, IsTrue};
 ghost use Rattle.xdg_facts.specs.Rises.{has};
-ghost use Rattle.xdg_nodeset.specs.Tables.{In};
+ghost use Rattle.xdg_nodeset.specs.Tables.{InTable};
 ghost use Rattle.xdg_problem.specs.Paths.{IsDaughter, IsDaughterBy};
 ghost use Rattle.xdg_problem.specs.Places.{nodes};
 ghost use Rattle.xdg_store.specs.States.{Known};
@@ -83,7 +83,7 @@ pub fn mothers_of(store: &Store, which: Which, dim: DimId, daughter: NodeId) -> 
 #[tactic(auto, using(crate::proofs::Noting::noted_next))]
 pub(crate) fn note_mothers(table: &mut [NodeSet; 128], store: &Store, which: Which, dim: DimId)
     requires blank { IsBlank table.old }
-    ensures exact { (a b : ℕ) → In table.new a b ↔ IsDaughter (edges_of which store.now.parts store.now.now dim.0) b a }
+    ensures exact { (a b : ℕ) → InTable table.new a b ↔ IsDaughter (edges_of which store.now.parts store.now.now dim.0) b a }
     ensures rest { HasNoneFrom (nodes store.now.parts) table.new }
     ensures known { Known store.now }
 {
@@ -95,7 +95,7 @@ pub(crate) fn note_mothers(table: &mut [NodeSet; 128], store: &Store, which: Whi
 
 /// For each node its mothers; a node that the sentence has not has none.
 pub fn mothers(store: &Store, which: Which, dim: DimId) -> [NodeSet; 128]
-    ensures exact { (a b : ℕ) → In result a b ↔ IsDaughter (edges_of which store.now.parts store.now.now dim.0) b a }
+    ensures exact { (a b : ℕ) → InTable result a b ↔ IsDaughter (edges_of which store.now.parts store.now.now dim.0) b a }
     ensures rest { HasNoneFrom (nodes store.now.parts) result }
     ensures known { Known store.now }
 {

@@ -7,7 +7,8 @@ use Rattle.xdg_base.specs.declared.faults.Stop.{Stop}
 use Rattle.xdg_base.specs.declared.faults.Stop.TheVariants as stops
 use Rattle.xdg_base.specs.Told.{Gives}
 use Rattle.xdg_build.specs.Compiled.{compiled}
-use Rattle.xdg_build.specs.Refusals.{refusal, IsRefused, fault}
+use Rattle.xdg_build.specs.Refusals.{refusal, IsRefused}
+use Rattle.xdg_base.specs.Faults.{fault_reaching}
 use Rattle.xdg_build.specs.Solutions.{KeepsSolutions}
 use Rattle.xdg_reading.specs.Fits as fitting
 use Rattle.xdg_inputs.specs.Answers.{grammar_in, meaning_of}
@@ -58,7 +59,7 @@ module _ (g : Grammar) (text : List ℕ) where
 
   -- a verdict by what is read of the text, and by what its words are refused for
   abbrev ByWords : AnalysisText → Option Fault → Result Analysed Fault → Type 0
-  ByWords t (Some w) verdict = verdict ≡ Err (fault causes.NotAnalysis w.at 0)
+  ByWords t (Some w) verdict = verdict ≡ Err (fault_reaching causes.NotAnalysis w.at 0)
   ByWords t None (Ok b) = (b.parts ≡ compiled g t.words) × fitting.IsAnswer (compiled g t.words) t (Ok b.analysis)
   ByWords t None (Err f) = fitting.IsAnswer (compiled g t.words) t (Err f)
 
@@ -87,7 +88,7 @@ module _ (g : Grammar) (text : List ℕ) where
   by_fit t fit one (Ok b) v = ap (λ z. Ok (record { parts = z; analysis = b.analysis })) v.0 ∙ ap (fitted t) (one (Ok b.analysis) v.1)
   by_fit t fit one (Err h) v = ap (fitted t) (one (Err h) v)
 
-  only_long : analysis_limit < length text → (verdict : Result Analysed Fault) → Verdict verdict → verdict ≡ Err (fault causes.TooLong 0 (analysis_limit + 1))
+  only_long : analysis_limit < length text → (verdict : Result Analysed Fault) → Verdict verdict → verdict ≡ Err (fault_reaching causes.TooLong 0 (analysis_limit + 1))
   only_long long (Ok b) v = absurd (let within = v.within in omega (arith, long, within))
   only_long long (Err h) (too_long more e) = ap Err e
   only_long long (Err h) (unreadable small r) = absurd (omega (arith, long, small))
@@ -128,19 +129,19 @@ module _ (made : Expanded) (right : HasRightLexicon made) (files : List ℕ → 
         (e, subst (λ z. IsNoAnalysis z text h) (grammar_is made q.dim q.field right q.place) (subst (λ z. IsNoAnalysis (with_words (meaning_of made) q.dim q.field) z h) e q.because));
   }
 
-  pub long_rejected : analysis_limit < length text → RejectsAt Analysed (HasBadAnalysis files name (meaning_of made)) (HasAnalysis files name (meaning_of made)) (fault causes.TooLong 0 (analysis_limit + 1)) (record { line = 1; column = 1 })
+  pub long_rejected : analysis_limit < length text → RejectsAt Analysed (HasBadAnalysis files name (meaning_of made)) (HasAnalysis files name (meaning_of made)) (fault_reaching causes.TooLong 0 (analysis_limit + 1)) (record { line = 1; column = 1 })
   long_rejected long = record {
     text = text;
-    rejects = settled judges (Err (fault causes.TooLong 0 (analysis_limit + 1))) (too_long long refl) (only_long g text long);
-    place_is = first_byte text (fault causes.TooLong 0 (analysis_limit + 1)) refl;
+    rejects = settled judges (Err (fault_reaching causes.TooLong 0 (analysis_limit + 1))) (too_long long refl) (only_long g text long);
+    place_is = first_byte text (fault_reaching causes.TooLong 0 (analysis_limit + 1)) refl;
   }
 
   reading_rejected : (f : Fault) → length text ≤ analysis_limit → reading.IsAnswer text (Err f) → OneReading text (Err f) → Settled (Err f)
   reading_rejected f within is one = settled judges (Err f) (unreadable within is) (by_reading g text (Err f) within one)
 
   module _ (t : AnalysisText) (within : length text ≤ analysis_limit) (is : reading.IsAnswer text (Ok t)) (one : OneReading text (Ok t)) where
-    word_rejected : (w : Fault) → refusal g t.words ≡ Some w → Settled (Err (fault causes.NotAnalysis w.at 0))
-    word_rejected w known = settled judges (Err (fault causes.NotAnalysis w.at 0)) (unknown_word t w within is known refl) (by_words g text t (Some w) within one known)
+    word_rejected : (w : Fault) → refusal g t.words ≡ Some w → Settled (Err (fault_reaching causes.NotAnalysis w.at 0))
+    word_rejected w known = settled judges (Err (fault_reaching causes.NotAnalysis w.at 0)) (unknown_word t w within is known refl) (by_words g text t (Some w) within one known)
 
     fit_rejected : (f : Fault) → refusal g t.words ≡ None → fitting.IsAnswer (compiled g t.words) t (Err f) → OneFit (compiled g t.words) t (Err f) → Settled (Err f)
     fit_rejected f known misfit fits = settled judges (Err f) (unfit t within is known misfit) (λ x v. by_fit g text t (Err f) fits x (by_words g text t None within one known x v))

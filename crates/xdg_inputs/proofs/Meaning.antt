@@ -10,11 +10,10 @@ use Rattle.xdg_inputs.specs.Answers.{IsAnswer, Tells, meaning_of}
 use Rattle.xdg_inputs.specs.Meanings.{Meaning, Means}
 use Rattle.xdg_inputs.specs.declared.expanding.Expanded.{Expanded}
 use Rattle.xdg_inputs.specs.Grammars.{IsBadGrammar}
-use Rattle.xdg_inputs.specs.Refusals.{Stops, refusal_of}
+use Rattle.xdg_inputs.specs.Refusals.{Stops, refusal_of, Refuses}
 use Rattle.xdg_inputs.specs.Stages.{Accepts}
 use Rattle.xdg_inputs.specs.GrammarFiles.{ReadText}
 use Rattle.xdg_inputs.specs.Outcomes.{MeaningThen}
-use Rattle.xdg_inputs.specs.Refusals.{Refuses}
 use Rattle.xdg_inputs.specs.Runs.{Leaves}
 use Rattle.xdg_inputs.specs.declared.refusals.Refusal.{Refusal}
 use Rattle.xdg_inputs.specs.declared.status.Status.{Status}

@@ -16,7 +16,7 @@ use Rattle.xdg_inputs.proofs.Trees.{first_byte, told_file}
 use Rattle.xdg_inputs.specs.Files.{HasBadFile, HasFile, IsBadRules, too_long, wrong, rules_limit}
 use Rattle.xdg_inputs.specs.RulesTexts.{IsAnswer, Says, Tells}
 use Rattle.xdg_types.specs.Table.{Table}
-use Rattle.xdg_build.specs.Refusals.{fault}
+use Rattle.xdg_base.specs.Faults.{fault_reaching}
 use Rattle.xdg_facts.proofs.Options.{one_value}
 
 module _ (table : Table) where
@@ -41,16 +41,16 @@ module _ (table : Table) where
     one_within verdict within only (Err f) (too_long long e) = absurd (omega (arith, within, long))
     one_within verdict within only (Err f) (wrong small u) = only (Err f) u
 
-    one_long : rules_limit < length text → (x : Result Rules Fault) → Verdict x → x ≡ Err (fault causes.TooLong 0 (rules_limit + 1))
+    one_long : rules_limit < length text → (x : Result Rules Fault) → Verdict x → x ≡ Err (fault_reaching causes.TooLong 0 (rules_limit + 1))
     one_long long (Ok rules) v = absurd (let within = v.0 in omega (arith, long, within))
     one_long long (Err f) (too_long more e) = ap Err e
     one_long long (Err f) (wrong small u) = absurd (omega (arith, long, small))
 
-    pub long_rejected : rules_limit < length text → RejectsAt Rules (HasBadFile files name table) (HasFile files name table) (fault causes.TooLong 0 (rules_limit + 1)) (record { line = 1; column = 1 })
+    pub long_rejected : rules_limit < length text → RejectsAt Rules (HasBadFile files name table) (HasFile files name table) (fault_reaching causes.TooLong 0 (rules_limit + 1)) (record { line = 1; column = 1 })
     long_rejected long = record {
       text = text;
-      rejects = settled judges (Err (fault causes.TooLong 0 (rules_limit + 1))) (too_long long refl) (one_long long);
-      place_is = first_byte text (fault causes.TooLong 0 (rules_limit + 1)) refl;
+      rejects = settled judges (Err (fault_reaching causes.TooLong 0 (rules_limit + 1))) (too_long long refl) (one_long long);
+      place_is = first_byte text (fault_reaching causes.TooLong 0 (rules_limit + 1)) refl;
     }
 
   -- ---- what a shelf gives

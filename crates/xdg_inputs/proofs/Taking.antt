@@ -9,7 +9,7 @@ use Rattle.xdg_io.specs.Left.{TakesAll}
 use Rattle.xdg_io.specs.Rose.{Rose}
 use Rattle.xdg_io.proofs.Counts.{still}
 use Rattle.xdg_build.specs.Grammars.{Grammar}
-use Rattle.xdg_build.specs.Refusals.{fault}
+use Rattle.xdg_base.specs.Faults.{fault_reaching}
 use Rattle.xdg_inputs.specs.Answers.{grammar_in, meaning_of}
 use Rattle.xdg_inputs.specs.RightLexicons.{HasRightLexicon}
 use Rattle.xdg_inputs.specs.declared.expanding.Expanded.{Expanded}
@@ -35,7 +35,7 @@ module _ (why : Refusing) (g : Grammar) (segment : Bool) (input : List ℕ) wher
   one_fault f h (too_long a e) (no_text at b ill valid d) = absurd (omega (arith, a, b))
   one_fault f h (too_long a e) (no_words b text d) = absurd (omega (arith, a, b))
   one_fault f h (no_text at b ill valid d) (too_long a e) = absurd (omega (arith, a, b))
-  one_fault f h (no_text at b ill valid e) (no_text place a ill_too valid_too d) = e ∙ ap (λ n. fault causes.BadUtf8 n 0) (one_place input at place valid valid_too) ∙ sym d
+  one_fault f h (no_text at b ill valid e) (no_text place a ill_too valid_too d) = e ∙ ap (λ n. fault_reaching causes.BadUtf8 n 0) (one_place input at place valid valid_too) ∙ sym d
   one_fault f h (no_text at b ill valid e) (no_words a text d) = absurd (ill text)
   one_fault f h (no_words b text e) (too_long a d) = absurd (omega (arith, a, b))
   one_fault f h (no_words b text e) (no_text at a ill valid d) = absurd (ill text)
@@ -52,14 +52,14 @@ module _ {A : Type 0} (why : Refusing) (made : Expanded) (right : HasRightLexico
   }
 
   pub no_text_rejected : (at : ℕ) → length input ≤ sentence_limit → (IsUtf8 input → ⊥) → IsValidUpTo input at
-      → RejectsAt A (IsBadInput why (meaning_of made) segment input) Has (fault causes.BadUtf8 at 0) (line_column input (fault causes.BadUtf8 at 0))
-  no_text_rejected at within ill valid = record { text = input; rejects = input_rejected (fault causes.BadUtf8 at 0) (no_text at within ill valid refl); place_is = refl }
+      → RejectsAt A (IsBadInput why (meaning_of made) segment input) Has (fault_reaching causes.BadUtf8 at 0) (line_column input (fault_reaching causes.BadUtf8 at 0))
+  no_text_rejected at within ill valid = record { text = input; rejects = input_rejected (fault_reaching causes.BadUtf8 at 0) (no_text at within ill valid refl); place_is = refl }
 
-  pub long_rejected : sentence_limit < length input → RejectsAt A (IsBadInput why (meaning_of made) segment input) Has (fault causes.TooLong 0 (sentence_limit + 1)) (record { line = 1; column = 1 })
+  pub long_rejected : sentence_limit < length input → RejectsAt A (IsBadInput why (meaning_of made) segment input) Has (fault_reaching causes.TooLong 0 (sentence_limit + 1)) (record { line = 1; column = 1 })
   long_rejected long = record {
     text = input;
-    rejects = input_rejected (fault causes.TooLong 0 (sentence_limit + 1)) (too_long long refl);
-    place_is = first_byte input (fault causes.TooLong 0 (sentence_limit + 1)) refl;
+    rejects = input_rejected (fault_reaching causes.TooLong 0 (sentence_limit + 1)) (too_long long refl);
+    place_is = first_byte input (fault_reaching causes.TooLong 0 (sentence_limit + 1)) refl;
   }
 
 -- ---- what a source gives

@@ -7,7 +7,8 @@ use Rattle.xdg_problem.specs.declared.parts.Parts.{Parts}
 use Rattle.xdg_packed.specs.Entries.{IsWordPlace}
 use Rattle.xdg_build.specs.Grammars.{Grammar}
 use Rattle.xdg_build.specs.Compiled.{compiled}
-use Rattle.xdg_build.specs.Refusals.{refusal, fault}
+use Rattle.xdg_build.specs.Refusals.{refusal}
+use Rattle.xdg_base.specs.Faults.{fault_reaching}
 use Rattle.xdg_build.specs.Solutions.{KeepsSolutions}
 use Rattle.xdg_reading.specs.declared.texts.AnalysisText.{AnalysisText}
 use Rattle.xdg_reading.specs.Texts as reading
@@ -22,10 +23,10 @@ analysis_limit = 4294967295
 -- A text is no analysis of a grammar: it is too long, or else it is no analysis text, or else it has a word without entry, or else
 -- its lines are not those of an analysis of its words.
 pub data IsNoAnalysis (g : Grammar) (text : List ℕ) (refused : Fault) : Type 0 where
-  too_long : analysis_limit < length text → refused ≡ fault causes.TooLong 0 (analysis_limit + 1) → IsNoAnalysis g text refused
+  too_long : analysis_limit < length text → refused ≡ fault_reaching causes.TooLong 0 (analysis_limit + 1) → IsNoAnalysis g text refused
   unreadable : length text ≤ analysis_limit → reading.IsAnswer text (Err refused) → IsNoAnalysis g text refused
   unknown_word : (t : AnalysisText) (f : Fault) → length text ≤ analysis_limit → reading.IsAnswer text (Ok t) → refusal g t.words ≡ Some f
-      → refused ≡ fault causes.NotAnalysis f.at 0 → IsNoAnalysis g text refused
+      → refused ≡ fault_reaching causes.NotAnalysis f.at 0 → IsNoAnalysis g text refused
   unfit : (t : AnalysisText) → length text ≤ analysis_limit → reading.IsAnswer text (Ok t) → refusal g t.words ≡ None
       → fitting.IsAnswer (compiled g t.words) t (Err refused) → IsNoAnalysis g text refused
 

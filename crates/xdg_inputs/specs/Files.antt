@@ -7,7 +7,7 @@ use Rattle.xdg_formula.specs.declared.tree.Rules.{Rules}
 use Rattle.xdg_io.specs.Rose.{Rose}
 use Rattle.xdg_types.specs.Table.{Table}
 use Rattle.xdg_inputs.specs.RulesTexts.{IsRefused, Says}
-use Rattle.xdg_build.specs.Refusals.{fault}
+use Rattle.xdg_base.specs.Faults.{fault_reaching}
 
 -- how many bytes a rules file may have
 abbrev pub rules_limit : ℕ
@@ -15,7 +15,7 @@ rules_limit = 65536
 
 -- a text is too long, or else it says no rules
 pub data IsBadRules (table : Table) (text : List ℕ) (refused : Fault) : Type 0 where
-  too_long : rules_limit < length text → refused ≡ fault causes.TooLong 0 (rules_limit + 1) → IsBadRules table text refused
+  too_long : rules_limit < length text → refused ≡ fault_reaching causes.TooLong 0 (rules_limit + 1) → IsBadRules table text refused
   wrong : length text ≤ rules_limit → IsRefused table text refused → IsBadRules table text refused
 
 -- the file of this name is there, and its text is refused

@@ -5,7 +5,7 @@ use Rattle.xdg_base.specs.declared.faults.Fault.{Fault}
 use Rattle.xdg_ast.specs.declared.grammar.Grammar.{Grammar}
 use Rattle.xdg_ast.specs.Derives.{Reads}
 use Rattle.xdg_inputs.specs.GrammarTexts.{IsUnreadable}
-use Rattle.xdg_build.specs.Refusals.{fault}
+use Rattle.xdg_base.specs.Faults.{fault_reaching}
 
 -- how many bytes a grammar text may have
 abbrev pub grammar_limit : ℕ
@@ -24,7 +24,7 @@ pub record HasTree (files : List ℕ → Option (List ℕ)) (name : List ℕ) (r
 
 -- a text is too long, or else it is no grammar text
 pub data IsBadText (text : List ℕ) (refused : Fault) : Type 0 where
-  too_long : grammar_limit < length text → refused ≡ fault causes.TooLong 0 (grammar_limit + 1) → IsBadText text refused
+  too_long : grammar_limit < length text → refused ≡ fault_reaching causes.TooLong 0 (grammar_limit + 1) → IsBadText text refused
   unreadable : length text ≤ grammar_limit → IsUnreadable text refused → IsBadText text refused
 
 -- the file of this name is there, and its text is refused

@@ -5,7 +5,8 @@ use Rattle.xdg_base.specs.declared.faults.Fault.{Fault}
 use Rattle.xdg_base.specs.declared.faults.Stop.{Stop}
 use Rattle.xdg_base.specs.declared.faults.Stop.TheVariants as stops
 use Rattle.xdg_build.specs.Compiled.{compiled}
-use Rattle.xdg_build.specs.Refusals.{refusal, fault}
+use Rattle.xdg_build.specs.Refusals.{refusal}
+use Rattle.xdg_base.specs.Faults.{fault_reaching}
 use Rattle.xdg_build.specs.Solutions.{KeepsSolutions}
 use Rattle.xdg_reading.specs.Fits as fitting
 use Rattle.xdg_build.specs.Grammars.{Grammar}
@@ -19,7 +20,7 @@ analysed_of judgeable = record { parts = judgeable.problem; analysis = judgeable
 
 -- what is wrong with an analysis text where its words are refused for this
 abbrev pub of_words : Stop → Stop
-of_words (stops.Fault f) = stops.Fault (fault causes.NotAnalysis f.at 0)
+of_words (stops.Fault f) = stops.Fault (fault_reaching causes.NotAnalysis f.at 0)
 of_words stops.OutOfMemory = stops.OutOfMemory
 
 -- the text shows this analysis of its words, and no other
@@ -33,6 +34,6 @@ pub record IsJudged (g : Grammar) (t : AnalysisText) (made : Judgeable) : Type 0
 -- the text has a word without entry, or doesn't fit
 pub data IsNotJudged (g : Grammar) (t : AnalysisText) : Stop → Type 0 where
   no_memory : IsNotJudged g t stops.OutOfMemory
-  word_unknown : (w : Fault) → refusal g t.words ≡ Some w → IsNotJudged g t (stops.Fault (fault causes.NotAnalysis w.at 0))
+  word_unknown : (w : Fault) → refusal g t.words ≡ Some w → IsNotJudged g t (stops.Fault (fault_reaching causes.NotAnalysis w.at 0))
   not_fit : (f : Fault) → refusal g t.words ≡ None → fitting.IsAnswer (compiled g t.words) t (Err f)
       → ((answer : Result Analysis Fault) → fitting.IsAnswer (compiled g t.words) t answer → answer ≡ Err f) → IsNotJudged g t (stops.Fault f)

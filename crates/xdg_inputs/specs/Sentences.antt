@@ -11,7 +11,8 @@ use Rattle.xdg_linear.specs.Segments.{words_in}
 use Rattle.xdg_packed.specs.Entries.{IsWordPlace}
 use Rattle.xdg_build.specs.Grammars.{Grammar}
 use Rattle.xdg_build.specs.Compiled.{compiled}
-use Rattle.xdg_build.specs.Refusals.{refusal, fault}
+use Rattle.xdg_build.specs.Refusals.{refusal}
+use Rattle.xdg_base.specs.Faults.{fault_reaching}
 use Rattle.xdg_build.specs.Solutions.{KeepsSolutions}
 use Rattle.xdg_inputs.specs.Meanings.{Meaning}
 use Rattle.xdg_inputs.specs.Grammars.{with_words}
@@ -64,8 +65,8 @@ Refusing = Grammar → List SentenceWord → Option Fault
 
 -- an input is refused: it is too long for a sentence, or else it isn't UTF-8, or else its words are refused
 pub data IsNoInput (why : Refusing) (g : Grammar) (segment : Bool) (input : List ℕ) (refused : Fault) : Type 0 where
-  too_long : sentence_limit < length input → refused ≡ fault causes.TooLong 0 (sentence_limit + 1) → IsNoInput why g segment input refused
-  no_text : (at : ℕ) → length input ≤ sentence_limit → (IsUtf8 input → ⊥) → IsValidUpTo input at → refused ≡ fault causes.BadUtf8 at 0
+  too_long : sentence_limit < length input → refused ≡ fault_reaching causes.TooLong 0 (sentence_limit + 1) → IsNoInput why g segment input refused
+  no_text : (at : ℕ) → length input ≤ sentence_limit → (IsUtf8 input → ⊥) → IsValidUpTo input at → refused ≡ fault_reaching causes.BadUtf8 at 0
       → IsNoInput why g segment input refused
   no_words : length input ≤ sentence_limit → IsUtf8 input → why g (words_in segment input) ≡ Some refused → IsNoInput why g segment input refused
 

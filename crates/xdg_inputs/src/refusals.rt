@@ -3,7 +3,7 @@
 ghost use Rattle.std.specs.Prelude.{◌≡◌, ◌≢◌, ◌≤◌, ◌<◌, ◌⊎◌, ◌^◌, length};
 ghost use Rattle.xdg_io.specs.Rose.{Rose};
 ghost use Rattle.xdg_inputs.specs.Places.{line_column};
-ghost use Rattle.xdg_build.specs.Refusals.{fault};
+ghost use Rattle.xdg_base.specs.Faults.{fault_reaching};
 ghost use Rattle.xdg_inputs.specs.Refusals.{Refuses, refusal_of};
 
 use crate::Status;
@@ -25,7 +25,7 @@ pub enum Refusal {
 /// The line and the column of a place in a text, or of its end where the text is shorter.
 fn place_within(text: &[u8], at: u32) -> LineColumn
     requires { length text.now < 2 ^ 32 }
-    ensures { let refused = fault Cause.BadUtf8 at 0 in result ≡ line_column text.now refused }
+    ensures { let refused = fault_reaching Cause.BadUtf8 at 0 in result ≡ line_column text.now refused }
 {
     if at as usize <= text.len() {
         place(text, at)
@@ -46,7 +46,7 @@ pub fn refused_in(text: &[u8], fault: Fault) -> Refusal
 pub fn no_text(input: &[u8], at: usize) -> Refusal
     requires within { at ≤ length input.now }
     requires small { length input.now < 2 ^ 32 }
-    ensures { let refused = fault Cause.BadUtf8 at 0 in result ≡ Refusal.Text refused (line_column input.now refused) }
+    ensures { let refused = fault_reaching Cause.BadUtf8 at 0 in result ≡ Refusal.Text refused (line_column input.now refused) }
 {
     let fault = Fault::at(Cause::BadUtf8, at as u32);
     refused_in(input, fault)
@@ -65,7 +65,7 @@ pub fn stopped_in(text: &[u8], stop: Stop) -> Refusal
 
 /// The refusal of a text that is longer than it may be.
 pub fn too_long(reached: u64) -> Refusal
-    ensures { let refused = fault Cause.TooLong 0 reached in result ≡ Refusal.Text refused (record { line = 1; column = 1 }) }
+    ensures { let refused = fault_reaching Cause.TooLong 0 reached in result ≡ Refusal.Text refused (record { line = 1; column = 1 }) }
 {
     let fault = Fault {
         cause: Cause::TooLong,

@@ -16,7 +16,7 @@ use Rattle.xdg_judge.specs.declared.links.Direction.TheVariants as directions
 use Rattle.xdg_judge.specs.declared.links.Neighbours.{Neighbours}
 use Rattle.xdg_judge.specs.Graphs.{IsReady}
 use Rattle.xdg_judge.specs.Links.{AreNeighbours}
-use Rattle.xdg_nodeset.specs.Tables.{In, InBy}
+use Rattle.xdg_nodeset.specs.Tables.{InTable, InBy}
 use Rattle.xdg_facts.proofs.Lookups.{read_none, read_some}
 use Rattle.xdg_facts.proofs.Facts.{both_steps, not_told}
 use Rattle.xdg_problem.proofs.EntryPlaces.{length_entries}
@@ -50,7 +50,7 @@ table_is parts analysis tables table dim ready within is = subst (AreNeighbours 
 pub edge_told : (parts : Parts) (analysis : Analysis) (tables : List Neighbours) (table : Neighbours) (dim u l v : ℕ) (result : Bool) → IsReady parts analysis tables → dim < length parts.dims → table ≡ slice_index_or tables dim table → IsTrue result ↔ InBy table.by_label u l v → IsTrue result ↔ IsDaughterBy (edges_on dim analysis.edges) u l v
 edge_told parts analysis tables table dim u l v result ready within is told = both_steps told ((table_is parts analysis tables table dim ready within is).by_label u l v)
 
-pub path_told : (parts : Parts) (analysis : Analysis) (tables : List Neighbours) (table : Neighbours) (dim u v : ℕ) (result : Bool) → IsReady parts analysis tables → dim < length parts.dims → table ≡ slice_index_or tables dim table → IsTrue result ↔ In table.far u v → IsTrue result ↔ Above (edges_on dim analysis.edges) u v
+pub path_told : (parts : Parts) (analysis : Analysis) (tables : List Neighbours) (table : Neighbours) (dim u v : ℕ) (result : Bool) → IsReady parts analysis tables → dim < length parts.dims → table ≡ slice_index_or tables dim table → IsTrue result ↔ InTable table.far u v → IsTrue result ↔ Above (edges_on dim analysis.edges) u v
 path_told parts analysis tables table dim u v result ready within is told = both_steps told ((table_is parts analysis tables table dim ready within is).far u v)
 
 -- the entry of a node

@@ -10,7 +10,7 @@ use Rattle.xdg_problem.specs.Claims.{Claim, conjunction, disjunction, every, som
 use Rattle.xdg_problem.specs.Places.{nodes}
 use Rattle.xdg_problem.specs.Truths.{bound, unbound, IsTrueIn, FormulaHolds, HasTruth}
 use Rattle.xdg_facts.proofs.Numbers.{all_next}
-use Rattle.xdg_problem.proofs.FormulaFronts.{front_more}
+use Rattle.xdg_facts.proofs.Fronts.{map_next}
 
 says : (result each : Bool) (P : Type 0) → IsTrue result ↔ P → result ≡ each → HasTruth each P
 says result true P tells is = tells.0 is
@@ -54,7 +54,7 @@ module _ (parts : Parts) (analysis : Analysis) (b : ℕ → ℕ) where
   SoFar each fs i = HasTruth each (T (several each (map claim (take i fs))))
 
   pub several_turn : (each : Bool) (fs : List Formula) (i : ℕ) (f : Formula) (result : Bool) → i < length fs → f ≡ get_or fs i f → SoFar each fs i → IsTrue result ↔ T (claim f) → result ≡ each → SoFar each fs (i + 1)
-  several_turn each fs i f result l at so_far tells is = subst (λ cs. HasTruth each (T (several each cs))) (sym (front_more fs i f l at)) (several_more each (map claim (take i fs)) (claim f) so_far (says result each (T (claim f)) tells is))
+  several_turn each fs i f result l at so_far tells is = subst (λ cs. HasTruth each (T (several each cs))) (sym (map_next claim fs i f l at)) (several_more each (map claim (take i fs)) (claim f) so_far (says result each (T (claim f)) tells is))
 
   module _ (each : Bool) (formula : Formula) where
     pub several_refused : (fs items : List Formula) (i : ℕ) (f : Formula) (result : Bool) → claim formula ≡ several each (map claim fs) → items ≡ fs → i < length items → f ≡ get_or items i f

@@ -16,6 +16,7 @@ use Rattle.xdg_problem.specs.Arguments.{first_dim}
 use Rattle.xdg_problem.specs.Paths.{edges_on, roots}
 use Rattle.xdg_problem.specs.Places.{nodes}
 use Rattle.xdg_problem.specs.Relations.{Relation, IsKeptWhole, IsFirstBroken}
+use Rattle.xdg_problem.proofs.Verdicts.{broken_fails}
 use Rattle.xdg_judge.specs.Searching.{IsSearched, tuple_for, second_size, third_size, FirstThree}
 use Rattle.xdg_judge.specs.Verdicts.{AsksHere, IsOfWhole, IsKeptHere, IsLeastBroken, IsVerdict}
 use Rattle.xdg_judge.specs.declared.verdict.Verdict.{Verdict}
@@ -93,11 +94,6 @@ first_broken parts group analysis list i condition tuple e l at kept least = rec
 pub all_kept : (parts : Parts) (group : Group) (analysis : Analysis) (list : List Condition) (i : ℕ) → list ≡ conditions_of group → All (IsKeptHere parts group analysis) (take i list) → length list ≤ i → Relation parts group analysis
 all_kept parts group analysis list i e kept l = subst (All (IsKeptHere parts group analysis)) (take_all i list l ∙ e) kept
 
--- a principle use with a broken condition isn't satisfied
-
-pub not_related : (parts : Parts) (group : Group) (analysis : Analysis) (condition : Condition) (tuple : List ℕ) → IsFirstBroken parts group analysis condition tuple → Relation parts group analysis → ⊥
-not_related parts group analysis condition tuple b r = b.breaks.fails (subst (IsKeptHere parts group analysis) b.is (r b.place condition b.within) tuple b.breaks.within)
-
 pub zip_more : (parts : Parts) (analysis : Analysis) (groups : List Group) (i : ℕ) (g : Group) (vs : List Verdict) (v : Verdict) → i < length groups → g ≡ get_or groups i g → AllZip (IsVerdict parts analysis) (take i groups) vs → IsVerdict parts analysis g v → AllZip (IsVerdict parts analysis) (take (i + 1) groups) (vs ++ v ∷ [])
 zip_more parts analysis groups i g vs v l at z r =
     subst (λ q. AllZip (IsVerdict parts analysis) q (vs ++ v ∷ [])) (sym (take_more groups i g l))
@@ -109,4 +105,4 @@ zip_end parts analysis groups i vs l z = subst (λ q. AllZip (IsVerdict parts an
 pub not_holds : (told parts : Parts) (groups : List Group) (i : ℕ) (g given : Group) (analysis : Analysis) (condition : Condition) (tuple : List ℕ) → told ≡ parts → groups ≡ told.groups → i < length parts.groups → g ≡ get_or groups i g → IsFirstBroken told g analysis condition tuple → IsTrue false ↔ Relation parts (get_or parts.groups i given) analysis
 not_holds told parts groups i g given analysis condition tuple same e l at b =
     let is : g ≡ get_or parts.groups i given = at ∙ (ap (λ z. get_or z i g) e ∙ (ap (λ (z : Parts). get_or z.groups i g) same ∙ get_or_default parts.groups i g given l)) in
-    (λ t. absurd (false≢true t), λ r. absurd (not_related told g analysis condition tuple b (subst (λ z. Relation z g analysis) (sym same) (subst (λ z. Relation parts z analysis) (sym is) r))))
+    (λ t. absurd (false≢true t), λ r. absurd (broken_fails told g analysis condition tuple b (subst (λ z. Relation z g analysis) (sym same) (subst (λ z. Relation parts z analysis) (sym is) r))))

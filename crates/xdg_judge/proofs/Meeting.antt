@@ -8,7 +8,7 @@ use Rattle.xdg_judge.specs.declared.links.Links.{Links}
 use Rattle.xdg_judge.specs.declared.paths.Way.{Way}
 use Rattle.xdg_judge.specs.declared.paths.Way.TheVariants as ways
 use Rattle.xdg_judge.specs.Joining.{IsEnd, IsLed, IsJoined, sets_for}
-use Rattle.xdg_nodeset.specs.Tables.{In, Meet}
+use Rattle.xdg_nodeset.specs.Tables.{InTable, Meet}
 use Rattle.xdg_judge.specs.Links.{AreLinks}
 use Rattle.xdg_facts.proofs.Facts.{both_steps}
 use Rattle.xdg_facts.specs.Rises.{has}
@@ -39,14 +39,14 @@ module _ (edges : List Edge) (links : Links) (labels : List ℕ) (are : AreLinks
   )
 
   pub led_exact : (way : Way) (u v : ℕ) → IsLed way links labels u v ↔ IsJoined way edges labels u v
-  led_exact ways.Into u v = both_steps (led_up v (In links.up.next v) (In links.up.next v) (λ x. (λ end. end, λ end. end))) (
+  led_exact ways.Into u v = both_steps (led_up v (InTable links.up.next v) (InTable links.up.next v) (λ x. (λ end. end, λ end. end))) (
     λ (j, e, m, is, (label, (end, d))). (j, e, m, is, (label, d)),
     λ (j, e, m, is, (label, d)). (j, e, m, is, (label, ((are.up.next v e.mother.0).1 (j, e, m, is, (d, refl)), d))),
   )
   led_exact ways.Straight u v = led_down u (λ x. v ≡ x) (λ x. x ≡ v) (λ x. (sym, sym))
-  led_exact ways.First u v = led_down u (λ x. In links.up.far v x ⊎ (v ≡ x)) (λ x. (x ≡ v) ⊎ Above edges x v) (λ x. far_or_same x v (In links.up.far v x) (Above edges x v) (are.up.far v x))
-  led_exact ways.Last u v = led_up v (λ x. In links.down.far u x ⊎ (u ≡ x)) (λ x. (x ≡ u) ⊎ Above edges u x) (λ x. far_or_same x u (In links.down.far u x) (Above edges u x) (are.down.far u x))
-  led_exact ways.Sister u v = led_up v (In links.up.next u) (λ x. IsDaughter edges x u) (λ x. (
+  led_exact ways.First u v = led_down u (λ x. InTable links.up.far v x ⊎ (v ≡ x)) (λ x. (x ≡ v) ⊎ Above edges x v) (λ x. far_or_same x v (InTable links.up.far v x) (Above edges x v) (are.up.far v x))
+  led_exact ways.Last u v = led_up v (λ x. InTable links.down.far u x ⊎ (u ≡ x)) (λ x. (x ≡ u) ⊎ Above edges u x) (λ x. far_or_same x u (InTable links.down.far u x) (Above edges u x) (are.down.far u x))
+  led_exact ways.Sister u v = led_up v (InTable links.up.next u) (λ x. IsDaughter edges x u) (λ x. (
     λ end. let (i, f, n, here, (fd, fm)) = (are.up.next u x).0 end in (i, f, n, here, (fm, fd)),
     λ (i, f, n, here, (fm, fd)). (are.up.next u x).1 (i, f, n, here, (fd, fm)),
   ))

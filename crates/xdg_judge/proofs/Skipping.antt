@@ -10,7 +10,7 @@ use Rattle.xdg_problem.specs.Asking.{IsBetween, IsInItem}
 use Rattle.xdg_problem.specs.Paths.{Above, IsDaughterBy}
 use Rattle.xdg_judge.specs.declared.links.Links.{Links}
 use Rattle.xdg_judge.specs.Links.{AreLinks}
-use Rattle.xdg_nodeset.specs.Tables.{In}
+use Rattle.xdg_nodeset.specs.Tables.{InTable}
 use Rattle.xdg_facts.proofs.InOrder.{pairs_mapped}
 use Rattle.xdg_facts.proofs.Numbers.{all_next}
 use Rattle.xdg_facts.specs.Rises.{has}
@@ -21,7 +21,7 @@ is_between u v w h =
     let high : w < max u v = elim h [ inl (l, m) ↦ omega (arith, l, m) | inr (l, m) ↦ omega (arith, l, m) ] in
     ap (λ b. b && nat_lt w (max u v)) (lt-ltb (min u v) w low) ∙ lt-ltb w (max u v) high
 
-pub enclosed : (edges : List Edge) (links : Links) (u v a b w : ℕ) (between : List ℕ) → AreLinks edges links → ((n : ℕ) → has between n ≡ (nat_lt (min a b) n && nat_lt n (max a b))) → ((n : ℕ) → has between n ≡ true → In links.down.far u n) → a ≡ u → b ≡ v → IsBetween u v w → Above edges u w
+pub enclosed : (edges : List Edge) (links : Links) (u v a b w : ℕ) (between : List ℕ) → AreLinks edges links → ((n : ℕ) → has between n ≡ (nat_lt (min a b) n && nat_lt n (max a b))) → ((n : ℕ) → has between n ≡ true → InTable links.down.far u n) → a ≡ u → b ≡ v → IsBetween u v w → Above edges u w
 enclosed edges links u v a b w between are members all ea eb h =
     (are.down.far u w).0 (all w (members w ∙ (ap (λ z. nat_lt (min z b) w && nat_lt w (max z b)) ea ∙ (ap (λ z. nat_lt (min u z) w && nat_lt w (max u z)) eb ∙ is_between u v w h))))
 

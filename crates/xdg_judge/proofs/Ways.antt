@@ -13,8 +13,7 @@ use Rattle.xdg_judge.specs.Links.{AreLinks}
 use Rattle.xdg_judge.specs.declared.links.Links.{Links}
 use Rattle.xdg_judge.proofs.Meeting.{led_exact}
 use Rattle.xdg_facts.proofs.Facts.{both_steps}
-use Rattle.xdg_problem.proofs.Walks.{leads_append}
-use Rattle.xdg_problem.proofs.Walks.{by_last}
+use Rattle.xdg_problem.proofs.Walks.{leads_append, by_last}
 use Rattle.xdg_facts.proofs.Contained.{contains_one}
 
 first_joined : (edges : List Edge) (labels : List ℕ) (u v : ℕ) → IsJoined ways.First edges labels u v → AboveByFirst edges u labels v

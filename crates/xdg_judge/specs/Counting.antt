@@ -1,4 +1,4 @@
--- What the conditions count.
+-- What the conditions count, as the code counts it: a number for each pair of keys.
 use Rattle.std.specs.Prelude.{◌≡◌, ℕ, ◌==◌, ◌&&◌, List, [], slice_index, slice_index_or, count_by}
 use Rattle.xdg_problem.specs.declared.analysis.Edge.{Edge}
 use Rattle.xdg_problem.specs.declared.conditions.Condition.{Condition}

@@ -1,4 +1,4 @@
--- What formulas are judged on.
+-- What formulas are judged on, as the code keeps it: tables of neighbours.
 use Rattle.std.specs.Prelude.{ℕ, ◌<◌, List, length, slice_index_or}
 use Rattle.xdg_problem.specs.declared.analysis.Analysis.{Analysis}
 use Rattle.xdg_problem.specs.declared.parts.Parts.{Parts}

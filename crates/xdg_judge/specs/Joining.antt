@@ -4,7 +4,7 @@ use Rattle.std.specs.List.{Any}
 use Rattle.xdg_problem.specs.declared.analysis.Edge.{Edge}
 use Rattle.xdg_problem.specs.Paths.{Above, IsDaughter}
 use Rattle.xdg_judge.specs.declared.links.Links.{Links}
-use Rattle.xdg_nodeset.specs.Tables.{In}
+use Rattle.xdg_nodeset.specs.Tables.{InTable}
 use Rattle.xdg_judge.specs.declared.paths.Way.{Way}
 use Rattle.xdg_judge.specs.declared.paths.Way.TheVariants as ways
 use Rattle.xdg_facts.specs.Rises.{has}
@@ -28,11 +28,11 @@ IsJoined way edges labels u v = Any (λ e. Contains labels e.label.0 × Joins wa
 
 -- a node at which an edge that joins u to v in a way may have its end that is neither v, where it leads into v, nor u
 abbrev pub IsEnd : Way → Links → ℕ → ℕ → ℕ → Type 0
-IsEnd ways.Into links u v x = In links.up.next v x
+IsEnd ways.Into links u v x = InTable links.up.next v x
 IsEnd ways.Straight links u v x = v ≡ x
-IsEnd ways.First links u v x = In links.up.far v x ⊎ (v ≡ x)
-IsEnd ways.Last links u v x = In links.down.far u x ⊎ (u ≡ x)
-IsEnd ways.Sister links u v x = In links.up.next u x
+IsEnd ways.First links u v x = InTable links.up.far v x ⊎ (v ≡ x)
+IsEnd ways.Last links u v x = InTable links.down.far u x ⊎ (u ≡ x)
+IsEnd ways.Sister links u v x = InTable links.up.next u x
 
 -- the sets of the other ends, by labels
 abbrev pub sets_for : Way → Links → ℕ → ℕ → List (List ℕ)

@@ -7,7 +7,7 @@ use Rattle.xdg_judge.specs.declared.links.Direction.{Direction}
 use Rattle.xdg_judge.specs.declared.links.Direction.TheVariants as directions
 use Rattle.xdg_judge.specs.declared.links.Links.{Links}
 use Rattle.xdg_judge.specs.declared.links.Neighbours.{Neighbours}
-use Rattle.xdg_nodeset.specs.Tables.{In, InBy}
+use Rattle.xdg_nodeset.specs.Tables.{InTable, InBy}
 
 -- an edge leads from a node to another in a direction
 abbrev pub Leads : Direction → ℕ → ℕ → Edge → Type 0
@@ -27,8 +27,8 @@ LeadsFar directions.Up edges from to = Above edges to from
 -- the sets are those of the nodes that edges and paths lead to in a direction
 pub record AreNeighbours (direction : Direction) (edges : List Edge) (sets : Neighbours) : Type 0 where
   pub by_label : (from label to : ℕ) → InBy sets.by_label from label to ↔ Any (LeadsBy direction from label to) edges
-  pub next : (from to : ℕ) → In sets.next from to ↔ Any (Leads direction from to) edges
-  pub far : (from to : ℕ) → In sets.far from to ↔ LeadsFar direction edges from to
+  pub next : (from to : ℕ) → InTable sets.next from to ↔ Any (Leads direction from to) edges
+  pub far : (from to : ℕ) → InTable sets.far from to ↔ LeadsFar direction edges from to
 
 -- the sets of both directions
 pub record AreLinks (edges : List Edge) (links : Links) : Type 0 where

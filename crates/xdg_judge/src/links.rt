@@ -5,7 +5,7 @@ ghost use Rattle.std.specs.List.{Any};
 ghost use Rattle.xdg_facts.specs.Rises.{has};
 ghost use Rattle.xdg_problem.specs.Paths.{edges_on};
 ghost use Rattle.xdg_judge.specs.Links.{Leads, LeadsBy, AreNeighbours, AreLinks};
-ghost use Rattle.xdg_nodeset.specs.Tables.{In, InBy, IsClosure};
+ghost use Rattle.xdg_nodeset.specs.Tables.{InTable, InBy, IsClosure};
 ghost use Rattle.xdg_judge.specs.Reached.{AreWithin};
 
 use xdg_base::NodeId;
@@ -43,7 +43,7 @@ pub struct Links {
 pub fn leads(table: &[NodeSet; 128], from: u8, to: u8) -> bool
     requires from { from < 128 }
     requires to { to < 128 }
-    ensures { IsTrue result ↔ In table.now from to }
+    ensures { IsTrue result ↔ InTable table.now from to }
 {
     table[usize::from(from)].contains(NodeId(to))
 }
@@ -76,7 +76,7 @@ pub fn leads_nowhere(table: &[[NodeSet; 32]; 128], from: u8, label: u8) -> bool
 #[tactic(auto, using(xdg_facts::proofs::Sets::none_outside))]
 pub fn leads_to_all(table: &[NodeSet; 128], from: u8, nodes: NodeSet) -> bool
     requires { from < 128 }
-    ensures { IsTrue result → (to : ℕ) → has nodes to ≡ true → In table.now from to }
+    ensures { IsTrue result → (to : ℕ) → has nodes to ≡ true → InTable table.now from to }
 {
     nodes.minus(&table[usize::from(from)]).len() == 0
 }
@@ -97,7 +97,7 @@ fn add_by(table: &mut [[NodeSet; 32]; 128], from: u8, label: u8, to: u8)
 fn add(table: &mut [NodeSet; 128], from: u8, to: u8)
     requires from { from < 128 }
     requires to { to < 128 }
-    ensures { (a b : ℕ) → In table.new a b ↔ (In table.old a b ⊎ ((from ≡ a) × (to ≡ b))) }
+    ensures { (a b : ℕ) → InTable table.new a b ↔ (InTable table.old a b ⊎ ((from ≡ a) × (to ≡ b))) }
 {
     table[usize::from(from)].insert(NodeId(to));
 }
@@ -106,7 +106,7 @@ fn add(table: &mut [NodeSet; 128], from: u8, to: u8)
 #[tactic(auto, using(xdg_nodeset::proofs::TableSets::widened_start, xdg_nodeset::proofs::TableSets::widened_more, xdg_nodeset::proofs::TableSets::widened_end))]
 fn widen(table: &mut [NodeSet; 128], middle: u8)
     requires { middle < 128 }
-    ensures { (a b : ℕ) → In table.new a b ↔ (In table.old a b ⊎ (In table.old a middle × In table.old middle b)) }
+    ensures { (a b : ℕ) → InTable table.new a b ↔ (InTable table.old a b ⊎ (InTable table.old a middle × InTable table.old middle b)) }
 {
     let beyond = table[usize::from(middle)];
     for set in table.iter_mut() {
@@ -132,7 +132,7 @@ impl Neighbours {
     #[tactic(auto, using(xdg_nodeset::proofs::TableSets::no_in, xdg_nodeset::proofs::TableSets::no_by))]
     pub(crate) fn none() -> Neighbours
         ensures by_label { (from label to : ℕ) → InBy result.by_label from label to → ⊥ }
-        ensures next { (from to : ℕ) → In result.next from to → ⊥ }
+        ensures next { (from to : ℕ) → InTable result.next from to → ⊥ }
     {
         Neighbours {
             by_label: [[NodeSet::empty(); 32]; 128],
@@ -147,7 +147,7 @@ impl Neighbours {
         requires label { edge.label.0 < 32 }
         requires daughter { edge.daughter.0 < 128 }
         ensures by_label { (a l b : ℕ) → InBy self.new.by_label a l b ↔ (InBy self.old.by_label a l b ⊎ LeadsBy direction a l b edge) }
-        ensures next { (a b : ℕ) → In self.new.next a b ↔ (In self.old.next a b ⊎ Leads direction a b edge) }
+        ensures next { (a b : ℕ) → InTable self.new.next a b ↔ (InTable self.old.next a b ⊎ Leads direction a b edge) }
     {
         let label = edge.label.0;
         let (from, to) = match direction {
@@ -162,7 +162,7 @@ impl Neighbours {
     fn gathered(edges: &[Edge], dim: u8, direction: Direction) -> Neighbours
         requires { AreWithin 128 edges.now }
         ensures by_label { (from label to : ℕ) → InBy result.by_label from label to ↔ Any (LeadsBy direction from label to) (edges_on dim edges.now) }
-        ensures next { (from to : ℕ) → In result.next from to ↔ Any (Leads direction from to) (edges_on dim edges.now) }
+        ensures next { (from to : ℕ) → InTable result.next from to ↔ Any (Leads direction from to) (edges_on dim edges.now) }
     {
         let mut sets = Neighbours::none();
         for edge in edges {

@@ -17,7 +17,9 @@ pub struct Tuple4 {
 /// least tuple that breaks it, compared item by item.
 #[derive(Clone, Copy, Debug)]
 pub enum Verdict {
+    /// Its relation holds.
     Kept,
+    /// The first condition that is broken, and the least tuple that breaks it.
     Broken { condition: Condition, tuple: Tuple4 },
 }
 

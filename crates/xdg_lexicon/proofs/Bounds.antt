@@ -10,10 +10,10 @@ use Rattle.xdg_types.specs.Table.{Table, IsTable}
 use Rattle.xdg_packed.specs.Lexicon.{Lexicon, number, places_of, word_of}
 use Rattle.xdg_packed.proofs.WordLists.{numbers_none}
 use Rattle.xdg_packed.proofs.OfTable.{words_once}
-use Rattle.xdg_check.specs.Counts.{capped}
+use Rattle.xdg_facts.specs.Capped.{capped}
 use Rattle.xdg_packed.specs.Entries.{IsWordPlace, count_of}
 use Rattle.xdg_lexicon.specs.Growing.{IsFirstCrowded, count_at}
-use Rattle.xdg_lexicon.specs.Lexicon.{AreFewEach, IsCrowded, reaching}
+use Rattle.xdg_lexicon.specs.Lexicon.{AreFewEach, IsCrowded, reaching_most}
 use Rattle.xdg_lexicon.specs.Steps.{KeepsLimits}
 
 -- ---- entries of words
@@ -44,6 +44,6 @@ pub crowded : (table : Table) (lexicon : Lexicon) (at reached : ℕ) (stop : Sto
 crowded table lexicon at reached stop place few first fits is =
     let small : reached ≤ 2 ^ 64 - 1 = omega (arith, fits) in
     let whole : capped reached ≡ reached = omega (arith, small) in
-    let same : record { cause = causes.TooManyEntries; at = at; reached = reached } ≡ reaching causes.TooManyEntries at reached = ap (λ n. record { cause = causes.TooManyEntries; at = at; reached = n }) (sym whole) in
+    let same : record { cause = causes.TooManyEntries; at = at; reached = reached } ≡ reaching_most causes.TooManyEntries at reached = ap (λ n. record { cause = causes.TooManyEntries; at = at; reached = n }) (sym whole) in
     let here : IsCrowded table lexicon.entries reached = record { dim = lexicon.dim; field = lexicon.field; words = place; first = first.first; within = first.within; reached_is = first.reached_is; many = first.many; before = first.before } in
     subst (λ s. KeepsLimits table lexicon.entries at (Err s)) (sym is) (inr (few, (reached, (here, same))))

@@ -4,7 +4,8 @@ use Rattle.xdg_classes.specs.Bodies.{Body, Called, calls}
 use Rattle.xdg_classes.specs.Wants.{NamedBody}
 use Rattle.xdg_check.specs.declared.checked.Class.{Class}
 use Rattle.xdg_check.specs.Checked.{named_body, named_bodies}
-use Rattle.xdg_check.specs.Counts.{Counting, Agrees, AreCounted, capped}
+use Rattle.xdg_check.specs.Counts.{Counting, Agrees, AreCounted}
+use Rattle.xdg_facts.specs.Capped.{capped}
 use Rattle.xdg_lexicon.specs.Sources.{AreNumbers, HasNumber}
 use Rattle.xdg_facts.specs.Membership.{In}
 use Rattle.xdg_facts.proofs.In.{in_map, map_in}

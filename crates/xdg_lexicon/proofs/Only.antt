@@ -13,7 +13,7 @@ use Rattle.xdg_lexicon.specs.Partial.{Partial}
 use Rattle.xdg_lexicon.specs.Denotes.{Denotes}
 use Rattle.xdg_packed.specs.Entries.{IsWordPlace, count_of}
 use Rattle.xdg_lexicon.specs.Sources.{Source, HasNumber}
-use Rattle.xdg_lexicon.specs.Lexicon.{whole, AreWhole, Adds, SoFar, nothing_yet, IsWithinLimits, IsExpanded, Expands, ExpandsAll, no_more, one_more, IsTooMany, alone, together, IsCrowded, OffendsAt, many_uses, many_combos, unsaid, many_entries, many_of_word, Refuses, reaching}
+use Rattle.xdg_lexicon.specs.Lexicon.{whole, AreWhole, Adds, SoFar, nothing_yet, IsWithinLimits, IsExpanded, Expands, ExpandsAll, no_more, one_more, IsTooMany, alone, together, IsCrowded, OffendsAt, many_uses, many_combos, unsaid, many_entries, many_of_word, Refuses, reaching_most}
 use Rattle.xdg_lexicon.specs.Steps.{Once, AllOnce, OnceCounted}
 use Rattle.xdg_lexicon.specs.Answers.{IsAnswer}
 use Rattle.xdg_lexicon.proofs.Adding.{same_added, same_whole, none_lacks}
@@ -132,7 +132,7 @@ module _ (source : Source) (definite : IsDefinite source) where
     offends_same f g once (many_entries all c expanded many is) (many_combos w m had less had_combos more) = absurd (few_combos before one.1 _ _ m c.combos_of g had_combos more c.has_combos c.few_combos)
     offends_same f g once (many_entries all c expanded many is) (unsaid ns q d denotes stands none says) = absurd (none_unsaid before one.1 all ns q (once c) expanded denotes stands none)
     offends_same f g once (many_entries all c expanded many is) (many_entries others d further more says) =
-        is ∙ ap (λ (l : List Entry). reaching causes.TooManyEntries one.0 (length l)) (same_all before one.1 all others (once c) expanded further) ∙ sym says
+        is ∙ ap (λ (l : List Entry). reaching_most causes.TooManyEntries one.0 (length l)) (same_all before one.1 all others (once c) expanded further) ∙ sym says
     offends_same f g once (many_entries all c expanded many is) (many_of_word others reached d further few crowded says) =
         let e = ap length (same_all before one.1 all others (once c) expanded further) in absurd (omega (arith, e, many, few))
     offends_same f g once (many_of_word all reached c expanded few crowded is) (many_uses m had more) = absurd (few_uses before one.1 _ _ m c.uses_of g had more c.has_uses c.few_uses)
@@ -142,7 +142,7 @@ module _ (source : Source) (definite : IsDefinite source) where
         let e = ap length (same_all before one.1 all others (once c) expanded further) in absurd (omega (arith, e, more, few))
     offends_same f g once (many_of_word all reached c expanded few crowded is) (many_of_word others counted d further less thronged says) =
         let e = same_all before one.1 others all (once c) further expanded in
-        is ∙ ap (reaching causes.TooManyEntries one.0) (same_crowded all reached counted crowded (subst (λ l. IsCrowded source.table l counted) e thronged)) ∙ sym says
+        is ∙ ap (reaching_most causes.TooManyEntries one.0) (same_crowded all reached counted crowded (subst (λ l. IsCrowded source.table l counted) e thronged)) ∙ sym says
 
   -- ---- one after the other
 

@@ -13,13 +13,15 @@ use Rattle.xdg_packed.specs.Lexicon.{Entry}
 use Rattle.xdg_classes.specs.Bodies.{Body, body}
 use Rattle.xdg_check.specs.declared.checked.EntryDef.{EntryDef}
 use Rattle.xdg_check.specs.Checked.{Parts, IsChecked}
-use Rattle.xdg_check.specs.Counts.{Counting, Agrees, uses, combos, capped}
+use Rattle.xdg_check.specs.Counts.{Counting, Agrees, uses, combos}
+use Rattle.xdg_facts.specs.Capped.{capped}
 use Rattle.xdg_check.proofs.SameCounts.{same_uses, same_combos}
 use Rattle.xdg_lexicon.specs.Partial.{Partial}
 use Rattle.xdg_lexicon.specs.Denotes.{Denotes}
 use Rattle.xdg_lexicon.specs.Sources.{Source, source_of, HasNumber}
 use Rattle.xdg_lexicon.specs.Lexicon.{Adds, SoFar, nothing_yet, IsWithinLimits, IsExpanded, Expands, ExpandsAll, no_more, one_more, AreFewEach, IsTooMany, many_uses, many_combos, unsaid, many_entries, many_of_word, Refuses}
-use Rattle.xdg_lexicon.specs.Steps.{one_of, AddsMembers, KeepsLimits, Once, AllOnce, CountsOne, AddsOne, ExpandsOne}
+use Rattle.xdg_lexicon.specs.Steps.{AddsMembers, KeepsLimits, Once, AllOnce, CountsOne, AddsOne, ExpandsOne}
+use Rattle.xdg_check.specs.Only.{placed_body}
 use Rattle.xdg_packed.proofs.OfTable.{words_once}
 use Rattle.xdg_lexicon.proofs.Numbers.{number_once, number_told}
 use Rattle.xdg_lexicon.specs.Answers.{IsAnswer, Tells}
@@ -48,12 +50,12 @@ module _ (parts : Parts) (is : IsChecked parts) where
       uses_told : {P : ℕ → Type 0} → ((n : ℕ) → here ≡ capped n → P n) → (n : ℕ) × (HasNumber uses (source_of parts).classes part n × P n)
       uses_told tells = number_told uses same_uses (λ c. c.uses) parts.classes is.uses part here uses_here tells
 
-      pub uses_refused : (n : ℕ) (stop : Stop) → before.uses ≡ n → Sums causes.TooManyUses def.at n here (Err stop) → CountsOne (source_of parts) before (one_of def) (Err stop)
+      pub uses_refused : (n : ℕ) (stop : Stop) → before.uses ≡ n → Sums causes.TooManyUses def.at n here (Err stop) → CountsOne (source_of parts) before (placed_body def) (Err stop)
       uses_refused n stop same sums =
           let told = uses_told sums in
           let f = told.1.1.0 in
           let many = subst (λ m. IsTooMany causes.TooManyUses def.at m told.0 f) (sym same) told.1.1.1.1 in
-          subst (λ s. CountsOne (source_of parts) before (one_of def) (Err s)) (sym told.1.1.1.0) (
+          subst (λ s. CountsOne (source_of parts) before (placed_body def) (Err s)) (sym told.1.1.1.0) (
             many_uses told.0 told.1.0 many,
             λ c. not_within causes.TooManyUses def.at before.uses told.0 f many (subst (IsWithinLimits before.uses) (definite.uses_once part c.uses_of told.0 c.has_uses told.1.0) c.few_uses),
           )
@@ -62,18 +64,18 @@ module _ (parts : Parts) (is : IsChecked parts) where
         combos_told : {P : ℕ → Type 0} → ((n : ℕ) → there ≡ capped n → P n) → (n : ℕ) × (HasNumber combos (source_of parts).classes part n × P n)
         combos_told tells = number_told combos same_combos (λ c. c.combos) parts.classes is.combos part there combos_there tells
 
-        pub combos_refused : (n m sum : ℕ) (stop : Stop) → before.uses ≡ n → before.combos ≡ m → Sums causes.TooManyUses def.at n here (Ok sum) → Sums causes.TooManyEntries def.at m there (Err stop) → CountsOne (source_of parts) before (one_of def) (Err stop)
+        pub combos_refused : (n m sum : ℕ) (stop : Stop) → before.uses ≡ n → before.combos ≡ m → Sums causes.TooManyUses def.at n here (Ok sum) → Sums causes.TooManyEntries def.at m there (Err stop) → CountsOne (source_of parts) before (placed_body def) (Err stop)
         combos_refused n m sum stop same alike sums refused =
             let first = uses_told sums in
             let told = combos_told refused in
             let f = told.1.1.0 in
             let many = subst (λ k. IsTooMany causes.TooManyEntries def.at k told.0 f) (sym alike) told.1.1.1.1 in
-            subst (λ s. CountsOne (source_of parts) before (one_of def) (Err s)) (sym told.1.1.1.0) (
+            subst (λ s. CountsOne (source_of parts) before (placed_body def) (Err s)) (sym told.1.1.1.0) (
               many_combos first.0 told.0 first.1.0 (subst (λ k. IsWithinLimits k first.0) (sym same) first.1.1.0) told.1.0 many,
               λ c. not_within causes.TooManyEntries def.at before.combos told.0 f many (subst (IsWithinLimits before.combos) (definite.combos_once part c.combos_of told.0 c.has_combos told.1.0) c.few_combos),
             )
 
-        pub both_counted : (n m sum total : ℕ) → before.uses ≡ n → before.combos ≡ m → Sums causes.TooManyUses def.at n here (Ok sum) → Sums causes.TooManyEntries def.at m there (Ok total) → CountsOne (source_of parts) before (one_of def) (Ok (sum, total))
+        pub both_counted : (n m sum total : ℕ) → before.uses ≡ n → before.combos ≡ m → Sums causes.TooManyUses def.at n here (Ok sum) → Sums causes.TooManyEntries def.at m there (Ok total) → CountsOne (source_of parts) before (placed_body def) (Ok (sum, total))
         both_counted n m sum total same alike sums totals =
             let first = uses_told sums in
             let second = combos_told totals in (
@@ -151,42 +153,42 @@ module _ (source : Source) where
   once_last [] one all last = (last, tt)
   once_last (first ∷ front) one all last = (all.0, once_last front one all.1 last)
 
-split_at : (defs : List EntryDef) (i : ℕ) (def : EntryDef) → i < length defs → def ≡ get_or defs i def → map one_of defs ≡ map one_of (take i defs) ++ one_of def ∷ map one_of (drop (i + 1) defs)
+split_at : (defs : List EntryDef) (i : ℕ) (def : EntryDef) → i < length defs → def ≡ get_or defs i def → map placed_body defs ≡ map placed_body (take i defs) ++ placed_body def ∷ map placed_body (drop (i + 1) defs)
 split_at defs i def within is =
-    ap (map one_of) (sym (take-append-drop i defs) ∙ ap (λ l. take i defs ++ l) (from_place defs i def within is)) ∙ map-append one_of (take i defs) (def ∷ drop (i + 1) defs)
+    ap (map placed_body) (sym (take-append-drop i defs) ∙ ap (λ l. take i defs ++ l) (from_place defs i def within is)) ∙ map-append placed_body (take i defs) (def ∷ drop (i + 1) defs)
 
 -- what is known before a `defentry`: those before it are expanded, and each denotes one list
 pub record ExpandedSoFar (parts : Parts) (defs : List EntryDef) (i : ℕ) (so : SoFar) : Type 0 where
-  pub all : ExpandsAll (source_of parts) nothing_yet (map one_of (take i defs)) so
-  pub once : AllOnce (source_of parts) (map one_of (take i defs))
+  pub all : ExpandsAll (source_of parts) nothing_yet (map placed_body (take i defs)) so
+  pub once : AllOnce (source_of parts) (map placed_body (take i defs))
   pub few : length so.entries ≤ 65536
   pub few_each : AreFewEach parts.types so.entries
 
 module _ {parts : Parts} {defs : List EntryDef} {i : ℕ} {def : EntryDef} (within : i < length defs) (is : def ≡ get_or defs i def) {so : SoFar} (so_far : ExpandedSoFar parts defs i so) where
-  pub expanded_more : (after : SoFar) → ExpandsOne (source_of parts) so (one_of def) (Ok after) → ExpandedSoFar parts defs (i + 1) after
+  pub expanded_more : (after : SoFar) → ExpandsOne (source_of parts) so (placed_body def) (Ok after) → ExpandedSoFar parts defs (i + 1) after
   expanded_more after one = record {
-    all = subst (λ l. ExpandsAll (source_of parts) nothing_yet l after) (sym (map_next one_of defs i def within is)) (expands_last (source_of parts) nothing_yet so after (map one_of (take i defs)) (one_of def) so_far.all one.0);
-    once = subst (AllOnce (source_of parts)) (sym (map_next one_of defs i def within is)) (once_last (source_of parts) (map one_of (take i defs)) (one_of def) so_far.once one.1);
+    all = subst (λ l. ExpandsAll (source_of parts) nothing_yet l after) (sym (map_next placed_body defs i def within is)) (expands_last (source_of parts) nothing_yet so after (map placed_body (take i defs)) (placed_body def) so_far.all one.0);
+    once = subst (AllOnce (source_of parts)) (sym (map_next placed_body defs i def within is)) (once_last (source_of parts) (map placed_body (take i defs)) (placed_body def) so_far.once one.1);
     few = one.0.few;
     few_each = one.0.few_each;
   }
 
-  pub refused : (f : Fault) → parts.entries ≡ defs → ExpandsOne (source_of parts) so (one_of def) (Err (stops.Fault f)) → Refuses (source_of parts) f
+  pub refused : (f : Fault) → parts.entries ≡ defs → ExpandsOne (source_of parts) so (placed_body def) (Err (stops.Fault f)) → Refuses (source_of parts) f
   refused f same one = record {
-    front = map one_of (take i defs);
-    one = one_of def;
-    rest = map one_of (drop (i + 1) defs);
-    are = ap (map one_of) same ∙ split_at defs i def within is;
+    front = map placed_body (take i defs);
+    one = placed_body def;
+    rest = map placed_body (drop (i + 1) defs);
+    are = ap (map placed_body) same ∙ split_at defs i def within is;
     so_far = so;
     expanded = so_far.all;
     offends = one.0;
   }
 
-  pub refused_tells : (stop : Stop) → parts.entries ≡ defs → ExpandsOne (source_of parts) so (one_of def) (Err stop) → Tells (source_of parts) (Err stop)
+  pub refused_tells : (stop : Stop) → parts.entries ≡ defs → ExpandsOne (source_of parts) so (placed_body def) (Err stop) → Tells (source_of parts) (Err stop)
   refused_tells (stops.Fault f) same one = refused f same one
   refused_tells stops.OutOfMemory same one = tt
 
-  pub refused_only : IsChecked parts → (stop : Stop) → parts.entries ≡ defs → ExpandsOne (source_of parts) so (one_of def) (Err stop) → (answer : Result (List Entry) Fault) → IsAnswer (source_of parts) answer → Gives answer (Err stop)
+  pub refused_only : IsChecked parts → (stop : Stop) → parts.entries ≡ defs → ExpandsOne (source_of parts) so (placed_body def) (Err stop) → (answer : Result (List Entry) Fault) → IsAnswer (source_of parts) answer → Gives answer (Err stop)
   unfolding refused
   refused_only checked (stops.Fault f) same one answer told = only_refused (source_of parts) (definite parts checked) f (refused f same one) so_far.once one.1 answer told
   refused_only checked stops.OutOfMemory same one answer told = tt
@@ -200,10 +202,10 @@ expanded_none parts defs entries none = rw none (record {
 })
 
 module _ {parts : Parts} {defs : List EntryDef} {i : ℕ} {so : SoFar} (same : parts.entries ≡ defs) (past : length defs ≤ i) (so_far : ExpandedSoFar parts defs i so) where
-  are_all : map one_of (take i defs) ≡ map one_of parts.entries
-  are_all = ap (map one_of) (take_all i defs past ∙ sym same)
+  are_all : map placed_body (take i defs) ≡ map placed_body parts.entries
+  are_all = ap (map placed_body) (take_all i defs past ∙ sym same)
 
-  pub all_expanded : ExpandsAll (source_of parts) nothing_yet (map one_of parts.entries) so
+  pub all_expanded : ExpandsAll (source_of parts) nothing_yet (map placed_body parts.entries) so
   all_expanded = subst (λ l. ExpandsAll (source_of parts) nothing_yet l so) are_all so_far.all
 
   pub expanded_only : IsChecked parts → (answer : Result (List Entry) Fault) → IsAnswer (source_of parts) answer → Gives answer (Ok so.entries)

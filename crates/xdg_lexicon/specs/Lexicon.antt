@@ -9,12 +9,14 @@ use Rattle.xdg_types.specs.declared.table.DimType.{DimType}
 use Rattle.xdg_types.specs.Table.{Table, typed}
 use Rattle.xdg_packed.specs.Lexicon.{Record, Entry, word_of}
 use Rattle.xdg_classes.specs.Bodies.{Body}
-use Rattle.xdg_check.specs.Counts.{uses, combos, capped}
+use Rattle.xdg_check.specs.Counts.{uses, combos}
+use Rattle.xdg_facts.specs.Capped.{capped}
 use Rattle.xdg_lexicon.specs.Partial.{Partial, said_of}
 use Rattle.xdg_lexicon.specs.Denotes.{Denotes}
 use Rattle.xdg_packed.specs.Entries.{IsWordPlace, count_of}
 use Rattle.xdg_lexicon.specs.Sources.{Source, HasNumber}
 use Rattle.xdg_facts.specs.Membership.{In}
+use Rattle.xdg_base.specs.Faults.{fault_at, fault_reaching}
 
 -- ---- from partial entries to entries
 
@@ -105,13 +107,13 @@ IsLexicon source entries = (last : SoFar) × (ExpandsAll source nothing_yet sour
 
 -- ---- limits that are passed
 
-abbrev pub reaching : Cause → ℕ → ℕ → Fault
-reaching cause at reached = record { cause = cause; at = at; reached = capped reached }
+abbrev pub reaching_most : Cause → ℕ → ℕ → Fault
+reaching_most cause at reached = fault_reaching cause at (capped reached)
 
 -- a number of one body passes the limit, or else the sum with those before it does
 pub data IsTooMany (cause : Cause) (at before n : ℕ) (f : Fault) : Type 0 where
-  alone : 65536 < n → f ≡ reaching cause at n → IsTooMany cause at before n f
-  together : n ≤ 65536 → 1048576 < before + n → f ≡ reaching cause at (before + n) → IsTooMany cause at before n f
+  alone : 65536 < n → f ≡ reaching_most cause at n → IsTooMany cause at before n f
+  together : n ≤ 65536 → 1048576 < before + n → f ≡ reaching_most cause at (before + n) → IsTooMany cause at before n f
 
 -- the first of the entries whose word has more than 1,024 of them, and how many that word has
 pub record IsCrowded (table : Table) (entries : List Entry) (reached : ℕ) : Type 0 where
@@ -134,14 +136,14 @@ pub data OffendsAt (source : Source) (before : SoFar) (one : ℕ × Body) (f : F
   -- a member that leaves a plain feature of a used dimension unsaid
   unsaid : (ms : List Partial) (p : Partial) → IsCounted source before one.1 → Denotes source.table.dims source.classes [] one.1 ms → In ms p
       → whole source.table p ≡ None
-      → f ≡ record { cause = causes.MissingArg; at = one.0; reached = 0 } → OffendsAt source before one f
+      → f ≡ fault_at causes.MissingArg one.0 → OffendsAt source before one f
   -- too many entries
   many_entries : (all : List Entry) → IsCounted source before one.1 → IsExpanded source before one.1 all → 65536 < length all
-      → f ≡ reaching causes.TooManyEntries one.0 (length all) → OffendsAt source before one f
+      → f ≡ reaching_most causes.TooManyEntries one.0 (length all) → OffendsAt source before one f
   -- too many entries of one word
   many_of_word : (all : List Entry) (reached : ℕ) → IsCounted source before one.1 → IsExpanded source before one.1 all → length all ≤ 65536
       → IsCrowded source.table all reached
-      → f ≡ reaching causes.TooManyEntries one.0 reached → OffendsAt source before one f
+      → f ≡ reaching_most causes.TooManyEntries one.0 reached → OffendsAt source before one f
 
 -- the first `defentry` with which something is wrong, those before it being expanded
 pub record Refuses (source : Source) (f : Fault) : Type 0 where

@@ -6,31 +6,27 @@ use Rattle.xdg_base.specs.declared.faults.Stop.TheVariants as stops
 use Rattle.xdg_types.specs.Table.{Table}
 use Rattle.xdg_packed.specs.Lexicon.{Entry}
 use Rattle.xdg_packed.specs.Packing.{Puts}
-use Rattle.xdg_classes.specs.Bodies.{Body, body}
-use Rattle.xdg_check.specs.declared.checked.EntryDef.{EntryDef}
+use Rattle.xdg_classes.specs.Bodies.{Body}
 use Rattle.xdg_lexicon.specs.Partial.{Partial}
 use Rattle.xdg_lexicon.specs.Denotes.{Denotes}
 use Rattle.xdg_lexicon.specs.Sources.{Source}
-use Rattle.xdg_lexicon.specs.Lexicon.{whole, AreWhole, Adds, SoFar, AreFewEach, IsCounted, IsExpanded, Expands, IsCrowded, OffendsAt, reaching}
+use Rattle.xdg_lexicon.specs.Lexicon.{whole, AreWhole, Adds, SoFar, AreFewEach, IsCounted, IsExpanded, Expands, IsCrowded, OffendsAt, reaching_most}
 use Rattle.xdg_facts.specs.Membership.{In}
-
--- a `defentry`: the place of its word, and its body
-abbrev pub one_of : EntryDef → ℕ × Body
-one_of def = (def.at, body def.body.kind)
+use Rattle.xdg_base.specs.Faults.{fault_at}
 
 -- ---- members
 
 -- the member is whole and is added, or it lacks a feature
 abbrev pub AddsMember : Table → Partial → ℕ → List Entry → Result (List Entry) Stop → Type 0
 AddsMember table p at before (Ok after) = (e : Entry) × ((whole table p ≡ Some e) × Puts before e after)
-AddsMember table p at before (Err (stops.Fault f)) = (whole table p ≡ None) × (f ≡ record { cause = causes.MissingArg; at = at; reached = 0 })
+AddsMember table p at before (Err (stops.Fault f)) = (whole table p ≡ None) × (f ≡ fault_at causes.MissingArg at)
 AddsMember table p at before (Err stops.OutOfMemory) = Unit {0}
 
 -- each member is whole and is added, or one lacks a feature
 abbrev pub AddsMembers : Table → List Partial → ℕ → List Entry → Result (List Entry) Stop → Type 0
 AddsMembers table members at before (Ok after) = (made : List Entry) × (AreWhole table members made × Adds before made after)
 AddsMembers table members at before (Err (stops.Fault f)) =
-    (p : Partial) × (In members p × ((whole table p ≡ None) × (f ≡ record { cause = causes.MissingArg; at = at; reached = 0 })))
+    (p : Partial) × (In members p × ((whole table p ≡ None) × (f ≡ fault_at causes.MissingArg at)))
 AddsMembers table members at before (Err stops.OutOfMemory) = Unit {0}
 
 -- ---- limits
@@ -39,8 +35,8 @@ AddsMembers table members at before (Err stops.OutOfMemory) = Unit {0}
 abbrev pub KeepsLimits : Table → List Entry → ℕ → Result (Unit {0}) Stop → Type 0
 KeepsLimits table entries at (Ok done) = (length entries ≤ 65536) × AreFewEach table entries
 KeepsLimits table entries at (Err (stops.Fault f)) =
-    ((65536 < length entries) × (f ≡ reaching causes.TooManyEntries at (length entries)))
-    ⊎ ((length entries ≤ 65536) × ((reached : ℕ) × (IsCrowded table entries reached × (f ≡ reaching causes.TooManyEntries at reached))))
+    ((65536 < length entries) × (f ≡ reaching_most causes.TooManyEntries at (length entries)))
+    ⊎ ((length entries ≤ 65536) × ((reached : ℕ) × (IsCrowded table entries reached × (f ≡ reaching_most causes.TooManyEntries at reached))))
 KeepsLimits table entries at (Err stops.OutOfMemory) = Unit {0}
 
 -- ---- one `defentry`

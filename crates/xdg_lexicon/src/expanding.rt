@@ -12,7 +12,8 @@ ghost use Rattle.xdg_lexicon.specs.Growing.{IsRightGrowing, entries_in};
 ghost use Rattle.xdg_lexicon.specs.Lexicon.{SoFar};
 ghost use Rattle.xdg_lexicon.specs.Expanding.{IsRight, so_far};
 ghost use Rattle.xdg_lexicon.specs.Sources.{source_of};
-ghost use Rattle.xdg_lexicon.specs.Steps.{one_of, CountsOne, AddsOne, ExpandsOne};
+ghost use Rattle.xdg_lexicon.specs.Steps.{CountsOne, AddsOne, ExpandsOne};
+ghost use Rattle.xdg_check.specs.Only.{placed_body};
 
 use crate::denoting::members;
 use crate::growing::{Growing, add_members, limited};
@@ -87,7 +88,7 @@ fn expand_one(
     requires entry { In checked.now.entries def.now }
     requires right { IsRight checked.now.types expanding }
     ensures right { IfOk result (IsRight checked.now.types) }
-    ensures expands { ExpandsOne (source_of checked.now) (so_far expanding) (one_of def.now) (answer_of so_far result) }
+    ensures expands { ExpandsOne (source_of checked.now) (so_far expanding) (placed_body def.now) (answer_of so_far result) }
 {
     let (uses, combos) = count_one(checked, def, expanding.uses, expanding.combos)?;
     let growing = add_one(alloc, checked, def, expanding.growing)?;
@@ -103,7 +104,7 @@ fn count_one(checked: &Checked, def: &EntryDef, uses: u64, combos: u64) -> Resul
     requires checked { IsChecked checked.now }
     requires few_uses { uses ≤ 1048576 }
     requires few_combos { combos ≤ 1048576 }
-    ensures { (before : SoFar) → before.uses ≡ uses → before.combos ≡ combos → CountsOne (source_of checked.now) before (one_of def.now) result }
+    ensures { (before : SoFar) → before.uses ≡ uses → before.combos ≡ combos → CountsOne (source_of checked.now) before (placed_body def.now) result }
 {
     let here = uses_of(checked, &def.body);
     let uses = sum_within(Cause::TooManyUses, def.at, uses, here)?;
@@ -124,7 +125,7 @@ fn add_one(
     requires right { IsRightGrowing checked.now.types growing }
     ensures right { IfOk result (IsRightGrowing checked.now.types) }
     ensures adds { (before : SoFar) → before.entries ≡ entries_in growing
-        → AddsOne (source_of checked.now) before (one_of def.now) (answer_of entries_in result) }
+        → AddsOne (source_of checked.now) before (placed_body def.now) (answer_of entries_in result) }
 {
     let partials = members(alloc, checked, &def.body)?;
     let growing = add_members(alloc, checked.types(), partials.as_slice(), def.at, growing)?;

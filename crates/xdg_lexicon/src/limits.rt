@@ -3,7 +3,7 @@
 ghost use Rattle.std.specs.Prelude.{◌≡◌, ◌+◌, ◌≤◌, ℕ, IfOk, IfErr};
 ghost use Rattle.xdg_base.specs.declared.faults.Fault as faults;
 ghost use Rattle.xdg_base.specs.declared.faults.Stop.TheVariants as stops;
-ghost use Rattle.xdg_check.specs.Counts.{capped};
+ghost use Rattle.xdg_facts.specs.Capped.{capped};
 ghost use Rattle.xdg_lexicon.specs.Lexicon.{IsWithinLimits, IsTooMany};
 
 use xdg_base::{Cause, Fault, Stop};

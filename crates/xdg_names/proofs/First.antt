@@ -1,12 +1,11 @@
 -- Laws of the first of several faults.
-use Rattle.std.proofs.Common.{◌≡◌, ℕ, suc, ◌+◌, length, drop, get_or, add-one, drop-cons, ◌<◌, ◌⊎◌, inl, inr, Bool, true, false, List, [], ◌∷◌, ◌++◌, Option, Some, None, refl, sym, ap, ◌∙◌, subst, arith}
+use Rattle.std.proofs.Common.{◌≡◌, ℕ, suc, ◌+◌, length, drop, get_or, add-one, drop-cons, ◌<◌, ◌⊎◌, inl, inr, Bool, true, false, List, [], ◌∷◌, ◌++◌, Option, Some, None, refl, sym, ap, ◌∙◌, subst, arith, ◌≤◌}
 use Rattle.std.specs.Prelude.{if◌then◌else◌}
 use Rattle.std.proofs.lemmas.Bool.Decides.{nat_tests}
 use Rattle.std.proofs.lemmas.Bool.{cases_eq}
 use Rattle.xdg_base.specs.declared.faults.Fault.{Fault}
 use Rattle.xdg_names.specs.First.{is_before, earlier, first, IsFirstOf, Tells, Below}
 use Rattle.xdg_facts.specs.Membership.{In}
-use Rattle.std.proofs.Common.{◌≤◌}
 use Rattle.std.proofs.lemmas.List.{at_drop_all}
 
 is_first : (a b : Fault) → is_before b a ≡ false → IsFirstOf a b

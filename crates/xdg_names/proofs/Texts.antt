@@ -2,16 +2,16 @@
 use Rattle.std.proofs.Common.{◌≡◌, ℕ, zero, suc, ◌<◌, ◌≤◌, ◌+◌, Bool, true, false, cond, ◌||◌, if◌then◌else◌, List, [], ◌∷◌, ◌++◌, length, get_or, map, position, Option, None, Some, is_some, option_map, unwrap_or, refl, sym, ap, subst, ◌∙◌, inl, inr, arith, true≢false}
 use Rattle.std.specs.List.{list_any, position_from}
 use Rattle.std.specs.Str.{bytes_eq}
-use Rattle.std.proofs.Math.Bool.{or-false}
 use Rattle.std.proofs.lemmas.Bool.{cases_Bool, or_cases, or_left, or_right, false_from_ne_true}
 use Rattle.std.proofs.lemmas.Iterator.Adapters.{position_from-zero}
 use Rattle.std.proofs.lemmas.List.{map-append}
 use Rattle.std.proofs.lemmas.Slice.Eq.{bytes_eq-Decides}
-use Rattle.xdg_names.specs.Texts.{has_text, place_of, AllDiffer}
+use Rattle.xdg_names.specs.Texts.{has_text, place_of}
 use Rattle.xdg_facts.proofs.Texts.{either_way, equal}
-use Rattle.xdg_facts.specs.Membership.{In}
-use Rattle.xdg_facts.proofs.Truths.{none_or, neither}
+use Rattle.xdg_facts.specs.Membership.{In, Differ}
+use Rattle.xdg_facts.proofs.Truths.{none_or}
 use Rattle.xdg_facts.proofs.Options.{some_later}
+use Rattle.xdg_facts.proofs.In.{differ_append, in_get}
 
 -- ---- tests and places
 
@@ -156,31 +156,25 @@ place_of-append_right (first ∷ texts) more text e =
 -- ---- texts that differ
 
 -- they differ where a new one is added
-pub AllDiffer-append : (texts : List (List ℕ)) (text : List ℕ) → AllDiffer texts → has_text texts text ≡ false → AllDiffer (texts ++ text ∷ [])
-AllDiffer-append [] text differ e = (refl, tt)
-AllDiffer-append (first ∷ texts) text differ e =
-    let n = none_or (bytes_eq first text) (has_text texts text) e in (
-      has_text-append texts (text ∷ []) first
-          ∙ neither (has_text texts first) (bytes_eq text first || false) differ.0 (or-false (bytes_eq text first) ∙ either_way text first ∙ n.0),
-      AllDiffer-append texts text differ.1 n.1,
-    )
+pub differ_more : (texts : List (List ℕ)) (text : List ℕ) → Differ texts → has_text texts text ≡ false → Differ (texts ++ text ∷ [])
+differ_more texts text differ none = differ_append texts (text ∷ []) differ (λ n. n, tt) (λ t i j. elim j [ inl e ↦ not_among texts text none (subst (In texts) (sym e) i) | inr n ↦ n ])
 
 -- the place of what stands at a place is that place
-pub place_of-at : (texts : List (List ℕ)) (place : ℕ) → AllDiffer texts → place < length texts → place_of texts (get_or texts place []) ≡ Some place
+pub place_of-at : (texts : List (List ℕ)) (place : ℕ) → Differ texts → place < length texts → place_of texts (get_or texts place []) ≡ Some place
 place_of-at [] place differ within = absurd (omega (arith, within))
 place_of-at (first ∷ texts) zero differ within = ap (λ b. if b then Some 0 else option_map suc (place_of texts first)) (equal first)
 place_of-at (first ∷ texts) (suc place) differ within =
     let inside : place < length texts = omega (arith, within) in
     let text = get_or texts place [] in
     let other : bytes_eq first text ≡ false = elim (cases_Bool (bytes_eq first text)) [
-      | inl e ↦ absurd (true≢false (sym (stands-has_text texts first place inside (sym ((bytes_eq-Decides first text).0 e))) ∙ differ.0))
+      | inl e ↦ absurd (differ.0 (subst (In texts) (sym ((bytes_eq-Decides first text).0 e)) (in_get texts place [] inside)))
       | inr e ↦ e
     ] in
     ap (λ b. if b then Some 0 else option_map suc (place_of texts text)) other ∙ ap (option_map suc) (place_of-at texts place differ.1 inside)
 
 -- they still differ where a new one is added
-pub still_differ : (texts more : List (List ℕ)) (text : List ℕ) → AllDiffer texts → has_text texts text ≡ false → more ≡ texts ++ text ∷ [] → AllDiffer more
-still_differ texts more text differ new e = subst AllDiffer (sym e) (AllDiffer-append texts text differ new)
+pub still_differ : (texts more : List (List ℕ)) (text : List ℕ) → Differ texts → has_text texts text ≡ false → more ≡ texts ++ text ∷ [] → Differ more
+still_differ texts more text differ new e = subst Differ (sym e) (differ_more texts text differ new)
 
 -- ---- keys that own texts
 

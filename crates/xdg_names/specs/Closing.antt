@@ -6,10 +6,11 @@ use Rattle.xdg_names.specs.First.{Below}
 use Rattle.xdg_names.specs.declared.graph.Use.{Use}
 use Rattle.xdg_names.specs.Leads.{uses_of, Leads, number}
 use Rattle.xdg_facts.specs.Membership.{In}
+use Rattle.xdg_base.specs.Faults.{fault_at}
 
 -- the fault at a use that closes a cycle
 abbrev pub fault_of : Use → Fault
-fault_of u = record { cause = causes.Cycle; at = u.at; reached = 0 }
+fault_of u = fault_at causes.Cycle u.at
 
 -- a use that stands in a definition to which it leads back
 pub record IsClosing (g : List (List Use)) (f : Fault) : Type 0 where

@@ -1,7 +1,8 @@
 //! Texts by number.
 
 ghost use Rattle.std.specs.Prelude.{◌≡◌, [], ◌∷◌, ◌++◌, length, not, IsTrue, IsOk, if◌then◌else◌, IfOk, OnErr};
-ghost use Rattle.xdg_names.specs.Texts.{has_text, place_of, AllDiffer};
+ghost use Rattle.xdg_facts.specs.Membership.{Differ};
+ghost use Rattle.xdg_names.specs.Texts.{has_text, place_of};
 
 use indexmap::IndexSet;
 use std::alloc::Global;
@@ -18,7 +19,7 @@ impl Model for Index {
     ghost use Rattle.std.specs.Prelude.{List, ℕ, map};
     ghost use Rattle.std.specs.String.{string_bytes};
     ghost use Rattle.std.specs.Coded.{coded_list, coded_ℕ};
-    ghost use Rattle.xdg_names.specs.Texts.{AllDiffer};
+    ghost use Rattle.xdg_facts.specs.Membership.{Differ};
 
     ghost Value = { List (List ℕ) };
 
@@ -26,7 +27,7 @@ impl Model for Index {
 
     ghost view = { λ index. map string_bytes index.texts.keys };
 
-    ghost invariant = { λ index. AllDiffer (map string_bytes index.texts.keys) };
+    ghost invariant = { λ index. Differ (map string_bytes index.texts.keys) };
 }
 
 impl Index {
@@ -71,7 +72,7 @@ impl Index {
     /// The number of texts, which differ.
     pub fn len(&self) -> usize
         ensures len { result ≡ length self.now }
-        ensures differ { AllDiffer self.now }
+        ensures differ { Differ self.now }
     {
         self.texts.len()
     }

@@ -1,4 +1,4 @@
--- The rising list that a number's bits stand for, and the number that a list stands for.
+-- The set that is made of the members of a set is that set: a law of the way in which code keeps sets.
 use Rattle.std.specs.Prelude.{◌≡◌, ◌<◌, ◌^◌}
 use Rattle.xdg_nodeset.specs.declared.set.NodeSet.TheInside.{Inside}
 use Rattle.xdg_facts.specs.BitSets.{members, number}

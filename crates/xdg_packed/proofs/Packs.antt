@@ -1,13 +1,13 @@
 -- The different records of a dimension, while further ones are added, and one that was added is taken back.
-use Rattle.std.proofs.Common.{◌≡◌, ℕ, ◌+◌, ◌<◌, ◌≤◌, List, [], ◌∷◌, ◌++◌, ◌⊎◌, length, get_or, map, Bool, true, false, true≢false, not, if◌then◌else◌, refl, sym, ap, ap₂, inl, inr, subst, ◌∙◌, arith, Some, None, All}
+use Rattle.std.proofs.Common.{◌≡◌, ℕ, ◌+◌, ◌<◌, ◌≤◌, List, [], ◌∷◌, ◌++◌, ◌⊎◌, length, get_or, map, Bool, true, false, not, if◌then◌else◌, refl, sym, ap, ap₂, inl, inr, subst, ◌∙◌, arith, Some, None, All}
 use Rattle.std.specs.Prelude.{◌↔◌}
 use Rattle.std.proofs.lemmas.Bool.{not-false, not-true}
 use Rattle.std.proofs.lemmas.List.{map-append, length-map, get_or-map}
 use Rattle.std.proofs.lemmas.List.Elements.{All-push, All-tail, All-head, All-weaker}
 use Rattle.std.proofs.Math.ListN.{get_or-append}
 use Rattle.std.proofs.Math.Seq.{get_or-append_seam}
-use Rattle.xdg_names.specs.Texts.{has_text, place_of, AllDiffer}
-use Rattle.xdg_names.proofs.Texts.{among_has, place_of-Some, place_of-None, AllDiffer-append}
+use Rattle.xdg_names.specs.Texts.{has_text, place_of}
+use Rattle.xdg_names.proofs.Texts.{place_of-Some, place_of-None, differ_more}
 use Rattle.xdg_packed.specs.Lexicon.{Record, KeepsEachOnce}
 use Rattle.xdg_packed.specs.Rows.{shown, IsTable, AddsFirst, AreSpelled, IsKnownRow, IsNewRow}
 use Rattle.xdg_packed.specs.Spelling.{spelling_of_fields}
@@ -21,10 +21,10 @@ use Rattle.xdg_facts.proofs.Counted.{no_more}
 -- ---- different records
 
 -- where the spellings differ, the records do
-rows_differ : (rows : List Record) → AllDiffer (map spelling_of_fields rows) → Differ rows
+rows_differ : (rows : List Record) → Differ (map spelling_of_fields rows) → Differ rows
 rows_differ [] differ = tt
 rows_differ (first ∷ rows) differ =
-    (λ h. true≢false (sym (among_has (map spelling_of_fields rows) (spelling_of_fields first) (map_in spelling_of_fields rows first h)) ∙ differ.0), rows_differ rows differ.1)
+    (λ h. differ.0 (map_in spelling_of_fields rows first h), rows_differ rows differ.1)
 
 -- ---- one record
 
@@ -94,7 +94,7 @@ pub record Added (done rows : List Record) (spellings : List (List ℕ)) (firsts
 stands_once : (rows : List Record) (done : List Record) (spellings : List (List ℕ)) (places : List ℕ) → AreSpelled rows spellings → All (λ place. place < length rows) places → shown rows places ≡ done → ((x : Record) → In rows x → In done x)
     → KeepsEachOnce (shown rows places) rows
 stands_once rows done spellings places spelled within shows used = record {
-  once = rows_differ rows (subst AllDiffer (sym spelled.spelled) spelled.differ);
+  once = rows_differ rows (subst Differ (sym spelled.spelled) spelled.differ);
   each = shown_stands rows places within;
   only = λ x h. subst (λ xs. In xs x) (sym shows) (used x h);
 }
@@ -122,7 +122,7 @@ added_new rows spellings firsts places fields place number table spelled fresh l
     let size = length_more rows fields in
     let grown : AreSpelled more (spellings ++ spelling_of_fields fields ∷ []) = record {
       spelled = map-append spelling_of_fields rows (fields ∷ []) ∙ ap (λ ts. ts ++ spelling_of_fields fields ∷ []) spelled.spelled;
-      differ = AllDiffer-append spellings (spelling_of_fields fields) spelled.differ fresh;
+      differ = differ_more spellings (spelling_of_fields fields) spelled.differ fresh;
     } in
     let within = All-push (λ k. k < length more) places place
     (All-weaker (λ k. k < length rows) (λ k. k < length more) (λ k h. omega (arith, size, h)) places table.within)

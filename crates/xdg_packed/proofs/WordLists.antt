@@ -10,8 +10,8 @@ use Rattle.std.proofs.lemmas.List.{append-nil, map-append, length-map, length-ap
 use Rattle.std.proofs.lemmas.List.Elements.{filter-append}
 use Rattle.std.proofs.lemmas.Slice.Eq.{bytes_eq-Decides}
 use Rattle.xdg_base.specs.declared.ids.EntryNo.{EntryNo}
-use Rattle.xdg_names.specs.Texts.{has_text, place_of, AllDiffer}
-use Rattle.xdg_names.proofs.Texts.{has_text-append, place_of-Some, place_of-None, AllDiffer-append, stands-has_text}
+use Rattle.xdg_names.specs.Texts.{has_text, place_of}
+use Rattle.xdg_names.proofs.Texts.{has_text-append, place_of-Some, place_of-None, differ_more, no_text, stands-has_text}
 use Rattle.xdg_packed.specs.Lexicon.{Entry, number, places_of, numbers_of, word_of}
 use Rattle.xdg_packed.specs.Words.{IsWordIndex}
 use Rattle.xdg_packed.proofs.Packs.{added_last}
@@ -20,6 +20,7 @@ use Rattle.xdg_facts.proofs.Truths.{agree_in, none_in, none_or}
 use Rattle.xdg_facts.proofs.Lists.{any_default}
 use Rattle.xdg_facts.proofs.Fronts.{map_next}
 use Rattle.xdg_facts.proofs.Sorting.{range_more}
+use Rattle.xdg_facts.specs.Membership.{Differ}
 
 -- ---- places and numbers
 
@@ -111,7 +112,7 @@ module _ (said : List (List ℕ)) (last : List ℕ) where
   place_before None place e = cc
   place_before (Some k) place e = (k, refl, cc)
 
-  known_numbers : (words : List (List ℕ)) (place : ℕ) → AllDiffer words → place_of words last ≡ Some place → slice_set (map before words) place (before last ++ number (length said) ∷ []) ≡ map after words
+  known_numbers : (words : List (List ℕ)) (place : ℕ) → Differ words → place_of words last ≡ Some place → slice_set (map before words) place (before last ++ number (length said) ∷ []) ≡ map after words
   known_numbers [] place differ found = cc
   known_numbers (first ∷ words) place differ found = by (bytes_eq first last) refl (λ k at. known_numbers words k differ.1 at) found
     where
@@ -121,7 +122,7 @@ module _ (said : List (List ℕ)) (last : List ℕ) where
           let at : 0 ≡ place = cc in
           let is : first ≡ last = (bytes_eq-Decides first last).0 here in
           ap (λ k. slice_set (map before (first ∷ words)) k (before last ++ number (length said) ∷ [])) (sym at)
-          ∙ ap₂ (λ x xs. x ∷ xs) (sym (same_word last ((bytes_eq-Decides last last).1 refl)) ∙ ap after (sym is)) (others words (ap (has_text words) (sym is) ∙ differ.0))
+          ∙ ap₂ (λ x xs. x ∷ xs) (sym (same_word last ((bytes_eq-Decides last last).1 refl)) ∙ ap after (sym is)) (others words (ap (has_text words) (sym is) ∙ no_text words first differ.0))
       by false other rest e =
           let p = place_before (place_of words last) place e in
           ap (λ k. slice_set (map before (first ∷ words)) k (before last ++ number (length said) ∷ [])) (sym p.2)
@@ -155,7 +156,7 @@ module _ (said : List (List ℕ)) (last : List ℕ) where
   new_word words more numbers grown entry added first found one pushed told is counted index =
       let none = place_of-None words last found in
       rw (added_last words more last added found told is, pushed) (record {
-        differ = AllDiffer-append words last index.differ none;
+        differ = differ_more words last index.differ none;
         all = λ word. has_text-append words (last ∷ []) word ∙ ap (λ b. b || has_text (last ∷ []) word) (index.all word) ∙ sym (has_text-append said (last ∷ []) word);
         numbered = ap₂ (λ ns n. ns ++ n ∷ []) (index.numbered ∙ others words none)
             (one ∙ ap (λ n. n ∷ []) (ap number counted) ∙ ap (λ l. l ++ number (length said) ∷ []) (sym (numbers_none said last (sym (index.all last) ∙ none))) ∙ sym (same_word last ((bytes_eq-Decides last last).1 refl)))

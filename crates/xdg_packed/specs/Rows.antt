@@ -1,9 +1,10 @@
 -- The different records of a dimension beside their spellings, the first entry with each, and for each entry the place of its record
 -- among them.
 use Rattle.std.specs.Prelude.{◌≡◌, ℕ, ◌<◌, ◌≤◌, false, List, [], ◌∷◌, ◌++◌, length, get_or, map, All}
-use Rattle.xdg_names.specs.Texts.{has_text, AllDiffer}
+use Rattle.xdg_names.specs.Texts.{has_text}
 use Rattle.xdg_packed.specs.Lexicon.{Record, KeepsEachOnce}
 use Rattle.xdg_packed.specs.Spelling.{spelling_of_fields}
+use Rattle.xdg_facts.specs.Membership.{Differ}
 
 -- the records of the entries
 abbrev pub shown : List Record → List ℕ → List Record
@@ -36,7 +37,7 @@ pub record AddsFirst (firsts after : List ℕ) (place number : ℕ) : Type 0 whe
 -- these are the spellings of the records, all different
 pub record AreSpelled (rows : List Record) (spellings : List (List ℕ)) : Type 0 where
   pub spelled : map spelling_of_fields rows ≡ spellings
-  pub differ : AllDiffer spellings
+  pub differ : Differ spellings
 
 -- the record stood at that place, and nothing changes
 pub record IsKnownRow (rows : List Record) (spellings : List (List ℕ)) (after : List Record) (after_spellings : List (List ℕ)) (fields : Record) (place : ℕ) :

@@ -70,7 +70,8 @@ impl<'a> Model for EntryView<'a> {
 
 /// Packs the entries of a lexicon, each of which says its word, a text, for one field of its record of one dimension: `dim` is
 /// the place of the dimension `lex` among the used dimensions and `field` the place of its feature `word`, both from 0. There
-/// are at most 4,294,967,295 entries, with a record for each used dimension. The time is linear in what the entries say.
+/// are at most 4,294,967,295 entries, with a record for each used dimension. The time is linear in what the entries say. It is for the
+/// tests of crates above (`xdg_trials`): a lexicon is packed while it grows (`Packing`).
 pub fn pack(
     alloc: Global,
     dim: usize,

@@ -8,7 +8,7 @@ use Rattle.xdg_problem.specs.Arguments.{first_dim}
 use Rattle.xdg_problem.specs.Boxes.{May}
 use Rattle.xdg_problem.specs.Places.{edge, nodes}
 use Rattle.xdg_rules.specs.Rules.{IsPlaceOn}
-use Rattle.xdg_propcore.specs.Touching.{InTable}
+use Rattle.xdg_nodeset.specs.Tables.{InTable}
 use Rattle.xdg_propcore.specs.declared.touched.Touched.{Touched}
 use Rattle.xdg_pagree.specs.Family.{IsOfPlaces}
 use Rattle.xdg_pagree.specs.Places.{IsDoneAt, IsNodeDone, PlaceAsks}

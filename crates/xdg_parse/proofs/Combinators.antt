@@ -8,6 +8,7 @@ use Rattle.xdg_parse.specs.Laws.{Says, Alive, Law}
 use Rattle.xdg_parse.proofs.Ended.{ended-append}
 use Rattle.xdg_parse.proofs.SteadyParts.{empty-both}
 use Rattle.xdg_parse.proofs.Laws.{walk-both, walk-split, balanced, bind_says}
+use Rattle.xdg_facts.proofs.Lists.{head_of}
 use Rattle.xdg_facts.proofs.Truths.{none_or, or_here, either_true}
 
 -- ---- tests
@@ -89,9 +90,6 @@ token-says-at p plain alive d e (t ∷ ts) true h = rw (token-reads p e t ts h) 
   again = λ r k. token-reads p e t r h;
 })
 
-pub heads : (t x : Lexeme) (u v : List Lexeme) → t ∷ u ≡ x ∷ v → t ≡ x
-heads t x u v h = cc
-
 token-complete : (p : Kinds) (u : List Lexeme) (x : Lexeme) (e : ℕ) (r : List Lexeme) → u ≡ x ∷ [] → p x.kind ≡ true → read_token p (at e (u ++ r)) ≡ Ok (x, at (ended_by e u) r)
 unfolding ended_by
 token-complete p u x e r h g = rw h (token-reads p e x r g)
@@ -101,7 +99,7 @@ token_law p plain alive d n = record {
   same = λ k. refl;
   same_empty = refl;
   fits = λ u x h. rw h.0 (walk-plain x n (plain x.kind h.1).0 (plain x.kind h.1).1);
-  first = λ t u x h. rw (heads t x u [] h.0) h.1;
+  first = λ t u x h. rw (head_of t x u [] h.0) h.1;
   empty = λ x h. absurd (let i = h.0 in cc);
   complete = λ u x e r h w last. token-complete p u x e r h.0 h.1;
   says = λ lt s. token-says-at p plain alive d s.ended s.left (sees p s.left) refl;
@@ -129,8 +127,8 @@ module _ {A B C : Type 0} (f : A → B → C) (l m : Language A) (l' m' : A → 
 
   bind-first : (t : Lexeme) (u us vs : List Lexeme) (x : A) (y : B) → t ∷ u ≡ us ++ vs → m.means us x → (m' x).means vs y → (bind f l l' ex).first t.kind ≡ true
   bind-first t u [] [] x y e g h = absurd (cc)
-  bind-first t u [] (t' ∷ vs) x y e g h = rw (a.empty x g, heads t t' u vs e) (either_true (l.first t'.kind) (ex.first t'.kind) (second-first t' vs x y h))
-  bind-first t u (t' ∷ us) vs x y e g h = rw (heads t t' u (us ++ vs) e) (first-in l.empty t'.kind (a.first t' us x g))
+  bind-first t u [] (t' ∷ vs) x y e g h = rw (a.empty x g, head_of t t' u vs e) (either_true (l.first t'.kind) (ex.first t'.kind) (second-first t' vs x y h))
+  bind-first t u (t' ∷ us) vs x y e g h = rw (head_of t t' u (us ++ vs) e) (first-in l.empty t'.kind (a.first t' us x g))
 
   last-right : (v : Bool) (o : Option Kind) → holds (if v then (ex.last or (ex.first or l.last)) else ex.last) o ≡ false → holds ex.last o ≡ false
   last-right true o h = holds-left ex.last (ex.first or l.last) o h

@@ -10,7 +10,8 @@ use Rattle.xdg_parse.proofs.Items.{Shortens, turn, none_at}
 use Rattle.xdg_parse.proofs.Ended.{ended-append}
 use Rattle.xdg_parse.proofs.Laws.{walk-both, walk-split, balanced, says_as, bind_says}
 use Rattle.xdg_parse.proofs.SteadyParts.{shortens_of}
-use Rattle.xdg_parse.proofs.Combinators.{holds-left, holds-right, holds-same, Apart, not-empty, first-holds, heads}
+use Rattle.xdg_parse.proofs.Combinators.{holds-left, holds-right, holds-same, Apart, not-empty, first-holds}
+use Rattle.xdg_facts.proofs.Lists.{head_of}
 use Rattle.xdg_facts.proofs.Truths.{either-of}
 
 -- ---- either
@@ -72,7 +73,7 @@ module _ {A : Type 0} (l m : Language A) (d n : ℕ) (a : Law d n l m) (full-ite
 
   first-of : (t : Lexeme) (u us vs : List Lexeme) (x : A) → t ∷ u ≡ us ++ vs → m.means us x → l.first t.kind ≡ true
   first-of t u [] vs x e h = absurd (not-empty l m d n a full-item x h)
-  first-of t u (t' ∷ us) vs x e h = rw (heads t t' u (us ++ vs) e) (a.first t' us x h)
+  first-of t u (t' ∷ us) vs x e h = rw (head_of t t' u (us ++ vs) e) (a.first t' us x h)
 
   many-first : (t : Lexeme) (u : List Lexeme) (xs : List A) → each m.means (t ∷ u) xs → l.first t.kind ≡ true
   many-first t u [] h = absurd (cc)

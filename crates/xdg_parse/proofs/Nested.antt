@@ -7,7 +7,8 @@ use Rattle.xdg_parse.specs.Steadiness.{at}
 use Rattle.xdg_parse.specs.Laws.{WasRead, Says, Alive, Law}
 use Rattle.xdg_parse.proofs.Ended.{ended-append}
 use Rattle.xdg_parse.proofs.Laws.{walk-both, walk-split, balanced}
-use Rattle.xdg_parse.proofs.Combinators.{heads, token-reads, token-stops, Apart}
+use Rattle.xdg_parse.proofs.Combinators.{token-reads, token-stops, Apart}
+use Rattle.xdg_facts.proofs.Lists.{head_of}
 
 -- ---- in brackets
 
@@ -44,7 +45,7 @@ module _ {A : Type 0} {L : Type 1} (op cl : Kinds) (body : L → Language A)
   }
 
   group-first : (j : L) (t : Lexeme) (u : List Lexeme) (x : A) → (nested op cl (room j) body).means (t ∷ u) x → op t.kind ≡ true
-  group-first j t u x h = rw (heads t h.0 u (h.1 ++ h.2 ∷ []) h.3) h.4
+  group-first j t u x h = rw (head_of t h.0 u (h.1 ++ h.2 ∷ []) h.3) h.4
 
   -- nothing opens here
   stops : (w : Within L) (j : L) (d : ℕ) (s : State) → Alive ((body j).means) → sees op s.left ≡ false → Says d (nested op cl (room j) body) s ((nested op cl w body).read s)

@@ -19,7 +19,7 @@ use Rattle.xdg_pgraph.specs.declared.entered.Count.{Count}
 use Rattle.xdg_pgraph.specs.declared.entered.Count.TheVariants as counts
 use Rattle.xdg_pgraph.specs.Incomings.{HaveLabels, IsCount}
 use Rattle.xdg_pgraph.specs.Seeking.{Into}
-use Rattle.xdg_facts.proofs.Bits.{both_bits, lowest_label_bit}
+use Rattle.xdg_facts.proofs.Bits.{both_bits, lowest_label_bit, no_bit}
 
 -- ---- bits
 
@@ -61,20 +61,17 @@ module _ (edges : List Edge) (parts : Parts) (P : Edge → Type 0) (dim w : ℕ)
   marked : (e : Edge) → Into edges w e → bit_at labels.some e.label.0 ≡ 1
   marked e i = (are e.label.0).some.1 (e.mother.0, leads_in e i)
 
-  unmarked : (bits l : ℕ) → bits ≡ 0 → bit_at bits l ≡ 1 → ⊥
-  unmarked bits l none h = (let zero : bit_at bits l ≡ 0 = ap (λ n. bit_at n l) none ∙ bit_at-zero l in omega (arith, h, zero))
-
   only : (l m : ℕ) → LeadsInto parts P dim w l m → ((k : ℕ) → k ≢ l → bit_at labels.some k ≡ 1 → ⊥) → labels.more ≡ 0 → (f : Edge) → Into edges w f → edge dim m l w ≡ f
   only l m leads alone none f i =
       let at : f.label.0 ≡ l = elim (cases_eq f.label.0 l) [ inl same ↦ same | inr other ↦ absurd (alone f.label.0 other (marked f i)) ] in
       elim (cases_eq m f.mother.0) [
         | inl same ↦ ap₂ (λ u k. edge dim u k w) same (sym at) ∙ sym (this f i)
-        | inr differ ↦ absurd (unmarked labels.more l none ((are l).more.1 (m, f.mother.0, differ, leads, subst (λ k. LeadsInto parts P dim w k f.mother.0) at (leads_in f i))))
+        | inr differ ↦ absurd (no_bit labels.more l none ((are l).more.1 (m, f.mother.0, differ, leads, subst (λ k. LeadsInto parts P dim w k f.mother.0) at (leads_in f i))))
       ]
 
   -- two mothers, or two labels, are two edges
   pub into_counted : (count : Count) → HaveLabels labels count → IsCount (Into edges w) count
-  into_counted counts.Nothing none = λ e i. unmarked labels.some e.label.0 none (marked e i)
+  into_counted counts.Nothing none = λ e i. no_bit labels.some e.label.0 none (marked e i)
   into_counted counts.One (l, h, alone, none) = (let x = (are l).some.0 h in (edge dim x.0 l w, those l x.0 x.1, only l x.0 x.1 alone none))
   into_counted counts.More (inl (l, h)) = (let x = (are l).more.0 h in (edge dim x.0 l w, edge dim x.1 l w, those l x.0 x.3, those l x.1 x.4, λ same. x.2 (ap (λ (e : Edge). e.mother.0) same)))
   into_counted counts.More (inr (l, k, differ, h, g)) =

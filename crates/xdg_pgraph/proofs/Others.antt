@@ -1,7 +1,7 @@
 -- Bundles of which nothing was lost: there valency takes no more than before.
 use Rattle.std.proofs.Common.{◌≡◌, ℕ, ◌<◌, inl, inr, Bool, true, List, [], length, sym, ap, subst, arith}
 use Rattle.std.specs.Prelude.{IsTrue, nat_lt, slice_index_or, ◌&&◌, ◌||◌, ◌↔◌}
-use Rattle.std.proofs.lemmas.Bool.{cases_lt}
+use Rattle.std.proofs.lemmas.Bool.{cases_lt, lt-ltb, ltb-true}
 use Rattle.std.proofs.lemmas.List.{get_or_past}
 use Rattle.xdg_problem.specs.declared.analysis.Edge.{Edge}
 use Rattle.xdg_problem.specs.declared.parts.DimPlan.{DimPlan}
@@ -13,13 +13,13 @@ use Rattle.xdg_problem.specs.Boxes.{LiesIn, entry_decision, edge_decision}
 use Rattle.xdg_problem.specs.Places.{nodes}
 use Rattle.xdg_problem.specs.Problems.{IsProblem}
 use Rattle.xdg_problem.proofs.PlaceOrder.{is_place}
-use Rattle.std.proofs.lemmas.Bool.{lt-ltb, ltb-true}
 use Rattle.xdg_rules.specs.Rules.{IsClosedFor}
 use Rattle.xdg_store.specs.States.{State}
 use Rattle.xdg_propcore.specs.Passes.{Progress, IsQuiet}
 use Rattle.xdg_propcore.specs.Sweeps.{Sweeps}
 use Rattle.xdg_propcore.proofs.Turns.{AreDone}
-use Rattle.xdg_propcore.specs.Touching.{HasAll, HasTouched, InTable, MarksEdge}
+use Rattle.xdg_propcore.specs.Touching.{HasAll, HasTouched, MarksEdge}
+use Rattle.xdg_nodeset.specs.Tables.{InTable}
 use Rattle.xdg_propcore.specs.declared.touched.Touched.{Touched}
 use Rattle.xdg_pgraph.specs.Bundles.{IsBundleDone, IsWayDone, near_node}
 use Rattle.xdg_pgraph.specs.Untouched.{AreOthersDone, IsTouched, side}

@@ -1,4 +1,4 @@
--- The numbers of edges that entries allow, by classes of entries.
+-- The numbers of edges that entries allow, by classes of entries, as the code keeps them: a mask of 64 bits a class.
 use Rattle.std.specs.Prelude.{◌≡◌, ◌≢◌, ◌<◌, ◌≤◌, ◌+◌, ◌*◌, ◌%◌, ◌^◌, ℕ, true, List, [], All, Contains, length, slice_index_or}
 use Rattle.std.specs.Int.{bit_at}
 use lib.Bits.{bit_or}

@@ -1,4 +1,4 @@
--- How numbers of edges stand to those that entries allow.
+-- How numbers of edges stand to those that entries allow, as the code bounds them.
 use Rattle.std.specs.Prelude.{◌≡◌, ◌<◌, ◌≤◌, ◌+◌, ◌^◌, ◌⊎◌, ◌↔◌, ℕ, Bool, false, List, All, Contains}
 use Rattle.std.specs.Int.{bit_at}
 use Rattle.xdg_problem.specs.declared.parts.Group.{Group}

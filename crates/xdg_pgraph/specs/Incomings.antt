@@ -1,4 +1,4 @@
--- The edges that lead into nodes.
+-- The edges that lead into nodes, as the code counts them: none, one, or more.
 use Rattle.std.specs.Prelude.{◌≡◌, ◌≢◌, ◌⊎◌, ℕ, Bool, List, Contains}
 use Rattle.std.specs.Int.{bit_at}
 use Rattle.xdg_problem.specs.declared.analysis.Edge.{Edge}

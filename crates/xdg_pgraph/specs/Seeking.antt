@@ -4,7 +4,7 @@ use Rattle.xdg_problem.specs.declared.analysis.Edge.{Edge}
 use Rattle.xdg_problem.specs.declared.parts.Parts.{Parts}
 use Rattle.xdg_problem.specs.Boxes.{Has}
 use Rattle.xdg_problem.specs.Paths.{mothers}
-use Rattle.xdg_nodeset.specs.Tables.{In}
+use Rattle.xdg_nodeset.specs.Tables.{InTable}
 use Rattle.xdg_rules.specs.Rules.{IsPlaceOn, SaysPresent, SaysAbsent, may_edges}
 use Rattle.xdg_pgraph.specs.declared.found.Found.{Found}
 use Rattle.xdg_pgraph.specs.declared.found.Found.TheVariants as founds
@@ -91,7 +91,7 @@ NoneOnly parts box dim w = (d v : ℕ) → Only parts (may_edges parts box dim) 
 
 -- the table leads from the daughter of an edge back to its mother
 abbrev pub Backs : List (List ℕ) → Edge → Type 0
-Backs far e = In far e.daughter.0 e.mother.0
+Backs far e = InTable far e.daughter.0 e.mother.0
 
 -- and the edge leads into a node
 abbrev pub BacksInto : List (List ℕ) → ℕ → Edge → Type 0

@@ -4,7 +4,7 @@ use Rattle.xdg_problem.specs.declared.parts.Group.{Group}
 use Rattle.xdg_problem.specs.declared.parts.Parts.{Parts}
 use Rattle.xdg_problem.specs.Arguments.{first_dim, label_count}
 use Rattle.xdg_problem.specs.Places.{nodes}
-use Rattle.xdg_propcore.specs.Touching.{InTable}
+use Rattle.xdg_nodeset.specs.Tables.{InTable}
 use Rattle.xdg_propcore.specs.declared.touched.Touched.{Touched}
 use Rattle.xdg_pgraph.specs.Bundles.{IsBundleDone}
 use Rattle.xdg_pgraph.specs.declared.bundle.Way.{Way}

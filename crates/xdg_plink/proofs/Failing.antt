@@ -20,6 +20,7 @@ use Rattle.xdg_problem.specs.Places.{edge, nodes, places}
 use Rattle.xdg_problem.specs.Tests.{Test, can_link, looks_at, looks_first, looks_second, linked, unlinked}
 use Rattle.xdg_problem.specs.Vectors.{shape}
 use Rattle.xdg_problem.proofs.EachTest.{Each, each_tested}
+use Rattle.xdg_problem.proofs.LinkTests.{sees}
 use Rattle.xdg_facts.proofs.Contained.{any_weaker}
 use Rattle.xdg_rules.specs.Rules.{may_edges, FailsTest, IsClosedFor, IsDecided, LinkingNotDaughter, LinkingReach, TestDecided, TestPasses, value_in}
 use Rattle.xdg_rules.proofs.Shrinking.{may_exact, must_exact}
@@ -38,19 +39,14 @@ module _ (parts : Parts) (group : Group) (box : List (List Bool)) (is : IsBox (s
   abbrev may : ℕ → List Edge
   may dim = may_edges parts box dim
 
-  -- a test sees what can link
-  sees : (way : Linking) (u l v : ℕ) (e : Edge) → can_link way u v e ≡ true → (e.dim.0 == two) ≡ true → looks_at group (linked way u l v) e ≡ true
-  sees way u l v e can on =
-      or_here (looks_second two (linked way u l v) e) (looks_first one (linked way u l v) e) (and_2 (e.dim.0 == two) (can_link way u v e) on can)
-
   any_linked : (way : Linking) (u l v : ℕ) (P : Edge → Type 0) → ((e : Edge) → P e → can_link way u v e ≡ true)
       → Any P (may two) → Any P (edges_on two (seen parts group box (linked way u l v)))
-  any_linked way u l v P can = (any_seen parts group box (linked way u l v) two P (λ e is. sees way u l v e (can e is))).1
+  any_linked way u l v P can = (any_seen parts group box (linked way u l v) two P (λ e is. sees group way u l v e (can e is))).1
 
   path_seen : (way : Linking) (u l v from to : ℕ) (labels : List ℕ) → ((e : Edge) → can_link way u v e ≡ true)
       → AboveByFirst (may two) from labels to → AboveByFirst (edges_on two (seen parts group box (linked way u l v))) from labels to
   path_seen way u l v from to labels can =
-      subst (λ es. AboveByFirst es from labels to) (sym (all_seen parts group box (linked way u l v) two (λ e. sees way u l v e (can e))))
+      subst (λ es. AboveByFirst es from labels to) (sym (all_seen parts group box (linked way u l v) two (λ e. sees group way u l v e (can e))))
 
   sister_seen : (u l v : ℕ) (labels : List ℕ) → AreSistersByAny (may two) u labels v
       → AreSistersByAny (edges_on two (seen parts group box (linked linkings.Sisters u l v))) u labels v

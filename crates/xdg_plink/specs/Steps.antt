@@ -1,4 +1,4 @@
--- What a part of a step does.
+-- What a part of a step does for a linking principle, and where the code stands in it.
 use Rattle.std.specs.Prelude.{◌≡◌, ℕ, ◌<◌, Bool, List, length, Contains, Option, None, Some}
 use Rattle.xdg_problem.specs.declared.analysis.Edge.{Edge}
 use Rattle.xdg_problem.specs.declared.parts.Group.{Group}

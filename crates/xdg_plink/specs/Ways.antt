@@ -7,7 +7,7 @@ use Rattle.xdg_problem.specs.declared.parts.Linking.TheVariants as linkings
 use Rattle.xdg_problem.specs.declared.parts.Principle.{Principle}
 use Rattle.xdg_problem.specs.Principles.{linking_of, way_in}
 use Rattle.xdg_problem.specs.Paths.{Above, IsDaughter, IsDaughterBy}
-use Rattle.xdg_nodeset.specs.Tables.{In}
+use Rattle.xdg_nodeset.specs.Tables.{InTable}
 
 -- how a principle links; one that doesn't is taken for one that asks for no table
 abbrev pub way_of : Principle → Linking
@@ -27,9 +27,9 @@ abbrev pub IsEnd : Linking → List (List ℕ) → ℕ → ℕ → ℕ → Type 
 IsEnd linkings.End table u v x = Unit {0}
 IsEnd linkings.Daughter table u v x = v ≡ x
 IsEnd linkings.Mother table u v x = u ≡ x
-IsEnd linkings.BelowStart table u v x = In table v x ⊎ (v ≡ x)
-IsEnd linkings.AboveStart table u v x = In table u x ⊎ (u ≡ x)
-IsEnd linkings.Sisters table u v x = In table u x
+IsEnd linkings.BelowStart table u v x = InTable table v x ⊎ (v ≡ x)
+IsEnd linkings.AboveStart table u v x = InTable table u x ⊎ (u ≡ x)
+IsEnd linkings.Sisters table u v x = InTable table u x
 
 -- by a table, an edge with one of the labels links v to u
 abbrev pub IsLed : Linking → List Edge → List (List ℕ) → List ℕ → ℕ → ℕ → Type 0
@@ -37,14 +37,14 @@ IsLed way edges table labels u v = Any (λ label. (x : ℕ) × Stands way edges 
 
 -- the table has at least the ends that edges allow
 abbrev pub Covers : Linking → List Edge → List (List ℕ) → Type 0
-Covers linkings.BelowStart edges table = (from to : ℕ) → Above edges to from → In table from to
-Covers linkings.AboveStart edges table = (from to : ℕ) → Above edges to from → In table from to
-Covers linkings.Sisters edges table = (from to : ℕ) → IsDaughter edges to from → In table from to
+Covers linkings.BelowStart edges table = (from to : ℕ) → Above edges to from → InTable table from to
+Covers linkings.AboveStart edges table = (from to : ℕ) → Above edges to from → InTable table from to
+Covers linkings.Sisters edges table = (from to : ℕ) → IsDaughter edges to from → InTable table from to
 Covers way edges table = Unit {0}
 
 -- the table has at most those
 abbrev pub Keeps : Linking → List Edge → List (List ℕ) → Type 0
-Keeps linkings.BelowStart edges table = (from to : ℕ) → In table from to → Above edges to from
-Keeps linkings.AboveStart edges table = (from to : ℕ) → In table from to → Above edges to from
-Keeps linkings.Sisters edges table = (from to : ℕ) → In table from to → IsDaughter edges to from
+Keeps linkings.BelowStart edges table = (from to : ℕ) → InTable table from to → Above edges to from
+Keeps linkings.AboveStart edges table = (from to : ℕ) → InTable table from to → Above edges to from
+Keeps linkings.Sisters edges table = (from to : ℕ) → InTable table from to → IsDaughter edges to from
 Keeps way edges table = Unit {0}

@@ -2,7 +2,7 @@
 use Rattle.std.proofs.Common.{◌≡◌, ℕ, ◌<◌, ◌≤◌, ◌⊎◌, ◌↔◌, ◌&&◌, get_or, inl, inr, Bool, true, IsTrue, List, [], ◌∷◌, refl, sym, ◌∙◌, ap, subst, arith}
 use Rattle.std.specs.Prelude.{not}
 use Rattle.std.proofs.lemmas.Bool.{and_parts, and_from, not-true, not_from_false, both_ways, false_from_ne_true}
-use Rattle.xdg_nodeset.specs.Tables.{In}
+use Rattle.xdg_nodeset.specs.Tables.{InTable}
 use Rattle.xdg_problem.proofs.Walks.{closed_above}
 use Rattle.xdg_problem.specs.declared.analysis.Edge.{Edge}
 use Rattle.xdg_problem.specs.declared.parts.Group.{Group}
@@ -95,11 +95,11 @@ from_all parts dim u k within p q old new all = forbids_all parts dim (λ l. l <
 pub leaves_all : (parts : Parts) (dim k : ℕ) (table : List (List ℕ)) (p q : Progress) (old new : State) → nodes parts ≤ k
     → Clears (ByOne (λ u. u < k) (λ u. Forbids parts dim (From u (get_or table u [])))) p old q new → Clears (Forbids parts dim (Leaves table)) p old q new
 leaves_all parts dim k table p q old new all = forbids_all parts dim (λ u. u < k) (λ u. From u (get_or table u [])) (Leaves table) p q old new
-    (λ u e on less g. subst (λ x. In table x e.daughter.0 → ⊥) (sym g.0) g.1)
+    (λ u e on less g. subst (λ x. InTable table x e.daughter.0 → ⊥) (sym g.0) g.1)
     (λ e on g. (e.mother.0, (let m = (is_place parts e on.0).mother in omega (arith, m, all)), (refl, g)))
 
 -- a node and those below it are nodes of the sentence
-pub under_within : (parts mid : Parts) (over : List (List ℕ)) (barrier : ℕ) (mothers : List ℕ) → mid ≡ parts → AreNodes parts over → barrier < nodes mid → ((x : ℕ) → (has mothers x ≡ true) ↔ ((barrier ≡ x) ⊎ In over barrier x)) → (u : ℕ) → has mothers u ≡ true → u < nodes mid
+pub under_within : (parts mid : Parts) (over : List (List ℕ)) (barrier : ℕ) (mothers : List ℕ) → mid ≡ parts → AreNodes parts over → barrier < nodes mid → ((x : ℕ) → (has mothers x ≡ true) ↔ ((barrier ≡ x) ⊎ InTable over barrier x)) → (u : ℕ) → has mothers u ≡ true → u < nodes mid
 under_within parts mid over barrier mothers same over_is within under u h = elim ((under u).0 h) [
   | inl here ↦ omega (arith, here, within)
   | inr there ↦ subst (λ z. u < nodes z) (sym same) (over_is barrier u there)
@@ -109,7 +109,7 @@ under_within parts mid over barrier mothers same over_is within under u h = elim
 abbrev pub ByBarrier : ℕ → List (List ℕ) → List (List ℕ) → ℕ → Edge → Type 0
 ByBarrier l over near barrier e = (e.label.0 ≡ l) × Stops over near e barrier
 
-pub barrier_out : (parts : Parts) (dim l barrier : ℕ) (over near : List (List ℕ)) (mothers within : List ℕ) (p q : Progress) (old new : State) → ((x : ℕ) → (has mothers x ≡ true) ↔ ((barrier ≡ x) ⊎ In over barrier x)) → within ≡ get_or near barrier [] → Clears (Forbids parts dim (Out mothers l within)) p old q new → Clears (Forbids parts dim (ByBarrier l over near barrier)) p old q new
+pub barrier_out : (parts : Parts) (dim l barrier : ℕ) (over near : List (List ℕ)) (mothers within : List ℕ) (p q : Progress) (old new : State) → ((x : ℕ) → (has mothers x ≡ true) ↔ ((barrier ≡ x) ⊎ InTable over barrier x)) → within ≡ get_or near barrier [] → Clears (Forbids parts dim (Out mothers l within)) p old q new → Clears (Forbids parts dim (ByBarrier l over near barrier)) p old q new
 barrier_out parts dim l barrier over near mothers within p q old new under within_is = forbids_same parts dim (Out mothers l within) (ByBarrier l over near barrier) p q old new
     (λ e on g. (g.1, ((under e.mother.0).0 g.0, λ i. g.2 (subst (λ s. has s e.daughter.0 ≡ true) (sym within_is) i))))
     (λ e on g. ((under e.mother.0).1 g.1.0, g.0, (λ i. g.1.1 (subst (λ s. has s e.daughter.0 ≡ true) within_is i))))
@@ -125,12 +125,12 @@ stopped_all parts dim l barriers over near p q old new = forbids_all parts dim (
 pub blocked_all : (parts : Parts) (dim k : ℕ) (barred over near : List (List ℕ)) (p q : Progress) (old new : State) → edge_labels parts dim ≤ k
     → Clears (ByOne (λ l. l < k) (λ l. Forbids parts dim (StoppedBy (get_or barred l []) l over near))) p old q new → Clears (Forbids parts dim (IsStopped barred over near)) p old q new
 blocked_all parts dim k barred over near p q old new all = forbids_all parts dim (λ l. l < k) (λ l. StoppedBy (get_or barred l []) l over near) (IsStopped barred over near) p q old new
-    (λ l e on less g. (g.1.0, subst (λ x. In barred x g.1.0) (sym g.0) g.1.1, g.1.2))
+    (λ l e on less g. (g.1.0, subst (λ x. InTable barred x g.1.0) (sym g.0) g.1.1, g.1.2))
     (λ e on g. (e.label.0, (let b = label_below parts e (is_place parts e on.0) in let same = ap (edge_labels parts) on.1 in omega (arith, b, same, all)), (refl, (g.0, g.1, g.2))))
 
 -- ---- the rules
 
-pub climbing_done : (group : Group) (one two : ℕ) (table : List (List ℕ)) (p q : Progress) (old new : State) → one ≡ first_dim group → two ≡ second_dim group → ((a b : ℕ) → In table a b ↔ Above (edges_of whichs.May old.parts old.now two) a b) → Clears (Forbids old.parts one (Leaves table)) p old q new → Clears (ClimbingReach old.parts group old.now) p old q new
+pub climbing_done : (group : Group) (one two : ℕ) (table : List (List ℕ)) (p q : Progress) (old new : State) → one ≡ first_dim group → two ≡ second_dim group → ((a b : ℕ) → InTable table a b ↔ Above (edges_of whichs.May old.parts old.now two) a b) → Clears (Forbids old.parts one (Leaves table)) p old q new → Clears (ClimbingReach old.parts group old.now) p old q new
 climbing_done group one two table p q old new one_is two_is exact = clears_like (Forbids old.parts one (Leaves table)) (ClimbingReach old.parts group old.now) p q old new
     (λ d v f. record {
       place = f.place;
@@ -146,14 +146,14 @@ climbing_done group one two table p q old new one_is two_is exact = clears_like 
     })
 
 -- nodes above others by edges that must be, and below them
-pub below_within : (parts : Parts) (box : List (List Bool)) (dim : ℕ) (table : List (List ℕ)) → IsBox (shape parts) box → ((a b : ℕ) → In table a b ↔ Above (edges_of whichs.Must parts box dim) a b) → AreNodes parts table
+pub below_within : (parts : Parts) (box : List (List Bool)) (dim : ℕ) (table : List (List ℕ)) → IsBox (shape parts) box → ((a b : ℕ) → InTable table a b ↔ Above (edges_of whichs.Must parts box dim) a b) → AreNodes parts table
 below_within parts box dim table is exact a b i = closed_above (must_edges parts box dim) a b (λ x. x < nodes parts) (λ e stands from. (is_place parts e ((must_exact parts box dim e is).0 stands).0.0).daughter) ((exact a b).0 i)
 
 -- the table has the nodes that block a label
 abbrev pub AreBlocking : Parts → List (List Bool) → Group → ℕ → List (List ℕ) → Type 0
-AreBlocking parts box group dim table = (label node : ℕ) → In table label node ↔ ((label < edge_labels parts dim) × (node < nodes parts) × Blocks group box node label)
+AreBlocking parts box group dim table = (label node : ℕ) → InTable table label node ↔ ((label < edge_labels parts dim) × (node < nodes parts) × Blocks group box node label)
 
-pub barriers_done : (group : Group) (one two : ℕ) (barred over near : List (List ℕ)) (p q : Progress) (old new : State) → Known old → one ≡ first_dim group → two ≡ second_dim group → AreBlocking old.parts old.now group two barred → ((a b : ℕ) → In over a b ↔ Above (edges_of whichs.Must old.parts old.now two) a b) → ((a b : ℕ) → In near a b ↔ Above (edges_of whichs.May old.parts old.now one) a b) → Clears (Forbids old.parts two (IsStopped barred over near)) p old q new → Clears (BarriersReach old.parts group old.now) p old q new
+pub barriers_done : (group : Group) (one two : ℕ) (barred over near : List (List ℕ)) (p q : Progress) (old new : State) → Known old → one ≡ first_dim group → two ≡ second_dim group → AreBlocking old.parts old.now group two barred → ((a b : ℕ) → InTable over a b ↔ Above (edges_of whichs.Must old.parts old.now two) a b) → ((a b : ℕ) → InTable near a b ↔ Above (edges_of whichs.May old.parts old.now one) a b) → Clears (Forbids old.parts two (IsStopped barred over near)) p old q new → Clears (BarriersReach old.parts group old.now) p old q new
 barriers_done group one two barred over near p q old new known one_is two_is blocks above apart = clears_like (Forbids old.parts two (IsStopped barred over near)) (BarriersReach old.parts group old.now) p q old new
     (λ d v f. record {
       place = f.place;

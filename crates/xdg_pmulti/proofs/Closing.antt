@@ -4,8 +4,7 @@ use Rattle.std.specs.Prelude.{Contains}
 use Rattle.std.proofs.lemmas.Bool.{eq-eqb}
 use Rattle.std.proofs.lemmas.List.Elements.{All-contains}
 use Rattle.std.specs.List.{Any}
-use Rattle.xdg_problem.proofs.Walks.{above_trans, closed_above}
-use Rattle.xdg_problem.proofs.Walks.{by_last}
+use Rattle.xdg_problem.proofs.Walks.{above_trans, closed_above, by_last}
 use Rattle.xdg_problem.specs.declared.analysis.Edge.{Edge}
 use Rattle.xdg_problem.specs.declared.parts.Group.{Group}
 use Rattle.xdg_problem.specs.declared.parts.Parts.{Parts}

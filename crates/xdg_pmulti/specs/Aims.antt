@@ -1,6 +1,6 @@
 -- Edges that are to go, told by tables of nodes.
 use Rattle.std.specs.Prelude.{◌≡◌, ◌⊎◌, ◌<◌, ℕ, Bool, true, List, Contains}
-use Rattle.xdg_nodeset.specs.Tables.{In}
+use Rattle.xdg_nodeset.specs.Tables.{InTable}
 use Rattle.xdg_problem.specs.declared.analysis.Edge.{Edge}
 use Rattle.xdg_problem.specs.declared.parts.Group.{Group}
 use Rattle.xdg_problem.specs.declared.parts.Parts.{Parts}
@@ -26,7 +26,7 @@ Beyond mother label within e = (e.label.0 ≡ label) × From mother within e
 
 -- an edge to a daughter that the table lacks for its mother
 abbrev pub Leaves : List (List ℕ) → Edge → Type 0
-Leaves table e = In table e.mother.0 e.daughter.0 → ⊥
+Leaves table e = InTable table e.mother.0 e.daughter.0 → ⊥
 
 -- an edge with a label, out of one of some nodes and to a daughter outside a set
 abbrev pub Out : List ℕ → ℕ → List ℕ → Edge → Type 0
@@ -34,7 +34,7 @@ Out mothers label within e = (has mothers e.mother.0 ≡ true) × (e.label.0 ≡
 
 -- a node is the mother of the edge or above it, by a table, and has not the edge's daughter below it, by another table
 abbrev pub Stops : List (List ℕ) → List (List ℕ) → Edge → ℕ → Type 0
-Stops over near e barrier = ((barrier ≡ e.mother.0) ⊎ In over barrier e.mother.0) × (In near barrier e.daughter.0 → ⊥)
+Stops over near e barrier = ((barrier ≡ e.mother.0) ⊎ InTable over barrier e.mother.0) × (InTable near barrier e.daughter.0 → ⊥)
 
 -- an edge with a label that one of some nodes stops
 abbrev pub StoppedBy : List ℕ → ℕ → List (List ℕ) → List (List ℕ) → Edge → Type 0
@@ -42,7 +42,7 @@ StoppedBy barriers label over near e = (e.label.0 ≡ label) × ((barrier : ℕ)
 
 -- an edge that a node stops which blocks its label
 abbrev pub IsStopped : List (List ℕ) → List (List ℕ) → List (List ℕ) → Edge → Type 0
-IsStopped blocking over near e = (barrier : ℕ) × In blocking e.label.0 barrier × Stops over near e barrier
+IsStopped blocking over near e = (barrier : ℕ) × InTable blocking e.label.0 barrier × Stops over near e barrier
 
 -- each remaining entry of a node blocks a label
 abbrev pub Blocks : Group → List (List Bool) → ℕ → ℕ → Type 0
@@ -50,4 +50,4 @@ Blocks group box node label = EachEntry box node (λ c. Contains (set_row group 
 
 -- the table leads only to nodes of the sentence
 abbrev pub AreNodes : Parts → List (List ℕ) → Type 0
-AreNodes parts table = (a b : ℕ) → In table a b → b < nodes parts
+AreNodes parts table = (a b : ℕ) → InTable table a b → b < nodes parts

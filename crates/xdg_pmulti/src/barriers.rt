@@ -1,7 +1,7 @@
 //! What barriers take.
 
 ghost use Rattle.std.specs.Prelude.{◌≡◌, ◌<◌, ◌⊎◌, ◌↔◌, ℕ, true, [], slice_index_or};
-ghost use Rattle.xdg_nodeset.specs.Tables.{In};
+ghost use Rattle.xdg_nodeset.specs.Tables.{InTable};
 ghost use Rattle.xdg_facts.specs.Rises.{has};
 ghost use Rattle.xdg_problem.specs.Places.{nodes};
 ghost use Rattle.xdg_propcore.specs.Passes.{Clears};
@@ -30,7 +30,7 @@ fn barriers_at(table: &[NodeSet; 32], label: LabelId) -> NodeSet
 /// A node and those that a table has for it.
 fn and_below(table: &[NodeSet; 128], node: NodeId) -> NodeSet
     requires { node.0 < 128 }
-    ensures { (x : ℕ) → (has result x ≡ true) ↔ ((node.0 ≡ x) ⊎ In table.now node.0 x) }
+    ensures { (x : ℕ) → (has result x ≡ true) ↔ ((node.0 ≡ x) ⊎ InTable table.now node.0 x) }
 {
     let mut below = set_at(table, node);
     below.insert(node);

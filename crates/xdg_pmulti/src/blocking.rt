@@ -1,7 +1,7 @@
 //! Which nodes block which labels.
 
 ghost use Rattle.std.specs.Prelude.{◌≡◌, ◌<◌, ◌↔◌, ◌⊎◌, ℕ, true, IsTrue};
-ghost use Rattle.xdg_nodeset.specs.Tables.{In};
+ghost use Rattle.xdg_nodeset.specs.Tables.{InTable};
 ghost use Rattle.xdg_facts.specs.Rises.{has};
 ghost use Rattle.xdg_problem.specs.Places.{nodes};
 ghost use Rattle.xdg_graph.specs.Edges.{edge_labels};
@@ -52,7 +52,7 @@ fn nodes_blocking(store: &Store, group: &Group, label: LabelId) -> NodeSet
 /// For each label of a dimension the nodes that block it.
 pub(crate) fn blocking(store: &Store, group: &Group, dim: DimId) -> [NodeSet; 32]
     ensures exact { (label node : ℕ)
-        → In result label node ↔ ((label < edge_labels store.now.parts dim.0) × (node < nodes store.now.parts) × Blocks group.now store.now.now node label) }
+        → InTable result label node ↔ ((label < edge_labels store.now.parts dim.0) × (node < nodes store.now.parts) × Blocks group.now store.now.now node label) }
     ensures known { Known store.now }
 {
     let mut table = [NodeSet::empty(); 32];

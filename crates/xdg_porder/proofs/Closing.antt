@@ -2,7 +2,7 @@
 use Rattle.std.proofs.Common.{◌≡◌, ℕ, ◌<◌, ◌↔◌, ◌&&◌, inl, inr, Bool, true, List, [], get_or, refl, sym, ap, ◌∙◌, arith, subst}
 use Rattle.std.specs.Prelude.{Contains, filter}
 use Rattle.std.proofs.lemmas.Bool.{cases_Bool, false≢true}
-use Rattle.xdg_nodeset.specs.Tables.{In}
+use Rattle.xdg_nodeset.specs.Tables.{InTable}
 use Rattle.xdg_problem.specs.declared.analysis.Edge.{Edge}
 use Rattle.xdg_problem.specs.declared.parts.Group.{Group}
 use Rattle.xdg_problem.specs.declared.parts.Parts.{Parts}
@@ -86,7 +86,7 @@ module _ (parts : Parts) (group : Group) (box : List (List Bool)) (is : IsBox (s
   AllReached = (e : Edge) → IsPlaceOn parts (first_dim group) e → May parts box e → (w : ℕ) → IsBetween e.mother.0 e.daughter.0 w
       → Above (may_edges parts box (first_dim group)) e.mother.0 w
 
-  pub all_reached : (table : List (List ℕ)) → ((a b : ℕ) → In table a b ↔ Above (may_edges parts box (first_dim group)) a b) → AreNodesDone parts group table (nodes parts) box → AllReached
+  pub all_reached : (table : List (List ℕ)) → ((a b : ℕ) → InTable table a b ↔ Above (may_edges parts box (first_dim group)) a b) → AreNodesDone parts group table (nodes parts) box → AllReached
   all_reached table exact done e on here w between = elim (cases_Bool (has (get_or table e.mother.0 []) w)) [
     | inl there ↦ (exact e.mother.0 w).0 there
     | inr out ↦ absurd (

@@ -1,6 +1,6 @@
 -- Edges across nodes, taken by a table.
 use Rattle.std.proofs.Common.{◌≡◌, ℕ, ◌<◌, ◌↔◌, ◌&&◌, inl, inr, Bool, true, List, [], get_or, refl, sym, ◌∙◌, arith, subst}
-use Rattle.xdg_nodeset.specs.Tables.{In}
+use Rattle.xdg_nodeset.specs.Tables.{InTable}
 use Rattle.xdg_problem.specs.declared.analysis.Edge.{Edge}
 use Rattle.xdg_problem.specs.declared.parts.Group.{Group}
 use Rattle.xdg_problem.specs.declared.parts.Parts.{Parts}
@@ -42,7 +42,7 @@ tabled_later group table Done p old q new at a =
     record {
       ready = ready_later group Done p old q new at.ready a;
       projective = at.projective;
-      covers = subst (λ parts. (x y : ℕ) → Above (may_edges parts new.now (first_dim group)) x y → In table x y) (sym same)
+      covers = subst (λ parts. (x y : ℕ) → Above (may_edges parts new.now (first_dim group)) x y → InTable table x y) (sym same)
           (λ x y above. at.covers x y (above_among (may_edges old.parts new.now (first_dim group)) (may_edges old.parts old.now (first_dim group)) (may_among old.parts new.now old.now box_is a.goes.extends.inside (first_dim group)) x y above));
     }
 
@@ -65,7 +65,7 @@ across_taken parts group box e w projective is on between apart = inr (subst (λ
 module _ (group : Group) (table : List (List ℕ)) (u : ℕ) (s : State) (at : IsAcrossNode group table u s) (reached across : List ℕ) (reached_is : reached ≡ get_or table u [])
     (across_is : (x : ℕ) → (has across x ≡ true) ↔ ((x < 128) × (has reached x ≡ true) × Crosses u reached x)) where
   -- a daughter across a node that isn't reached is one of those across
-  pub in_across : (label v w : ℕ) → MayFollow s.parts group s.now u label v → IsBetween u v w → (In table u w → ⊥) → has across v ≡ true
+  pub in_across : (label v w : ℕ) → MayFollow s.parts group s.now u label v → IsBetween u v w → (InTable table u w → ⊥) → has across v ≡ true
   in_across label v w follows between out =
       let few = at.0.ready.known.problem.most in
       let below = follows.0.daughter in

@@ -1,7 +1,7 @@
 -- The ends of a step.
 use Rattle.std.proofs.Common.{◌≡◌, ℕ, ◌↔◌, Bool, true, List, inl, refl, sym, ◌∙◌, subst}
 use Rattle.std.proofs.lemmas.Bool.{false≢true}
-use Rattle.xdg_nodeset.specs.Tables.{In}
+use Rattle.xdg_nodeset.specs.Tables.{InTable}
 use Rattle.xdg_problem.specs.declared.parts.Group.{Group}
 use Rattle.xdg_problem.specs.declared.parts.Parts.{Parts}
 use Rattle.xdg_problem.specs.declared.parts.Principle.{Principle}
@@ -34,19 +34,19 @@ order_ends group p old q mid r new at a b =
     (λ done. order_closed old.parts group new.now (subst (λ parts. IsBox (shape parts) new.now) both.goes.extends.same both.known.is_box) at.1 done.0 done.1)
 
 -- the table of the box
-pub table_at : (parts : Parts) (box : List (List Bool)) (table : List (List ℕ)) (dim first : ℕ) → dim ≡ first → ((a b : ℕ) → In table a b ↔ Above (may_edges parts box dim) a b) → (a b : ℕ) → In table a b ↔ Above (may_edges parts box first) a b
-table_at parts box table dim first same exact = subst (λ d. (a b : ℕ) → In table a b ↔ Above (may_edges parts box d) a b) same exact
+pub table_at : (parts : Parts) (box : List (List Bool)) (table : List (List ℕ)) (dim first : ℕ) → dim ≡ first → ((a b : ℕ) → InTable table a b ↔ Above (may_edges parts box dim) a b) → (a b : ℕ) → InTable table a b ↔ Above (may_edges parts box first) a b
+table_at parts box table dim first same exact = subst (λ d. (a b : ℕ) → InTable table a b ↔ Above (may_edges parts box d) a b) same exact
 
-pub tabled : (group : Group) (table : List (List ℕ)) (dim : ℕ) (s : State) → IsReady group s → group.principle ≡ principles.Projectivity → dim ≡ first_dim group → ((a b : ℕ) → In table a b ↔ Above (may_edges s.parts s.now dim) a b) → IsTabled group table s
+pub tabled : (group : Group) (table : List (List ℕ)) (dim : ℕ) (s : State) → IsReady group s → group.principle ≡ principles.Projectivity → dim ≡ first_dim group → ((a b : ℕ) → InTable table a b ↔ Above (may_edges s.parts s.now dim) a b) → IsTabled group table s
 tabled group table dim s ready flat same exact = record { ready = ready; projective = flat; covers = λ a b. (table_at s.parts s.now table dim (first_dim group) same exact a b).1 }
 
-pub across_ends : (group : Group) (table : List (List ℕ)) (dim : ℕ) (p : Progress) (old : State) (q : Progress) (new : State) → group.principle ≡ principles.Projectivity → dim ≡ first_dim group → ((a b : ℕ) → In table a b ↔ Above (may_edges old.parts old.now dim) a b) → Sweeps group (AreNodesDone old.parts group table (nodes old.parts)) p old q new → Sweeps group (IsClosedFor old.parts group) p old q new
+pub across_ends : (group : Group) (table : List (List ℕ)) (dim : ℕ) (p : Progress) (old : State) (q : Progress) (new : State) → group.principle ≡ principles.Projectivity → dim ≡ first_dim group → ((a b : ℕ) → InTable table a b ↔ Above (may_edges old.parts old.now dim) a b) → Sweeps group (AreNodesDone old.parts group table (nodes old.parts)) p old q new → Sweeps group (IsClosedFor old.parts group) p old q new
 across_ends group table dim p old q new flat same exact a = record {
   goes = a.goes;
   known = a.known;
   done = λ quiet.
       let stays = (a.goes.quiet quiet).1 in
-      let exact_now = subst (λ box. (x y : ℕ) → In table x y ↔ Above (may_edges old.parts box (first_dim group)) x y) (sym stays) (table_at old.parts old.now table dim (first_dim group) same exact) in
+      let exact_now = subst (λ box. (x y : ℕ) → InTable table x y ↔ Above (may_edges old.parts box (first_dim group)) x y) (sym stays) (table_at old.parts old.now table dim (first_dim group) same exact) in
       let box_is = subst (λ parts. IsBox (shape parts) new.now) a.goes.extends.same a.known.is_box in
       across_closed old.parts group new.now box_is (all_reached old.parts group new.now box_is table exact_now (a.done quiet)) flat;
 }

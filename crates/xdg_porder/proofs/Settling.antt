@@ -2,7 +2,7 @@
 use Rattle.std.proofs.Common.{◌≡◌, ℕ, ◌<◌, ◌≤◌, ◌+◌, ◌↔◌, ◌||◌, ◌&&◌, inl, inr, Bool, true, false, IsTrue, List, [], sym, ◌∙◌, arith, subst}
 use Rattle.std.specs.Prelude.{not}
 use Rattle.std.proofs.lemmas.Bool.{cases_Bool, cases_lt, false≢true}
-use Rattle.xdg_nodeset.specs.Tables.{In, Meet}
+use Rattle.xdg_nodeset.specs.Tables.{InTable, Meet}
 use Rattle.xdg_problem.specs.declared.parts.Group.{Group}
 use Rattle.xdg_problem.specs.declared.parts.Parts.{Parts}
 use Rattle.xdg_porder.specs.Items.{MayFollow, MustFollow}
@@ -22,7 +22,7 @@ settled_exact parts group box u label may must free b may_is must_is free_is exa
   λ settled. exact.1 (λ v h. (let two = (left_out (has may v) (has must v)).0 (sym (free_is v) ∙ h) in let (is, here) = (may_is v).0 two.0 in two.1 ((must_is v).1 (is, settled v is here)))),
 )
 
-pub below_of : (P : ℕ → Type 0) (table : List (List ℕ)) (follow below : List ℕ) → ((v : ℕ) → (has follow v ≡ true) ↔ P v) → ((x : ℕ) → (has below x ≡ true) ↔ ((v : ℕ) × (has follow v ≡ true) × In table v x)) → (x : ℕ) → (has below x ≡ true) ↔ ((v : ℕ) × P v × In table v x)
+pub below_of : (P : ℕ → Type 0) (table : List (List ℕ)) (follow below : List ℕ) → ((v : ℕ) → (has follow v ≡ true) ↔ P v) → ((x : ℕ) → (has below x ≡ true) ↔ ((v : ℕ) × (has follow v ≡ true) × InTable table v x)) → (x : ℕ) → (has below x ≡ true) ↔ ((v : ℕ) × P v × InTable table v x)
 below_of P table follow below p exact x = (
   λ h. (let (v, there, i) = (exact x).0 h in (v, (p v).0 there, i)),
   λ (v, there, i). (exact x).1 (v, (p v).1 there, i),

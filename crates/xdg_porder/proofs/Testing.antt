@@ -5,7 +5,7 @@ use Rattle.std.proofs.lemmas.Bool.{cases_lt, eq-eqb, eqb-true, false≢true}
 use Rattle.std.proofs.lemmas.List.{get_or_default, length-map}
 use Rattle.std.proofs.lemmas.List.Elements.{All-nil, All-cons, All-contains, All-contains_itself, All-weaker}
 use Rattle.xdg_base.specs.declared.ids.LabelId.{LabelId}
-use Rattle.xdg_nodeset.specs.Tables.{In}
+use Rattle.xdg_nodeset.specs.Tables.{InTable}
 use Rattle.xdg_problem.proofs.Walks.{closed_above}
 use Rattle.xdg_problem.specs.declared.analysis.Edge.{Edge}
 use Rattle.xdg_problem.specs.declared.parts.Group.{Group}
@@ -103,7 +103,7 @@ module _ (parts : Parts) (group : Group) (box : List (List Bool)) (is : IsBox (s
   by_yields order along Q each test is = each_tested group.truths (nodes parts) (label_count parts one) (λ t. TestDecided parts group box t → Q t) principles.Order ((λ plain. absurd (false≢true (sym plain ∙ along))), (λ yields. each)) test
       (subst (λ p. IsTestOf p group.truths (nodes parts) (label_count parts one) test) order is)
 
-  module _ (table : List (List ℕ)) (exact : (a b : ℕ) → In table a b ↔ Above (may_edges parts box (first_dim group)) a b) where
+  module _ (table : List (List ℕ)) (exact : (a b : ℕ) → InTable table a b ↔ Above (may_edges parts box (first_dim group)) a b) where
     -- the items of a decided node
     item_below : (u label x : ℕ) → IsDecided box (own_of u) → IsInItem may (truth_of group.truths 0 ≡ true) (value_in box (own_of u)) u label x → StandsBelow parts group table box u label x
     item_below u label x own item = elim item [

@@ -1,6 +1,6 @@
 -- Edges across nodes that can't be below their mothers, by a table of nodes below others.
 use Rattle.std.specs.Prelude.{◌≡◌, ℕ, ◌<◌, true, Bool, List}
-use Rattle.xdg_nodeset.specs.Tables.{In}
+use Rattle.xdg_nodeset.specs.Tables.{InTable}
 use Rattle.xdg_problem.specs.declared.parts.Group.{Group}
 use Rattle.xdg_problem.specs.declared.parts.Parts.{Parts}
 use Rattle.xdg_problem.specs.declared.parts.Principle.TheVariants as principles
@@ -20,7 +20,7 @@ Crosses u reached v = (w : ℕ) × IsBetween u v w × (has reached w ≡ true �
 
 -- by the table no edge from u with a label may cross a node
 abbrev pub IsLabelDone : Parts → Group → List (List ℕ) → ℕ → ℕ → List (List Bool) → Type 0
-IsLabelDone parts group table u label box = (v : ℕ) → MayFollow parts group box u label v → (w : ℕ) → IsBetween u v w → (In table u w → ⊥) → ⊥
+IsLabelDone parts group table u label box = (v : ℕ) → MayFollow parts group box u label v → (w : ℕ) → IsBetween u v w → (InTable table u w → ⊥) → ⊥
 
 -- none with one of the first labels
 abbrev pub AreLabelsDone : Parts → Group → List (List ℕ) → ℕ → ℕ → List (List Bool) → Type 0
@@ -34,7 +34,7 @@ AreNodesDone parts group table k box = (u : ℕ) → u < k → AreLabelsDone par
 pub record IsTabled (group : Group) (table : List (List ℕ)) (s : State) : Type 0 where
   pub ready : IsReady group s
   pub projective : group.principle ≡ principles.Projectivity
-  pub covers : (a b : ℕ) → Above (may_edges s.parts s.now (first_dim group)) a b → In table a b
+  pub covers : (a b : ℕ) → Above (may_edges s.parts s.now (first_dim group)) a b → InTable table a b
 
 -- at a node
 abbrev pub IsAcrossNode : Group → List (List ℕ) → ℕ → State → Type 0

@@ -1,4 +1,4 @@
--- The items of a node under labels: its daughters, and the node itself under its own label.
+-- The items of a node under labels: its daughters, and the node itself under its own label; and where the code stands in them.
 use Rattle.std.specs.Prelude.{◌≡◌, ◌≢◌, ℕ, ◌<◌, ◌≤◌, ◌⊎◌, true, Bool, List, length, slice_index_or}
 use Rattle.xdg_problem.specs.declared.analysis.Edge.{Edge}
 use Rattle.xdg_problem.specs.declared.parts.Group.{Group}

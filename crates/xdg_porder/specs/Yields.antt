@@ -1,6 +1,6 @@
 -- Yields: the nodes below daughters, in a box whose edges are decided.
 use Rattle.std.specs.Prelude.{ℕ, ◌<◌, ◌≤◌, ◌⊎◌, Bool, List, length}
-use Rattle.xdg_nodeset.specs.Tables.{In}
+use Rattle.xdg_nodeset.specs.Tables.{InTable}
 use Rattle.xdg_problem.specs.declared.parts.Group.{Group}
 use Rattle.xdg_problem.specs.declared.parts.Parts.{Parts}
 use Rattle.xdg_problem.specs.Analyses.{IsPlace}
@@ -25,7 +25,7 @@ AreSettled parts group box = (u : ℕ) → u < nodes parts → IsNodeSettled par
 
 -- by a table, x stands in an item of u with a label, or is below it
 abbrev pub StandsBelow : Parts → Group → List (List ℕ) → List (List Bool) → ℕ → ℕ → ℕ → Type 0
-StandsBelow parts group table box u label x = MayStand parts group box u label x ⊎ ((v : ℕ) × MayFollow parts group box u label v × In table v x)
+StandsBelow parts group table box u label x = MayStand parts group box u label x ⊎ ((v : ℕ) × MayFollow parts group box u label v × InTable table v x)
 
 -- the same with the label at a place of the order
 abbrev pub StandsAt : Parts → Group → List (List ℕ) → List (List Bool) → ℕ → ℕ → ℕ → Type 0

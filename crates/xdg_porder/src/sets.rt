@@ -1,7 +1,7 @@
 //! Sets of nodes by where they stand.
 
 ghost use Rattle.std.specs.Prelude.{◌≡◌, ◌<◌, ◌≤◌, ◌↔◌, ℕ, true, IsTrue};
-ghost use Rattle.xdg_nodeset.specs.Tables.{In};
+ghost use Rattle.xdg_nodeset.specs.Tables.{InTable};
 ghost use Rattle.xdg_facts.specs.Rises.{has};
 ghost use Rattle.xdg_porder.specs.Across.{Crosses};
 
@@ -52,7 +52,7 @@ pub(crate) fn right_of(ends: NodeSet) -> NodeSet
 
 /// The nodes that a table has for some nodes.
 pub(crate) fn all_below(nodes: NodeSet, table: &[NodeSet; 128]) -> NodeSet
-    ensures { (x : ℕ) → (has result x ≡ true) ↔ ((v : ℕ) × (has nodes v ≡ true) × In table.now v x) }
+    ensures { (x : ℕ) → (has result x ≡ true) ↔ ((v : ℕ) × (has nodes v ≡ true) × InTable table.now v x) }
 {
     let mut below = NodeSet::empty();
     for node in nodes.iter() {

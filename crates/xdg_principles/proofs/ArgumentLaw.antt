@@ -28,12 +28,14 @@ use Rattle.xdg_problem.specs.declared.forms.Typing.{Typing}
 use Rattle.xdg_problem.specs.declared.forms.Wanted.{Wanted}
 use Rattle.xdg_problem.specs.declared.forms.Wanted.TheVariants as a
 use Rattle.xdg_problem.specs.declared.parts.Principle.{Principle}
-use Rattle.xdg_problem.specs.Forms.{parameters, told}
+use Rattle.xdg_problem.specs.Forms.{parameters}
+use Rattle.xdg_facts.specs.Onward.{optional}
 use Rattle.xdg_problem.specs.Names.{named}
 use Rattle.xdg_principles.specs.Uses.{Use, principle_uses}
 use Rattle.xdg_principles.specs.Settings.{Setting, Argument, Called, setting_of, setting_if, setting, arguments_in, labels, member_type, term_in, constant_in, listed_in, called_in}
 use Rattle.xdg_principles.specs.Wanted.{is_wanted}
-use Rattle.xdg_principles.specs.Arguments.{OneOffends, ArgumentOffends, has_form, truths}
+use Rattle.xdg_principles.specs.Arguments.{OneOffends, ArgumentOffends, has_form}
+use Rattle.xdg_terms.specs.Faults.{truth_texts}
 use Rattle.xdg_principles.specs.ArgumentFaults.{form_faults, type_faults, member_faults, outside, inner_faults, one_faults, known_faults, use_faults, argument_faults}
 use Rattle.xdg_principles.proofs.WantedLaw.{wanted_false, true_wanted}
 use Rattle.xdg_principles.proofs.MemberPlaces.{no_type, type_there}
@@ -83,7 +85,7 @@ module _ (x : Argument) where
     | inl o ↦ inr (inr (inr (inr (inl (record { which = which; wanted = e; unknown = o })))))
     | inr r ↦ inr (inr (inr (inr (inr (record { which = which; wanted = e; again = r })))))
   ]
-  of_inner a.Truth e f h = inr (inr (inr (inl (record { wanted = e; unknown = (all_outside truths (told (constant_in s p))).sound f h }))))
+  of_inner a.Truth e f h = inr (inr (inr (inl (record { wanted = e; unknown = (all_outside truth_texts (optional (constant_in s p))).sound f h }))))
 
   of_one : (f : Fault) → In (one_faults s p) f → OneOffends x f
   of_one f h = elim (in_append (form_faults p.wanted (term_in s p)) (inner_faults s p p.wanted) f h) [
@@ -110,7 +112,7 @@ module _ (x : Argument) where
     | inr (inl u) ↦ to_type u.sort u.which u.typing u.wanted u.called u.given None (type_there s u.sort u.which u.called.text u.missing) f (inl (sym u.fault))
     | inr (inr (inl w)) ↦ to_type w.sort w.which w.typing w.wanted w.called w.given (Some w.type) w.has f
         (unless_in (is_wanted s w.typing (shape w.type)) (fault_at causes.WrongKind w.called.at) f (true_wanted s w.typing (shape w.type) w.wrong) (sym w.fault))
-    | inr (inr (inr (inl n))) ↦ inner a.Truth n.wanted f ((all_outside truths (told (constant_in s p))).complete f n.unknown)
+    | inr (inr (inr (inl n))) ↦ inner a.Truth n.wanted f ((all_outside truth_texts (optional (constant_in s p))).complete f n.unknown)
     | inr (inr (inr (inr (inl n)))) ↦ inner (a.Labels n.which) n.wanted f ((all_labels n.which).complete f (inl n.unknown))
     | inr (inr (inr (inr (inr r)))) ↦ inner (a.Labels r.which) r.wanted f ((all_labels r.which).complete f (inr r.again))
   ]

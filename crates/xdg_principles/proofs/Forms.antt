@@ -16,7 +16,8 @@ use Rattle.xdg_problem.specs.declared.forms.Parameter.{Parameter}
 use Rattle.xdg_principles.specs.declared.building.Arg.{Arg}
 use Rattle.xdg_principles.specs.Made.{arg, args}
 use Rattle.xdg_principles.specs.Settings.{Setting}
-use Rattle.xdg_problem.specs.Forms.{key_text, told}
+use Rattle.xdg_problem.specs.Forms.{key_text}
+use Rattle.xdg_facts.specs.Onward.{optional}
 use Rattle.xdg_principles.specs.Names.{required_key}
 use Rattle.xdg_names.proofs.Texts.{has_text-append}
 
@@ -32,13 +33,13 @@ abbrev names : List Parameter → List (List ℕ)
 names ps = map (λ one. key_text one.key) ps
 
 pub has_args : (a b c : Option Parameter) (t : List ℕ)
-    → has_text (map (λ one. key_text one.key) (told a ++ (told b ++ told c))) t
-    ≡ (has_text (map (λ one. key_text one.key) (told a)) t || (has_text (map (λ one. key_text one.key) (told b)) t || has_text (map (λ one. key_text one.key) (told c)) t))
+    → has_text (map (λ one. key_text one.key) (optional a ++ (optional b ++ optional c))) t
+    ≡ (has_text (map (λ one. key_text one.key) (optional a)) t || (has_text (map (λ one. key_text one.key) (optional b)) t || has_text (map (λ one. key_text one.key) (optional c)) t))
 has_args a b c t =
-    ap (λ ks. has_text ks t) (map-append (λ (one : Parameter). key_text one.key) (told a) (told b ++ told c))
-    ∙ has_text-append (names (told a)) (names (told b ++ told c)) t
-    ∙ ap (λ s. has_text (names (told a)) t || s)
-    (ap (λ ks. has_text ks t) (map-append (λ (one : Parameter). key_text one.key) (told b) (told c)) ∙ has_text-append (names (told b)) (names (told c)) t)
+    ap (λ ks. has_text ks t) (map-append (λ (one : Parameter). key_text one.key) (optional a) (optional b ++ optional c))
+    ∙ has_text-append (names (optional a)) (names (optional b ++ optional c)) t
+    ∙ ap (λ s. has_text (names (optional a)) t || s)
+    (ap (λ ks. has_text ks t) (map-append (λ (one : Parameter). key_text one.key) (optional b) (optional c)) ∙ has_text-append (names (optional b)) (names (optional c)) t)
 
 -- what is found of two lists in a row
 split : {A : Type 0} (g : A → List Fault) (xs ys : List A) → first (flat_map g (xs ++ ys)) ≡ earlier (first (flat_map g xs)) (first (flat_map g ys))
@@ -48,21 +49,21 @@ pub each_of : {A : Type 0} (g : A → List Fault) (a b c : List A) → first (fl
 each_of g a b c = split g a (b ++ c) ∙ ap (earlier (first (flat_map g a))) (split g b c)
 
 pub lacking_each : (g : List ℕ → List Fault) (a b c : Option Parameter)
-    → first (flat_map g (flat_map required_key (told a ++ (told b ++ told c))))
-    ≡ earlier (first (flat_map g (flat_map required_key (told a)))) (earlier (first (flat_map g (flat_map required_key (told b)))) (first (flat_map g (flat_map required_key (told c)))))
+    → first (flat_map g (flat_map required_key (optional a ++ (optional b ++ optional c))))
+    ≡ earlier (first (flat_map g (flat_map required_key (optional a)))) (earlier (first (flat_map g (flat_map required_key (optional b)))) (first (flat_map g (flat_map required_key (optional c)))))
 lacking_each g a b c =
     ap (λ ks. first (flat_map g ks))
-    (flat_map-append required_key (told a) (told b ++ told c) ∙ ap (λ ks. flat_map required_key (told a) ++ ks) (flat_map-append required_key (told b) (told c)))
-    ∙ each_of g (flat_map required_key (told a)) (flat_map required_key (told b)) (flat_map required_key (told c))
+    (flat_map-append required_key (optional a) (optional b ++ optional c) ∙ ap (λ ks. flat_map required_key (optional a) ++ ks) (flat_map-append required_key (optional b) (optional c)))
+    ∙ each_of g (flat_map required_key (optional a)) (flat_map required_key (optional b)) (flat_map required_key (optional c))
 
 -- of one that may be there
-pub one_told : (g : Parameter → List Fault) (one : Parameter) → first (flat_map g (told (Some one))) ≡ first (g one)
+pub one_told : (g : Parameter → List Fault) (one : Parameter) → first (flat_map g (optional (Some one))) ≡ first (g one)
 one_told g one = ap first (append-nil (g one))
 
-pub all_args : (setting : Setting) (a b c : Option Parameter) → args setting (told a ++ (told b ++ told c)) ≡ args setting (told a) ++ (args setting (told b) ++ args setting (told c))
+pub all_args : (setting : Setting) (a b c : Option Parameter) → args setting (optional a ++ (optional b ++ optional c)) ≡ args setting (optional a) ++ (args setting (optional b) ++ args setting (optional c))
 all_args setting a b c =
     let f : Parameter → Arg = λ parameter. arg setting parameter parameter.wanted in
-    map-append f (told a) (told b ++ told c) ∙ ap (λ xs. map f (told a) ++ xs) (map-append f (told b) (told c))
+    map-append f (optional a) (optional b ++ optional c) ∙ ap (λ xs. map f (optional a) ++ xs) (map-append f (optional b) (optional c))
 
 pub no_arg : (xs : List Arg) → xs ≡ xs ++ []
 no_arg xs = sym (append-nil xs)

@@ -1,4 +1,5 @@
 -- What the table of principles says of each principle, and that a name of grammar texts is that of one of them.
+use Rattle.xdg_facts.proofs.Each.{each_in}
 use Rattle.xdg_facts.proofs.Options.{some_same}
 use Rattle.std.proofs.Common.{◌≡◌, inl, inr, ℕ, List, [], ◌∷◌, Some, sym, ap, ◌∙◌, subst, rules}
 use Rattle.std.specs.List.{AllByRecursion}
@@ -32,11 +33,6 @@ of_texts name principle e = found_in all_principles name principle (tt, (tt, (tt
 
 -- ---- parameters
 
--- what holds of each of them holds of one
-pub one_of : (P : Parameter → Type 0) (xs : List Parameter) (x : Parameter) → AllByRecursion P xs → In xs x → P x
-one_of P [] x all h = absurd h
-one_of P (y ∷ xs) x all h = elim h [ inl e ↦ subst P e all.0 | inr k ↦ one_of P xs x all.1 k ]
-
 -- a feature or an attribute is required or by default a feature, and labels are required
 abbrev pub IsDefaulted : Wanted → Preset → Type 0
 IsDefaulted (a.Member sort which typing) p.False = ⊥
@@ -52,4 +48,4 @@ all_defaulted principles.Graph = tt
 all_defaulted principle = search rules
 
 pub sound_parameter : (principle : Principle) (x : Parameter) → In (parameters (form_of principle)) x → IsDefaulted x.wanted x.preset
-sound_parameter principle x = one_of Defaulted (parameters (form_of principle)) x (all_defaulted principle)
+sound_parameter principle x = each_in Defaulted (parameters (form_of principle)) x (all_defaulted principle)

@@ -12,7 +12,8 @@ use Rattle.xdg_types.proofs.NamesKnown.{each_known}
 use Rattle.xdg_principles.specs.declared.building.PrincipleUse.{PrincipleUse}
 use Rattle.xdg_problem.specs.declared.forms.Parameter.{Parameter}
 use Rattle.xdg_problem.specs.declared.forms.Which.{Which}
-use Rattle.xdg_problem.specs.Forms.{dims_in, dim_key, form_of, parameters, told}
+use Rattle.xdg_problem.specs.Forms.{dims_in, dim_key, form_of, parameters}
+use Rattle.xdg_facts.specs.Onward.{optional}
 use Rattle.xdg_problem.specs.declared.forms.Form.{Form}
 use Rattle.xdg_principles.specs.Uses.{Use, principle_uses, values, under}
 use Rattle.xdg_principles.specs.Settings.{Setting, setting_of, dim, dim_place, dim_texts, at_place, shared}
@@ -33,8 +34,8 @@ use Rattle.xdg_facts.proofs.Zips.{zip_first, zip_second, zip_weaker}
 
 -- ---- lists
 
-first_in : (first : Option Parameter) (more : List Parameter) (parameter : Parameter) → first ≡ Some parameter → In (told first ++ more) parameter
-first_in first more parameter is = subst (λ (o : Option Parameter). In (told o ++ more) parameter) (sym is) (inl refl)
+first_in : (first : Option Parameter) (more : List Parameter) (parameter : Parameter) → first ≡ Some parameter → In (optional first ++ more) parameter
+first_in first more parameter is = subst (λ (o : Option Parameter). In (optional o ++ more) parameter) (sym is) (inl refl)
 
 -- ---- one use
 
@@ -56,7 +57,7 @@ module _ (statements : List Statement) (table : Table) (has : HasTable statement
     fixed : FixesShared form.first → (type : Shape) × (shared here ≡ Some type)
     fixed h =
         let x = fixing form.first h in
-        let i = first_in form.first (told form.second ++ told form.third) x.parameter x.stands in
+        let i = first_in form.first (optional form.second ++ optional form.third) x.parameter x.stands in
         let arg = zip_first (λ (y : Parameter) made. IsArg here y y.wanted made) (parameters form) u.args is.arguments x.parameter i in
         fixes here x.parameter (one_right x.parameter i) x.sort x.which x.wanted x.required x.stands arg.0 arg.1.1
 

@@ -9,7 +9,7 @@ use Rattle.xdg_names.proofs.Texts.{place_of-Some, place_of-at}
 use Rattle.xdg_types.specs.declared.table.DimType.{DimType}
 use Rattle.xdg_types.specs.Table as table
 use Rattle.xdg_types.specs.Table.{AreUsed}
-use Rattle.xdg_types.proofs.Elements.{all_differ, in_texts}
+use Rattle.xdg_types.proofs.Elements.{in_texts}
 use Rattle.xdg_problem.specs.declared.forms.Which.{Which}
 use Rattle.xdg_principles.specs.Settings.{Setting, dim_texts, dim_place, place_named}
 use Rattle.xdg_principles.specs.Made.{AreLabels, ArePlaces}
@@ -72,7 +72,7 @@ pub used_place : (dims : List DimType) (names : List Name) (ks : List ℕ) → D
 used_place dims [] ks apart h k t i is = absurd i
 used_place dims (name ∷ names) [] apart h k t i is = absurd h
 used_place dims (name ∷ names) (j ∷ ks) apart h k t i is = elim i [
-  | inl q ↦ inl (some_same j k (sym (place_of-at (dim_texts dims) j (all_differ (dim_texts dims) apart) inside) ∙ ap (place_of (dim_texts dims)) (name_at dims j h.0.0 h.0.1.0 ∙ h.0.1.1 ∙ q) ∙ is))
+  | inl q ↦ inl (some_same j k (sym (place_of-at (dim_texts dims) j apart inside) ∙ ap (place_of (dim_texts dims)) (name_at dims j h.0.0 h.0.1.0 ∙ h.0.1.1 ∙ q) ∙ is))
   | inr r ↦ inr (used_place dims names ks apart h.1 k t r is)
 ]
   where

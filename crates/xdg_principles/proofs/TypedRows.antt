@@ -1,5 +1,5 @@
 -- What the table of principles says of dimensions and of the type that arguments share.
-use Rattle.xdg_principles.proofs.Rows.{one_of}
+use Rattle.xdg_facts.proofs.Each.{each_in}
 use Rattle.std.proofs.Common.{◌≡◌, Option, None, Some, refl, rules}
 use Rattle.std.specs.List.{AllByRecursion}
 use Rattle.std.specs.Prelude.{slice_get}
@@ -99,4 +99,4 @@ all_sound principles.Graph = tt
 all_sound principle = search rules
 
 pub sound_wanted : (principle : Principle) (x : Parameter) → In (parameters (form_of principle)) x → IsSoundWanted (form_of principle) x.wanted
-sound_wanted principle x = one_of (Sound (form_of principle)) (parameters (form_of principle)) x (all_sound principle)
+sound_wanted principle x = each_in (Sound (form_of principle)) (parameters (form_of principle)) x (all_sound principle)

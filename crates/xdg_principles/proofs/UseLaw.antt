@@ -32,13 +32,14 @@ use Rattle.xdg_problem.specs.declared.forms.Typing.{Typing}
 use Rattle.xdg_problem.specs.declared.forms.Wanted.{Wanted}
 use Rattle.xdg_problem.specs.declared.forms.Wanted.TheVariants as a
 use Rattle.xdg_problem.specs.declared.parts.Principle.{Principle}
-use Rattle.xdg_problem.specs.Forms.{dim_key, dims_in, form_of, key_text, parameters, preset_feature, told as at_most_one}
+use Rattle.xdg_problem.specs.Forms.{dim_key, dims_in, form_of, key_text, parameters, preset_feature}
+use Rattle.xdg_facts.specs.Onward.{optional as at_most_one}
 use Rattle.xdg_problem.specs.Names.{named}
 use Rattle.xdg_principles.specs.Names.{PrincipleNameOffends, given_dims, key_if_required, required_key}
 use Rattle.xdg_principles.specs.Uses.{Use, use_in, uses_in, principle_uses, values, under}
-use Rattle.xdg_principles.specs.Settings.{Setting, Called, setting_of, setting_if, setting, arguments_in, arguments, dim_texts, dim_place, place_named, labels, members}
-use Rattle.xdg_principles.specs.Settings.{term_in, constant_in, constant_at, list_of, list_at, listed_in, called_in, called_or, called_at, called_by, names_at}
-use Rattle.xdg_principles.specs.Arguments.{OneOffends, ArgumentOffends, has_form, truths}
+use Rattle.xdg_principles.specs.Settings.{Setting, Called, setting_of, setting_if, setting, arguments_in, arguments, dim_texts, dim_place, place_named, labels, members, term_in, constant_in, constant_at, list_of, list_at, listed_in, called_in, called_or, called_at, called_by, names_at}
+use Rattle.xdg_principles.specs.Arguments.{OneOffends, ArgumentOffends, has_form}
+use Rattle.xdg_terms.specs.Faults.{truth_texts}
 use Rattle.xdg_principles.specs.Made.{HasDims, IsMember, AreLabels, IsLabelList, IsTruth, IsArg, IsUse, ArePrincipleUses, place_called, member_number, label_number, truth_of, arg, args, built_with, built}
 use Rattle.xdg_principles.proofs.Rows.{IsDefaulted, sound_parameter}
 use Rattle.xdg_facts.specs.Membership.{In}
@@ -96,7 +97,7 @@ labels_required : (which : Which) (preset : Preset) → IsDefaulted (a.Labels wh
 labels_required which p.Required h = refl
 labels_required which other h = absurd h
 
-truth_said : (t : List ℕ) → In truths t → t ≡ truth_text (bytes_eq t (codes "true"))
+truth_said : (t : List ℕ) → In truth_texts t → t ≡ truth_text (bytes_eq t (codes "true"))
 truth_said t h = elim h [
   | inl e ↦ subst (λ u. u ≡ truth_text (bytes_eq u (codes "true"))) e refl
   | inr k ↦ elim k [ inl e ↦ subst (λ u. u ≡ truth_text (bytes_eq u (codes "true"))) e refl | inr z ↦ absurd z ]
@@ -136,7 +137,7 @@ module _ (setting : Setting) (parameter : Parameter) (right : (f : Fault) → On
   truth_is wanted (Some term) e =
       let k = told (constant_of term) (subst (λ w. has_form w term ≡ true) wanted (formed term e)) in
       let among : In (at_most_one (constant_in setting parameter)) k.0 = subst (λ (o : Option Name). In (at_most_one o) k.0) (sym (ap constant_at e ∙ k.1)) (inl refl) in
-      let said = each_known truths (at_most_one (constant_in setting parameter)) (λ f h. right f (inr (inr (inr (inl (record { wanted = wanted; unknown = h })))))) k.0 among in
+      let said = each_known truth_texts (at_most_one (constant_in setting parameter)) (λ f h. right f (inr (inr (inr (inl (record { wanted = wanted; unknown = h })))))) k.0 among in
       (k.0, (k.1, truth_said k.0.text said ∙ sym (ap (λ (o : Option Name). truth_text (truth_of o)) k.1)))
 
   list_is : (which : Which) → parameter.wanted ≡ a.Labels which → (o : Option Term) → term_in setting parameter ≡ o → IsLabelList (labels setting which) o (map (label_number (labels setting which)) (list_at o))

@@ -17,11 +17,13 @@ use Rattle.xdg_problem.specs.declared.forms.Wanted.{Wanted}
 use Rattle.xdg_problem.specs.declared.forms.Wanted.TheVariants as a
 use Rattle.xdg_problem.specs.declared.forms.Parameter.{Parameter}
 use Rattle.xdg_problem.specs.declared.parts.Principle.{Principle}
-use Rattle.xdg_problem.specs.Forms.{parameters, told}
+use Rattle.xdg_problem.specs.Forms.{parameters}
+use Rattle.xdg_facts.specs.Onward.{optional}
 use Rattle.xdg_principles.specs.Uses.{Use, principle_uses, with_principle}
 use Rattle.xdg_principles.specs.Settings.{Setting, Called, setting_of, labels, member_type, term_in, constant_in, listed_in, called_in}
 use Rattle.xdg_principles.specs.Wanted.{is_wanted}
-use Rattle.xdg_principles.specs.Arguments.{has_form, truths}
+use Rattle.xdg_principles.specs.Arguments.{has_form}
+use Rattle.xdg_terms.specs.Faults.{truth_texts}
 
 abbrev pub form_faults : Wanted → Option Term → List Fault
 form_faults wanted None = []
@@ -44,7 +46,7 @@ abbrev pub inner_faults : Setting → Parameter → Wanted → List Fault
 inner_faults setting parameter (a.Member sort which typing) = member_faults setting sort which typing (called_in setting parameter)
 inner_faults setting parameter (a.Labels which) =
     flat_map (outside (labels setting which)) (listed_in setting parameter) ++ repeats [] (listed_in setting parameter)
-inner_faults setting parameter a.Truth = flat_map (outside truths) (told (constant_in setting parameter))
+inner_faults setting parameter a.Truth = flat_map (outside truth_texts) (optional (constant_in setting parameter))
 
 -- of one argument
 abbrev pub one_faults : Setting → Parameter → List Fault

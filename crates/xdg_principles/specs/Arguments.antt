@@ -1,5 +1,5 @@
 -- What is wrong with the arguments in the uses of principles.
-use Rattle.std.specs.Prelude.{◌≡◌, ◌⊎◌, ℕ, Bool, false, List, [], ◌∷◌, Some, codes}
+use Rattle.std.specs.Prelude.{◌≡◌, ◌⊎◌, Bool, false, List, Some}
 use Rattle.xdg_base.specs.Faults.{fault_at}
 use Rattle.xdg_base.specs.declared.faults.Cause.TheVariants as causes
 use Rattle.xdg_base.specs.declared.faults.Fault.{Fault}
@@ -15,19 +15,17 @@ use Rattle.xdg_problem.specs.declared.forms.Typing.{Typing}
 use Rattle.xdg_problem.specs.declared.forms.Sort.{Sort}
 use Rattle.xdg_problem.specs.declared.forms.Wanted.{Wanted}
 use Rattle.xdg_problem.specs.declared.forms.Wanted.TheVariants as a
-use Rattle.xdg_problem.specs.Forms.{told}
+use Rattle.xdg_facts.specs.Onward.{optional}
 use Rattle.xdg_principles.specs.Settings.{Argument, Called, arguments, labels, members, member_type, term_in, constant_in, listed_in, list_of, called_in}
 use Rattle.xdg_principles.specs.Wanted.{IsWanted}
 use Rattle.xdg_facts.specs.Membership.{In}
+use Rattle.xdg_terms.specs.Faults.{truth_texts}
 
 -- a feature, an attribute and a truth value are given by a constant, labels by square brackets
 abbrev pub has_form : Wanted → Term → Bool
 has_form (a.Member sort which typing) term = is_some (constant_of term)
 has_form (a.Labels which) term = is_some (list_of term)
 has_form a.Truth term = is_some (constant_of term)
-
-abbrev pub truths : List (List ℕ)
-truths = codes "true" ∷ codes "false" ∷ []
 
 -- ---- the rules, one by one
 
@@ -65,7 +63,7 @@ pub record HasWrongType (x : Argument) (f : Fault) : Type 0 where
 -- a constant is neither `true` nor `false` where a truth value is wanted
 pub record IsNoTruth (x : Argument) (f : Fault) : Type 0 where
   pub wanted : x.parameter.wanted ≡ a.Truth
-  pub unknown : IsUnknown causes.NotMember truths (told (constant_in x.setting x.parameter)) f
+  pub unknown : IsUnknown causes.NotMember truth_texts (optional (constant_in x.setting x.parameter)) f
 
 -- a constant is no label of the dimension
 pub record IsNoLabel (x : Argument) (f : Fault) : Type 0 where

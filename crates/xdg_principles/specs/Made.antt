@@ -25,8 +25,7 @@ use Rattle.xdg_problem.specs.Names.{named}
 use Rattle.xdg_principles.specs.declared.using.Uses.{Uses}
 use Rattle.xdg_principles.specs.Arguments.{ArgumentOffends}
 use Rattle.xdg_principles.specs.Names.{PrincipleNameOffends}
-use Rattle.xdg_principles.specs.Settings.{Setting, Called, setting_of, dim_texts, dim_place, labels, member_place}
-use Rattle.xdg_principles.specs.Settings.{term_in, constant_in, listed_in, list_of, called_in}
+use Rattle.xdg_principles.specs.Settings.{Setting, Called, setting_of, dim_texts, dim_place, labels, member_place, term_in, constant_in, listed_in, list_of, called_in}
 use Rattle.xdg_principles.specs.Uses.{Use, principle_uses, with_principle, AreUsesOf}
 use Rattle.xdg_ast.specs.Texts.{texts}
 

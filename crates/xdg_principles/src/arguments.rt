@@ -9,10 +9,11 @@ ghost use Rattle.xdg_types.specs.Parts.{Statement};
 ghost use Rattle.xdg_principles.specs.ArgumentFaults as spec;
 ghost use Rattle.xdg_principles.specs.Arguments as rules;
 ghost use Rattle.xdg_principles.specs.Lent.{Knows, IsReady, as_setting};
-ghost use Rattle.xdg_problem.specs.Forms.{told};
+ghost use Rattle.xdg_facts.specs.Onward.{optional};
 ghost use Rattle.xdg_problem.specs.declared.forms.Wanted.TheVariants as wanted;
 ghost use Rattle.xdg_principles.specs.Settings.{term_in, called_in, member_type};
 ghost use Rattle.xdg_principles.specs.Uses.{seen, told as told_use, AreUsesOf};
+ghost use Rattle.xdg_terms.specs.Faults.{truth_texts};
 
 use crate::fitting::is_wanted;
 use crate::lookup::{Lookup, index_names};
@@ -126,7 +127,7 @@ fn check_parameter<'a>(
     parameter: Option<Parameter>,
 ) -> Result<Option<Fault>, OutOfMemory>
     requires { IsReady setting.now }
-    ensures { IfOk result (λ found. found ≡ first (flat_map (spec.one_faults (as_setting setting.now)) (told parameter))) }
+    ensures { IfOk result (λ found. found ≡ first (flat_map (spec.one_faults (as_setting setting.now)) (optional parameter))) }
 {
     match parameter {
         None => Ok(None),
@@ -288,7 +289,7 @@ fn check_truth<'a>(setting: &SettingRef<'a>, parameter: Parameter) -> Option<Fau
 }
 
 fn is_truth(text: &str) -> bool
-    ensures { result ≡ has_text rules.truths text.now }
+    ensures { result ≡ has_text truth_texts text.now }
 {
     "true" == text || "false" == text
 }

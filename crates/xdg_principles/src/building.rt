@@ -5,7 +5,8 @@ ghost use Rattle.xdg_types.specs.Parts.{Statement};
 ghost use Rattle.xdg_types.specs.Table.{IsTable};
 ghost use Rattle.xdg_principles.specs.Lent.{Knows, IsReady, as_setting};
 ghost use Rattle.xdg_principles.specs.Made as spec;
-ghost use Rattle.xdg_problem.specs.Forms.{told, parameters};
+ghost use Rattle.xdg_problem.specs.Forms.{parameters};
+ghost use Rattle.xdg_facts.specs.Onward.{optional};
 ghost use Rattle.xdg_principles.specs.Settings.{constant_in};
 ghost use Rattle.xdg_principles.specs.Typed.{AreTypedUses};
 ghost use Rattle.xdg_principles.specs.Uses.{seen, told as told_use};
@@ -171,7 +172,7 @@ fn add_arg<'a>(
     made: &mut List<Arg>,
 ) -> Result<(), OutOfMemory>
     requires { IsReady setting.now }
-    ensures { IfOk result (λ _. made.new ≡ made.old ++ spec.args (as_setting setting.now) (told parameter)) }
+    ensures { IfOk result (λ _. made.new ≡ made.old ++ spec.args (as_setting setting.now) (optional parameter)) }
 {
     match parameter {
         None => Ok(()),

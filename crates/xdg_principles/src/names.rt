@@ -9,7 +9,8 @@ ghost use Rattle.xdg_types.specs.NameFaults as names;
 ghost use Rattle.xdg_types.specs.Parts.{dim_names, used_name, used_names, keys};
 ghost use Rattle.xdg_principles.specs.Names.{PrincipleNameOffends, dim_keys, arg_keys, required_key, required_keys};
 ghost use Rattle.xdg_principles.specs.NameFaults as spec;
-ghost use Rattle.xdg_problem.specs.Forms.{dim_key, dims_in, told, key_text};
+ghost use Rattle.xdg_problem.specs.Forms.{dim_key, dims_in, key_text};
+ghost use Rattle.xdg_facts.specs.Onward.{optional};
 ghost use Rattle.xdg_principles.specs.Uses.{seen, told as told_use, AreUsesOf};
 
 use crate::keys::{has_key, unknown_among};
@@ -235,7 +236,7 @@ fn has_arg(form: Form, text: &str) -> bool
 }
 
 fn is_named(parameter: Option<Parameter>, text: &str) -> bool
-    ensures { result ≡ has_text (map (λ one. key_text one.key) (told parameter)) text.now }
+    ensures { result ≡ has_text (map (λ one. key_text one.key) (optional parameter)) text.now }
 {
     match parameter {
         None => false,
@@ -277,7 +278,7 @@ fn lacking_args<'a>(form: Form, one: &UseRef<'a>) -> Option<Fault>
 
 #[tactic(auto, using(xdg_names::proofs::First::first_append, crate::proofs::Forms::nothing_more))]
 fn lacking_arg<'a>(parameter: Option<Parameter>, one: &UseRef<'a>) -> Option<Fault>
-    ensures { result ≡ first (flat_map (spec.lacking one.now.name.now.span.start (keys one.now.args.now)) (flat_map required_key (told parameter))) }
+    ensures { result ≡ first (flat_map (spec.lacking one.now.name.now.span.start (keys one.now.args.now)) (flat_map required_key (optional parameter))) }
 {
     let Some(parameter) = parameter else {
         return None;

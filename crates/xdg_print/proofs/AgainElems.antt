@@ -20,8 +20,7 @@ use Rattle.xdg_print.proofs.AgainNames.{Like, Kept, Keeps, constant_kind, consta
 use Rattle.xdg_print.proofs.AgainKept.{kept_by, behind_keeps, either_keeps, made_keeps, spanned_keeps, GoodTail, tail_of, no_tail}
 use Rattle.xdg_print.proofs.AgainLevels.{elems_words, pairs_words, Depth, braces_keep}
 use Rattle.xdg_print.proofs.AgainTerms.{bracketed_keeps, card_keeps, gen_keeps}
-use Rattle.xdg_facts.proofs.Truths.{and_false}
-use Rattle.xdg_facts.proofs.Truths.{choose}
+use Rattle.xdg_facts.proofs.Truths.{and_false, choose}
 use Rattle.xdg_ast.proofs.Bared.{bare_term_braces}
 
 -- ---- constants and parameters

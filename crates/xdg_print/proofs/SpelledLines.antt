@@ -9,8 +9,7 @@ use Rattle.std.proofs.lemmas.Str.{chars-encodes}
 use Rattle.xdg_ast.specs.declared.token.Kind.{Kind}
 use Rattle.xdg_base.specs.Spelling.{continues_name}
 use Rattle.xdg_ast.specs.Lexemes.{Lexeme}
-use Rattle.xdg_ast.specs.Tokenizes.{size_of, EachPasses, StopsBefore, white, Tokenizes, finished, Spells}
-use Rattle.xdg_ast.specs.Tokenizes.{gap as token_gap}
+use Rattle.xdg_ast.specs.Tokenizes.{size_of, EachPasses, StopsBefore, white, Tokenizes, finished, Spells, gap as token_gap}
 use Rattle.xdg_ast.specs.declared.names.Spanned.{Spanned}
 use Rattle.xdg_ast.specs.declared.grammar.DimPartKind.{DimPartKind}
 use Rattle.xdg_ast.specs.declared.grammar.StatementKind.{StatementKind}

@@ -7,8 +7,7 @@ use Rattle.xdg_ast.specs.declared.token.Kind.TheVariants as k
 use Rattle.xdg_ast.specs.Words.{Word, mark, number, constant}
 use Rattle.xdg_ast.specs.Trees.{in_braces, in_square_brackets}
 use Rattle.xdg_domain.specs.Cards.{cards}
-use Rattle.xdg_domain.specs.Shapes.{Shape, domain, tuple, truth, integer, text, set, iset, card, valency, mapping, fields, Fields, no_field, field_then}
-use Rattle.xdg_domain.specs.Shapes.{constants_of, sizes}
+use Rattle.xdg_domain.specs.Shapes.{Shape, domain, tuple, truth, integer, text, set, iset, card, valency, mapping, fields, Fields, no_field, field_then, constants_of, sizes}
 use Rattle.xdg_domain.specs.Tuples.{places}
 use Rattle.xdg_domain.specs.declared.values.Value.{Value, out-Value}
 use Rattle.xdg_domain.specs.declared.values.Value.TheOpen.{Value-F}

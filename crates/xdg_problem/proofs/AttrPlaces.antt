@@ -2,8 +2,9 @@
 use Rattle.std.proofs.Common.{◌≡◌, ℕ, ◌<◌, ◌≤◌, ◌+◌, ◌*◌, zero, suc, List, [], ◌∷◌, length, take, map, sym, subst, arith, length-append, rules}
 use Rattle.std.specs.Prelude.{All, slice_index_or}
 use Rattle.std.specs.List.{flat_map}
-use Rattle.std.proofs.lemmas.List.Elements.{All-nil, All-cons}
+use Rattle.std.proofs.lemmas.List.Elements.{All-cons}
 use Rattle.std.proofs.lemmas.Nat.{row_fits}
+use Rattle.xdg_facts.proofs.Lists.{all_one}
 use Rattle.xdg_problem.specs.declared.parts.AttrPlan.{AttrPlan}
 use Rattle.xdg_problem.specs.declared.parts.DimPlan.{DimPlan}
 use Rattle.xdg_problem.specs.declared.parts.Group.{Group}
@@ -66,18 +67,12 @@ module _ (parts : Parts) (group : Group) (is : IsGroup parts group) where
   abbrev pub AreWithin : Test → Type 0
   AreWithin test = All IsWithin (test_attrs parts group test)
 
-  none : All IsWithin []
-  none = All-nil IsWithin
-
-  one : (place : ℕ) → IsWithin place → All IsWithin (place ∷ [])
-  one place here = All-cons IsWithin place [] here none
-
   pub each_within : (principle : Principle) → group.principle ≡ principle → Each group.truths (nodes parts) (label_count parts (first_dim group)) AreWithin principle
   each_within principles.Order same = (
-    λ e u a. one _ (takes principles.Order 0 same (omega arith) u a),
-    λ e u a. one _ (takes principles.Order 0 same (omega arith) u a),
+    λ e u a. all_one IsWithin _ (takes principles.Order 0 same (omega arith) u a),
+    λ e u a. all_one IsWithin _ (takes principles.Order 0 same (omega arith) u a),
   )
-  each_within principles.Agr same = λ v a. one _ (takes principles.Agr 0 same (omega arith) v a)
-  each_within principles.Agreement same = λ u a l b v c. All-cons IsWithin _ (attr_place parts (first_dim group) v (attr_of group 1) ∷ []) (takes principles.Agreement 0 same (omega arith) u a) (one _ (takes principles.Agreement 1 same (omega arith) v c))
-  each_within principles.Government same = λ u a l b v c. one _ (takes principles.Government 0 same (omega arith) v c)
-  each_within principle same = search (rules, none)
+  each_within principles.Agr same = λ v a. all_one IsWithin _ (takes principles.Agr 0 same (omega arith) v a)
+  each_within principles.Agreement same = λ u a l b v c. All-cons IsWithin _ (attr_place parts (first_dim group) v (attr_of group 1) ∷ []) (takes principles.Agreement 0 same (omega arith) u a) (all_one IsWithin _ (takes principles.Agreement 1 same (omega arith) v c))
+  each_within principles.Government same = λ u a l b v c. all_one IsWithin _ (takes principles.Government 0 same (omega arith) v c)
+  each_within principle same = search rules

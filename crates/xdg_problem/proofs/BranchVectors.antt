@@ -1,5 +1,5 @@
 -- The analyses of a branch are those of the problem that begin with its candidate, and their vectors differ in the first number alone.
-use Rattle.std.proofs.Common.{◌≡◌, ◌↔◌, ℕ, ◌<◌, ◌+◌, inl, inr, List, [], ◌∷◌, ◌++◌, length, get_or, map, ap, sym, ◌∙◌, subst, arith}
+use Rattle.std.proofs.Common.{◌≡◌, ◌↔◌, ℕ, ◌<◌, ◌+◌, List, [], ◌∷◌, ◌++◌, length, get_or, map, ap, sym, ◌∙◌, subst, arith}
 use Rattle.std.specs.Prelude.{AllPairs, Contains}
 use Rattle.std.proofs.lemmas.List.Elements.{Contains-get_or}
 use Rattle.xdg_base.specs.declared.ids.EntryNo.{EntryNo}
@@ -14,21 +14,18 @@ use Rattle.xdg_problem.specs.Problems.{AreCandidates, IsProblem}
 use Rattle.xdg_problem.specs.Vectors.{entry_places, place_among, presence, vector}
 use Rattle.xdg_problem.proofs.EntryPlaces.{EntryBefore, place_back, place_within}
 use Rattle.xdg_problem.proofs.OtherTruths.{analysis_still}
-use Rattle.xdg_facts.proofs.Contained.{contains_cases, contains_head, contains_none}
+use Rattle.xdg_facts.proofs.Contained.{contains_head, contains_one}
 use Rattle.xdg_facts.proofs.InOrder.{ordered_from_pairs}
 use Rattle.xdg_facts.proofs.Ordered.{less_same}
 
 -- ---- entries
-
-only_member : (x e : EntryNo) → Contains (x ∷ []) e → e ≡ x
-only_member x e c = elim (contains_cases x [] e c) [ inl same ↦ sym same | inr later ↦ absurd (contains_none e later) ]
 
 abbrev Begins : List (List EntryNo) → ℕ → List EntryNo → Type 0
 Begins candidates place entries = get_or entries 0 no_entry ≡ get_or (get_or candidates 0 []) place no_entry
 
 entries_down : (candidates : List (List EntryNo)) (place : ℕ) (entries : List EntryNo) → place < length (get_or candidates 0 []) → HasCandidates (first_alone no_entry place candidates) entries → HasCandidates candidates entries × Begins candidates place entries
 entries_down (c ∷ candidates) place (e ∷ entries) within has =
-    let is : e ≡ get_or c place no_entry = only_member (get_or c place no_entry) e has.0 in
+    let is : e ≡ get_or c place no_entry = contains_one (get_or c place no_entry) e has.0 in
     ((subst (Contains c) (sym is) (Contains-get_or c place no_entry within), has.1), is)
 entries_down candidates place entries within has = absurd (grind arith)
 
@@ -48,7 +45,7 @@ alone_first x e c = let l = place_within (x ∷ []) e c in omega (arith, l)
 
 entries_differ : (candidates : List (List EntryNo)) (place : ℕ) (entries : List EntryNo) → AllPairs EntryBefore (get_or candidates 0 []) → place < length (get_or candidates 0 []) → HasCandidates (first_alone no_entry place candidates) entries → EntriesDiffer candidates place entries
 entries_differ (c ∷ candidates) place (e ∷ entries) rising within has =
-    let is : e ≡ get_or c place no_entry = only_member (get_or c place no_entry) e has.0 in
+    let is : e ≡ get_or c place no_entry = contains_one (get_or c place no_entry) e has.0 in
     let at : place_among c e ≡ place = ap (place_among c) is ∙ place_back c place no_entry (ordered_from_pairs EntryBefore c rising) within in
     record {
       more = entry_places candidates entries;

@@ -17,8 +17,7 @@ use Rattle.xdg_problem.specs.Arguments.{first_dim, second_dim, truth_of, order_o
 use Rattle.xdg_problem.specs.Asking.{first, second, third, IsBetween, IsInItem, IsLinked, AsksBy, AsksLink, AsksOf, attr_places, Asks}
 use Rattle.xdg_facts.proofs.Decided.{Decided, decided_both, decided_from, decided_equal, decided_less, decided_most, decided_contains, decided_either, decided_true, decided_not, decided_pairs, triple_decided}
 use Rattle.xdg_facts.proofs.Contained.{contained, any_of}
-use Rattle.xdg_problem.proofs.DecidingPaths.{decided_by_edge, decided_daughter, decided_daughter_by, decided_daughter_by_any, decided_entered}
-use Rattle.xdg_problem.proofs.DecidingPaths.{decided_sisters, decided_above, decided_above_by_first, decided_above_by_last}
+use Rattle.xdg_problem.proofs.DecidingPaths.{decided_by_edge, decided_daughter, decided_daughter_by, decided_daughter_by_any, decided_entered, decided_sisters, decided_above, decided_above_by_first, decided_above_by_last}
 use Rattle.xdg_problem.proofs.DecidingTruths.{decided_whole}
 
 pub decided_between : (u v w : ℕ) → Decided (IsBetween u v w)

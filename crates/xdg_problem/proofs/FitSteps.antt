@@ -16,6 +16,7 @@ use Rattle.xdg_problem.specs.Values.{AreValues, value_counts}
 use Rattle.xdg_problem.proofs.Counted.{length_attrs_of}
 use Rattle.xdg_problem.proofs.EntryPlaces.{length_entries}
 use Rattle.xdg_facts.proofs.Fitting.{fits_refused, fits_split, fits_step}
+use Rattle.xdg_facts.proofs.Lists.{from_place}
 use Rattle.xdg_facts.proofs.Numbers.{left_after, wide_enough}
 
 -- candidates
@@ -86,20 +87,17 @@ values_narrow plan plans n w x e m a =
 pub values_short : (dims : List DimPlan) (n w k : ℕ) (d : DimPlan) (x : List ℕ) → k < length dims → w ≡ n * length (get_or dims k d).attrs → length x < w → AreValues n (drop k dims) x → ⊥
 values_short dims n w k d x l e m a = values_narrow (get_or dims k d) (drop (k + 1) dims) n w x e m (subst (λ z. AreValues n z x) (drop_more dims k d l) a)
 
-pub plan_drop : (dims : List DimPlan) (k : ℕ) (plan : DimPlan) → k < length dims → plan ≡ get_or dims k plan → drop k dims ≡ plan ∷ drop (k + 1) dims
-plan_drop dims k plan l s = drop_more dims k plan l ∙ ap (λ z. z ∷ drop (k + 1) dims) (sym s)
-
 pub values_step : (dims : List DimPlan) (n w k : ℕ) (plan : DimPlan) (x now later : List ℕ) → k < length dims → plan ≡ get_or dims k plan → w ≡ n * length plan.attrs → w ≤ length x → now ≡ take w x → later ≡ drop w x → Fits (flat_map (λ (node : ℕ). value_counts plan) (below n)) now → AreValues n (drop (k + 1) dims) later ↔ AreValues n (drop k dims) x
 values_step dims n w k plan x now later l i e m s t f =
     let h = values_head plan (drop (k + 1) dims) n w x e m in
-    subst (λ z. AreValues n (drop (k + 1) dims) later ↔ AreValues n z x) (sym (plan_drop dims k plan l i))
+    subst (λ z. AreValues n (drop (k + 1) dims) later ↔ AreValues n z x) (sym (from_place dims k plan l i))
     (subst (λ z. AreValues n (drop (k + 1) dims) z ↔ AreValues n (plan ∷ drop (k + 1) dims) x) (sym t)
     (λ a. h.1 (subst (λ z. Fits (flat_map (λ (node : ℕ). value_counts plan) (below n)) z) s f, a), λ a. (h.0 a).1))
 
 pub values_refused : (dims : List DimPlan) (n w k : ℕ) (plan : DimPlan) (x now : List ℕ) → k < length dims → plan ≡ get_or dims k plan → w ≡ n * length plan.attrs → w ≤ length x → now ≡ take w x → (Fits (flat_map (λ (node : ℕ). value_counts plan) (below n)) now → ⊥) → AreValues n (drop k dims) x → ⊥
 values_refused dims n w k plan x now l i e m s f a =
     let h = values_head plan (drop (k + 1) dims) n w x e m in
-    f (subst (λ z. Fits (flat_map (λ (node : ℕ). value_counts plan) (below n)) z) (sym s) (h.0 (subst (λ z. AreValues n z x) (plan_drop dims k plan l i) a)).0)
+    f (subst (λ z. Fits (flat_map (λ (node : ℕ). value_counts plan) (below n)) z) (sym s) (h.0 (subst (λ z. AreValues n z x) (from_place dims k plan l i) a)).0)
 
 pub values_end : (dims : List DimPlan) (n k : ℕ) (x : List ℕ) → length dims ≤ k → (length x ≡ 0) ↔ AreValues n (drop k dims) x
 values_end dims n k x l = subst (λ z. (length x ≡ 0) ↔ AreValues n z x) (sym (drop_all k dims l)) (λ e. (e, none_fit x e), λ a. a.0) where

@@ -56,6 +56,5 @@ pub mod Numbered
 pub mod BoxPlaces
 pub mod BoxWithout
 pub mod PlaceFound
-pub mod FormulaFronts
 pub mod Bindings
 pub mod PlacePlans

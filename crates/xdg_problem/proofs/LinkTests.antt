@@ -15,6 +15,10 @@ use Rattle.xdg_problem.proofs.Looking.{on_same, any_same}
 use Rattle.xdg_facts.proofs.Truths.{or_here, either_true, and_2, and_3}
 use Rattle.xdg_facts.proofs.Contained.{any_weaker}
 
+-- a test sees what can link
+pub sees : (group : Group) (way : Linking) (u l v : ℕ) (e : Edge) → can_link way u v e ≡ true → (e.dim.0 == second_dim group) ≡ true → looks_at group (linked way u l v) e ≡ true
+sees group way u l v e can on = or_here (looks_second (second_dim group) (linked way u l v) e) (looks_first (first_dim group) (linked way u l v) e) (and_2 (e.dim.0 == second_dim group) (can_link way u v e) on can)
+
 module _ (group : Group) (edges : List Edge) where
   abbrev two : ℕ
   two = second_dim group
@@ -23,15 +27,12 @@ module _ (group : Group) (edges : List Edge) where
   seen test = edges_on two (filter (looks_at group test) edges)
 
   module _ (way : Linking) (u l v : ℕ) where
-    sees : (e : Edge) → can_link way u v e ≡ true → (e.dim.0 == two) ≡ true → looks_at group (linked way u l v) e ≡ true
-    sees e can on = or_here (looks_second two (linked way u l v) e) (looks_first (first_dim group) (linked way u l v) e) (and_2 (e.dim.0 == two) (can_link way u v e) on can)
-
     any_linked : (P : Edge → Type 0) → ((e : Edge) → P e → can_link way u v e ≡ true) → Any P (seen (linked way u l v)) ↔ Any P (edges_on two edges)
-    any_linked P can = any_same (looks_at group (linked way u l v)) two edges P (λ e is. sees e (can e is))
+    any_linked P can = any_same (looks_at group (linked way u l v)) two edges P (λ e is. sees group way u l v e (can e is))
 
     path_linked : (from to : ℕ) (labels : List ℕ) → ((e : Edge) → can_link way u v e ≡ true) → AboveByFirst (seen (linked way u l v)) from labels to ↔ AboveByFirst (edges_on two edges) from labels to
     path_linked from to labels can =
-        let same = on_same (looks_at group (linked way u l v)) two edges (λ e. sees e (can e)) in
+        let same = on_same (looks_at group (linked way u l v)) two edges (λ e. sees group way u l v e (can e)) in
         (subst (λ es. AboveByFirst es from labels to) same, subst (λ es. AboveByFirst es from labels to) (sym same))
 
   pub linked_same : (way : Linking) (u l v : ℕ) (labels : List ℕ) → IsLinked way (seen (linked way u l v)) u labels v ↔ IsLinked way (edges_on two edges) u labels v

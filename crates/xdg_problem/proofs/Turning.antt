@@ -1,6 +1,6 @@
 -- Lists that are moved from their ends, and so turned.
-use Rattle.std.proofs.Common.{◌≡◌, ℕ, ◌+◌, ◌<◌, List, [], ◌∷◌, ◌++◌, length, map, take, get_or, reverse, sym, ap, ◌∙◌}
-use Rattle.std.proofs.lemmas.List.{append_assoc, append-nil, map-append, reverse-append, reverse-reverse, take_more}
+use Rattle.std.proofs.Common.{◌≡◌, ℕ, ◌+◌, ◌<◌, List, [], ◌∷◌, ◌++◌, length, map, take, get_or, reverse, ap, ◌∙◌}
+use Rattle.std.proofs.lemmas.List.{map-append, reverse-reverse, take_more}
 use Rattle.xdg_base.specs.declared.ids.EntryNo.{EntryNo}
 use Rattle.xdg_problem.specs.declared.formula.Formula.{Formula}
 use Rattle.xdg_problem.specs.declared.parts.Feat.{Feat}
@@ -9,29 +9,22 @@ use Rattle.xdg_problem.specs.declared.parts.Parts.{Parts}
 use Rattle.xdg_problem.specs.declared.parts.Principle.TheVariants as principles
 use Rattle.xdg_problem.specs.Costs.{CostLists}
 use Rattle.xdg_problem.specs.Further.{bare_use, bound_of, no_features, rules_of, with_uses}
+use Rattle.xdg_facts.proofs.Turns.{turn_more, turn_end}
 
 abbrev none_of : EntryNo → List Feat
 none_of entry = []
-
--- the last of some moved behind others
-pub move_more : (groups moved uses rest start : List Group) (last : Group) → groups ++ reverse uses ≡ start → uses ≡ rest ++ last ∷ [] → moved ≡ groups ++ last ∷ [] → moved ++ reverse rest ≡ start
-move_more groups moved uses rest start last so_far is now =
-    ap (λ z. z ++ reverse rest) now ∙ (append_assoc groups (last ∷ []) (reverse rest) ∙ (ap (λ z. groups ++ z) (sym (reverse-append rest (last ∷ []))) ∙ (ap (λ z. groups ++ reverse z) (sym is) ∙ so_far)))
-
-pub move_end : (groups uses start : List Group) → groups ++ reverse uses ≡ start → uses ≡ [] → groups ≡ start
-move_end groups uses start so_far none = sym (append-nil groups) ∙ (ap (λ z. groups ++ reverse z) (sym none) ∙ so_far)
 
 -- the use of the last of some formulas behind others
 pub rule_more : (feats : List (List (List Feat))) (made more : List Group) (formulas rest : List Formula) (start : List Group) (last : Formula) → made ++ reverse (map (λ formula. bare_use feats (principles.Rule formula)) formulas) ≡ start → formulas ≡ rest ++ last ∷ []
     → more ≡ made ++ bare_use feats (principles.Rule last) ∷ [] → more ++ reverse (map (λ formula. bare_use feats (principles.Rule formula)) rest) ≡ start
 rule_more feats made more formulas rest start last so_far is now =
     let rule : Formula → Group = λ formula. bare_use feats (principles.Rule formula) in
-    move_more made more (map rule formulas) (map rule rest) start (rule last) so_far (ap (map rule) is ∙ map-append rule rest (last ∷ [])) now
+    turn_more made more (map rule formulas) (map rule rest) start (rule last) so_far (ap (map rule) is ∙ map-append rule rest (last ∷ [])) now
 
 pub rule_end : (feats : List (List (List Feat))) (made : List Group) (formulas : List Formula) (start : List Group) → made ++ reverse (map (λ formula. bare_use feats (principles.Rule formula)) formulas) ≡ start → formulas ≡ [] → made ≡ start
 rule_end feats made formulas start so_far none =
     let rule : Formula → Group = λ formula. bare_use feats (principles.Rule formula) in
-    move_end made (map rule formulas) start so_far (ap (map rule) none)
+    turn_end made (map rule formulas) start so_far (ap (map rule) none)
 
 -- turned twice they stand behind the others in their order
 pub rules_placed : (parts : Parts) (feats : List (List (List Feat))) (uses groups : List Group) (formulas : List Formula) → feats ≡ no_features parts.candidates → uses ≡ reverse (map (λ formula. bare_use feats (principles.Rule formula)) formulas) → groups ≡ parts.groups ++ reverse uses

@@ -10,8 +10,7 @@ use Rattle.xdg_problem.specs.declared.parts.Parts.{Parts}
 use Rattle.xdg_problem.specs.declared.parts.Principle.{Principle}
 use Rattle.xdg_problem.specs.declared.parts.Principle.TheVariants as principles
 use Rattle.xdg_problem.specs.Principles.{linking_of}
-use Rattle.xdg_problem.specs.Paths.{edges_on, edges_into, edges_out_of, edges_joining, mothers, IsDaughter, IsDaughterBy, IsDaughterByAny, IsEnteredByAny}
-use Rattle.xdg_problem.specs.Paths.{AreSistersByAny, Above, AboveByFirst, AboveByLast}
+use Rattle.xdg_problem.specs.Paths.{edges_on, edges_into, edges_out_of, edges_joining, mothers, IsDaughter, IsDaughterBy, IsDaughterByAny, IsEnteredByAny, AreSistersByAny, Above, AboveByFirst, AboveByLast}
 use Rattle.xdg_problem.specs.Features.{in_row, out_row, set_row, map_row}
 use Rattle.xdg_problem.specs.Arguments.{first_dim, second_dim, attr_of, order_of, truth_of, attr_place}
 use Rattle.xdg_problem.specs.Vectors.{entries_at}

@@ -19,6 +19,7 @@ use Rattle.xdg_problem.specs.declared.forms.Key.{Key}
 use Rattle.xdg_problem.specs.declared.forms.Key.TheVariants as k
 use Rattle.xdg_problem.specs.declared.forms.Parameter.{Parameter}
 use Rattle.xdg_problem.specs.declared.forms.Form.{Form}
+use Rattle.xdg_facts.specs.Onward.{optional}
 
 -- ---- how names are spelled
 
@@ -115,10 +116,6 @@ form_of principle = form_of_several principle
 
 -- ---- what a form lists
 
-abbrev pub told : {A : Type 0} → Option A → List A
-told None = []
-told (Some x) = x ∷ []
-
 -- the arguments, in order
 abbrev pub parameters : Form → List Parameter
-parameters form = told form.first ++ (told form.second ++ told form.third)
+parameters form = optional form.first ++ (optional form.second ++ optional form.third)

@@ -8,8 +8,7 @@ use Rattle.xdg_problem.specs.Paths.{edges_on, IsDaughterBy, Above}
 use Rattle.xdg_problem.specs.Places.{nodes}
 use Rattle.xdg_problem.specs.Vectors.{entry_places}
 use Rattle.xdg_problem.specs.declared.formula.Formula.{Formula}
-use Rattle.xdg_problem.specs.Claims.{Claim, negation, conjunction, disjunction, every, some, joined, above, left, same, valued, fitting, Claims, none}
-use Rattle.xdg_problem.specs.Claims.{claim_then, claim}
+use Rattle.xdg_problem.specs.Claims.{Claim, negation, conjunction, disjunction, every, some, joined, above, left, same, valued, fitting, Claims, none, claim_then, claim}
 
 -- a name stands for a node, and each other name for what it stood for
 abbrev pub bound : (ℕ → ℕ) → ℕ → ℕ → ℕ → ℕ

@@ -17,7 +17,9 @@ pub struct SentenceWord {
 /// How a value of an attribute is printed: one constant, or those of a tuple.
 #[derive(Debug, Drop)]
 pub enum Shown {
+    /// One constant.
     One(Text),
+    /// Those of a tuple, in its order.
     Many(List<Text>),
 }
 

@@ -80,8 +80,8 @@ impl Problem {
     }
 
     /// Whether an analysis belongs to the sentence: each node has one of its candidates, each attribute of each node
-    /// one of its values, and the edges stand at their places, in their order. Such analyses and whole vectors of
-    /// decisions are one to one.
+    /// one of its values, and the edges stand at their places, in their order. No code calls it: it carries the law that
+    /// such analyses and whole vectors of decisions are one to one.
     pub fn fits(&self, analysis: &Analysis) -> bool
         ensures exact { IsTrue result ↔ IsAnalysis self.now analysis.now }
         ensures one_to_one { IsOneToOne self.now }
@@ -89,7 +89,8 @@ impl Problem {
         fitting::belongs(&self.parts, analysis)
     }
 
-    /// Whether an analysis comes before another: at the first decision in which they differ it has the earlier value.
+    /// Whether an analysis comes before another: at the first decision in which they differ it has the earlier value. It is for
+    /// the tests of crates above (`xdg_trials`).
     pub fn less(&self, a: &Analysis, b: &Analysis) -> bool
         requires a_fits { IsAnalysis self.now a.now }
         requires b_fits { IsAnalysis self.now b.now }

@@ -58,7 +58,7 @@ fn rules_turned(
 }
 
 /// Moves principle uses behind others, the last first.
-#[tactic(auto, using(crate::proofs::Turning::move_more, crate::proofs::Turning::move_end))]
+#[tactic(auto, using(xdg_facts::proofs::Turns::turn_more, xdg_facts::proofs::Turns::turn_end))]
 fn move_turned(uses: &mut List<Group>, groups: &mut List<Group>) -> Result<(), OutOfMemory>
     ensures { OnOk result (groups.new ≡ groups.old ++ reverse uses.old) }
 {

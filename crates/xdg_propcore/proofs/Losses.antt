@@ -6,7 +6,8 @@ use lib.Bits.{bit_and}
 use Rattle.std.proofs.lemmas.Bool.Decides.{eqb_tells}
 use Rattle.xdg_problem.specs.declared.parts.Parts.{Parts}
 use Rattle.xdg_problem.specs.Boxes.{LiesIn}
-use Rattle.xdg_propcore.specs.Flags.{IsOn, on_count}
+use Rattle.xdg_propcore.specs.Flags.{IsOn}
+use Rattle.xdg_facts.specs.Flags.{count_set}
 use Rattle.xdg_propcore.specs.Kinds.{kind_of}
 use Rattle.xdg_propcore.specs.Losses.{IsLost, Loses, row_lost, lost_from, wakers, woken_count}
 use Rattle.xdg_facts.proofs.Bits.{shared}
@@ -141,7 +142,7 @@ hits_within (wakes ∷ sets) lost parts old new fits loses =
     omega (arith, r, s, one)
 
 -- no more are awake than were and are woken
-pub woken_within : (sets : List ℕ) (lost : ℕ) (old new : List Bool) → length sets ≡ length old → length new ≡ length old → ((at : ℕ) → IsOn new at → (IsOn old at → ⊥) → bit_and (get_or sets at 0) lost ≢ 0) → on_count new ≤ on_count old + hits sets lost
+pub woken_within : (sets : List ℕ) (lost : ℕ) (old new : List Bool) → length sets ≡ length old → length new ≡ length old → ((at : ℕ) → IsOn new at → (IsOn old at → ⊥) → bit_and (get_or sets at 0) lost ≢ 0) → count_set new ≤ count_set old + hits sets lost
 woken_within sets lost old [] e l n = omega arith
 woken_within sets lost [] (y ∷ new) e l n = absurd (omega (arith, l))
 woken_within [] lost (x ∷ old) (y ∷ new) e l n = absurd (omega (arith, e))
@@ -149,7 +150,7 @@ woken_within (wakes ∷ sets) lost (x ∷ old) (y ∷ new) e l n =
     let r = woken_within sets lost old new (omega (arith, e)) (omega (arith, l)) (λ at h k. n (suc at) h k) in
     head x y (λ h k. n 0 h k) r
   where
-    head : (x y : Bool) → (y ≡ true → (x ≡ true → ⊥) → bit_and wakes lost ≢ 0) → on_count new ≤ on_count old + hits sets lost → on_count (y ∷ new) ≤ on_count (x ∷ old) + (hit (bit_and wakes lost) + hits sets lost)
+    head : (x y : Bool) → (y ≡ true → (x ≡ true → ⊥) → bit_and wakes lost ≢ 0) → count_set new ≤ count_set old + hits sets lost → count_set (y ∷ new) ≤ count_set (x ∷ old) + (hit (bit_and wakes lost) + hits sets lost)
     head true false k r = omega (arith, r)
     head false false k r = omega (arith, r)
     head true true k r = omega (arith, r)

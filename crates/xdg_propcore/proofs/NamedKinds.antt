@@ -11,8 +11,7 @@ use Rattle.xdg_problem.specs.declared.parts.Principle.{Principle}
 use Rattle.xdg_problem.specs.declared.parts.Principle.TheVariants as principles
 use Rattle.xdg_problem.specs.Arguments.{first_dim, second_dim, truth_of}
 use Rattle.xdg_problem.specs.Places.{edge}
-use Rattle.xdg_problem.specs.Tests.{Test, IsTestOf, entry_node, looks_first, looks_second, test_attrs}
-use Rattle.xdg_problem.specs.Tests.{out_count, no_cycle, ordered_daughters, ordered_yields, projective, allowed_value, agreeing, governed, climbing, not_blocked, can_link, linked, unlinked}
+use Rattle.xdg_problem.specs.Tests.{Test, IsTestOf, entry_node, looks_first, looks_second, test_attrs, out_count, no_cycle, ordered_daughters, ordered_yields, projective, allowed_value, agreeing, governed, climbing, not_blocked, can_link, linked, unlinked}
 use Rattle.xdg_problem.proofs.Looking.{sees_place}
 use Rattle.xdg_propcore.specs.Kinds.{IsNamed, entry_kind, attr_kind, edge_kind}
 use Rattle.xdg_propcore.specs.UseKinds.{IsKindFor, IsKindOf}

@@ -1,6 +1,5 @@
 -- The sample's principle use takes nothing exactly where the second value doesn't remain.
-use Rattle.std.proofs.Common.{◌≡◌, ℕ, zero, suc, ◌<◌, inl, inr, Bool, true, false, List, [], ◌∷◌, Contains, length, refl, ap, ap₂, get_or, ◌⊎◌, sym, arith}
-use Rattle.std.proofs.Common.{subst, lit<}
+use Rattle.std.proofs.Common.{◌≡◌, ℕ, zero, suc, ◌<◌, inl, inr, Bool, true, false, List, [], ◌∷◌, Contains, length, refl, ap, ap₂, get_or, ◌⊎◌, sym, arith, subst, lit<}
 use Rattle.xdg_problem.specs.declared.parts.Parts.{Parts}
 use Rattle.xdg_problem.specs.Boxes.{Has, IsBox, LiesIn}
 use Rattle.xdg_problem.specs.Features.{set_row}

@@ -10,7 +10,8 @@ use Rattle.xdg_problem.specs.Problems.{IsProblem}
 use Rattle.xdg_problem.specs.Vectors.{shape}
 use Rattle.xdg_store.specs.States.{State, Known}
 use Rattle.xdg_propcore.specs.Fixed.{IsClosedByAll, IsGreatest}
-use Rattle.xdg_propcore.specs.Flags.{IsOn, on_count}
+use Rattle.xdg_propcore.specs.Flags.{IsOn}
+use Rattle.xdg_facts.specs.Flags.{count_set}
 use Rattle.xdg_propcore.specs.Standing.{Held, SleepersStill, WereStill, box_at}
 use Rattle.xdg_propcore.specs.Kinds.{kind_of}
 use Rattle.xdg_propcore.specs.Losses.{Loses, LosesOutside, lost_count, woken_count, wakers}
@@ -24,14 +25,14 @@ use Rattle.xdg_facts.proofs.Bits.{none_shared}
 
 -- ---- flags
 
-pub one_less : (flags : List Bool) (at : ℕ) → IsOn flags at → on_count (set flags at false) + 1 ≡ on_count flags
+pub one_less : (flags : List Bool) (at : ℕ) → IsOn flags at → count_set (set flags at false) + 1 ≡ count_set flags
 one_less [] at h = cc
 one_less (true ∷ flags) zero h = omega arith
 one_less (false ∷ flags) zero h = cc
 one_less (true ∷ flags) (suc at) h = let e = one_less flags at h in omega (arith, e)
 one_less (false ∷ flags) (suc at) h = one_less flags at h
 
-pub on_within : (flags : List Bool) → on_count flags ≤ length flags
+pub on_within : (flags : List Bool) → count_set flags ≤ length flags
 on_within [] = omega arith
 on_within (true ∷ flags) = let e = on_within flags in omega (arith, e)
 on_within (false ∷ flags) = let e = on_within flags in omega (arith, e)
@@ -85,9 +86,9 @@ module _ {P : Type 0} (stands : P → Parts → ℕ → Type 0) (still : P → P
     pub lengths : length awake ≡ length props
     pub keeps : (box : List (List Bool)) → IsClosedByAll stands props old.parts box → LiesIn box old.now → LiesIn box now.now
     pub asleep : (at : ℕ) (d : P) → at < length props → (IsOn awake at → ⊥) → still (get_or props at d) old.parts now.now
-    pub paid : now.turns + (on_count awake + cost (map kinds props) old.parts now.now) ≤ old.turns + (first + cost (map kinds props) old.parts old.now)
+    pub paid : now.turns + (count_set awake + cost (map kinds props) old.parts now.now) ≤ old.turns + (first + cost (map kinds props) old.parts old.now)
 
-  pub running_start : (awake : List Bool) → Known old → length awake ≡ length props → SleepersStill still props awake old.parts old.now → on_count awake ≤ first → Running old awake
+  pub running_start : (awake : List Bool) → Known old → length awake ≡ length props → SleepersStill still props awake old.parts old.now → count_set awake ≤ first → Running old awake
   running_start awake known e asleep few = record {
     extends = extends_none old;
     known = known;
@@ -188,14 +189,14 @@ module _ {P : Type 0} (stands : P → Parts → ℕ → Type 0) (still : P → P
 
   -- ---- the measure
 
-  pub smaller_same : (s new : State) (awake next : List Bool) (at : ℕ) → IsOn awake at → next ≡ set awake at false → new.now ≡ s.now → on_count next + cost (map kinds props) old.parts new.now < on_count awake + cost (map kinds props) old.parts s.now
+  pub smaller_same : (s new : State) (awake next : List Bool) (at : ℕ) → IsOn awake at → next ≡ set awake at false → new.now ≡ s.now → count_set next + cost (map kinds props) old.parts new.now < count_set awake + cost (map kinds props) old.parts s.now
   smaller_same s new awake next at h is same =
       let w = one_less awake at h in
-      let n = ap on_count is in
+      let n = ap count_set is in
       let c = ap (cost (map kinds props) old.parts) same in
       omega (arith, w, n, c)
 
-  pub smaller_changed : (s new : State) (awake next : List Bool) (lost : ℕ) → Running s awake → Extends s new → lost < 2 ^ 64 → Loses s.parts lost s.now new.now → length next ≡ length awake → ((i : ℕ) → IsOn next i → (IsOn awake i → ⊥) → bit_and (get_or (map kinds props) i 0) lost ≢ 0) → on_count next + cost (map kinds props) old.parts new.now < on_count awake + cost (map kinds props) old.parts s.now
+  pub smaller_changed : (s new : State) (awake next : List Bool) (lost : ℕ) → Running s awake → Extends s new → lost < 2 ^ 64 → Loses s.parts lost s.now new.now → length next ≡ length awake → ((i : ℕ) → IsOn next i → (IsOn awake i → ⊥) → bit_and (get_or (map kinds props) i 0) lost ≢ 0) → count_set next + cost (map kinds props) old.parts new.now < count_set awake + cost (map kinds props) old.parts s.now
   smaller_changed s new awake next lost r e fits loses same_length only =
       let c = change_pays (map kinds props) lost old.parts s.now new.now fits e.inside (subst (λ q. Loses q lost s.now new.now) r.extends.same loses) in
       let w = woken_within (map kinds props) lost awake next (length-map props kinds ∙ sym r.lengths) same_length only in

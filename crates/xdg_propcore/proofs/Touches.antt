@@ -18,7 +18,8 @@ use Rattle.xdg_store.specs.Naming.{Names}
 use Rattle.xdg_store.specs.declared.decision.Decision.{Decision}
 use Rattle.xdg_store.specs.declared.decision.Decision.TheVariants as decisions
 use Rattle.xdg_store.proofs.Kept.{on_edge}
-use Rattle.xdg_propcore.specs.Touching.{HasTouched, InTable, IsSmall, Marks}
+use Rattle.xdg_propcore.specs.Touching.{HasTouched, IsSmall, Marks}
+use Rattle.xdg_nodeset.specs.Tables.{InTable}
 use Rattle.xdg_propcore.specs.declared.touched.Touched.{Touched}
 use Rattle.xdg_propcore.proofs.ByNumber.{by_attr, by_entry}
 use Rattle.xdg_facts.proofs.Truths.{or_here, either_true}

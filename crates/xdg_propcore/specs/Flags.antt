@@ -1,17 +1,11 @@
 -- Flags as bits of words.
-use Rattle.std.specs.Prelude.{◌≡◌, ℕ, ◌+◌, ◌*◌, ◌^◌, ◌<◌, ◌≤◌, Bool, true, false, List, [], ◌∷◌, length, map, slice_index_or}
+use Rattle.std.specs.Prelude.{◌≡◌, ℕ, ◌+◌, ◌*◌, ◌^◌, ◌<◌, ◌≤◌, Bool, true, false, List, length, map, slice_index_or}
 use Rattle.xdg_problem.specs.Places.{below}
 use Rattle.xdg_store.specs.Layout.{is_set}
 
 -- the flag at a place is set
 abbrev pub IsOn : List Bool → ℕ → Type 0
 IsOn flags place = slice_index_or flags place false ≡ true
-
--- how many flags are set
-abbrev pub on_count : List Bool → ℕ
-on_count [] = 0
-on_count (true ∷ flags) = 1 + on_count flags
-on_count (false ∷ flags) = on_count flags
 
 -- the first bits of the words as flags
 unfoldable pub flags_of : List ℕ → ℕ → List Bool

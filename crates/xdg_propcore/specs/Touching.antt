@@ -1,5 +1,5 @@
 -- Which nodes have lost values.
-use Rattle.std.specs.Prelude.{◌≡◌, ℕ, ◌<◌, true, Bool, List, [], length, slice_index_or}
+use Rattle.std.specs.Prelude.{◌≡◌, ℕ, ◌<◌, true, Bool, List, length}
 use Rattle.xdg_problem.specs.declared.analysis.Edge.{Edge}
 use Rattle.xdg_problem.specs.declared.parts.Parts.{Parts}
 use Rattle.xdg_problem.specs.Analyses.{IsPlace}
@@ -11,10 +11,7 @@ use Rattle.xdg_store.specs.declared.decision.Decision.TheVariants as decisions
 use Rattle.xdg_propcore.specs.Losses.{IsLost}
 use Rattle.xdg_propcore.specs.declared.touched.Touched.{Touched}
 use Rattle.xdg_facts.specs.Rises.{has}
-
--- a node is in the set that a table has at a place
-abbrev pub InTable : List (List ℕ) → ℕ → ℕ → Type 0
-InTable table place node = has (slice_index_or table place []) node ≡ true
+use Rattle.xdg_nodeset.specs.Tables.{InTable}
 
 -- the decision is one on nodes below 128 and labels below 32
 abbrev pub IsSmall : Decision → Type 0

@@ -4,7 +4,8 @@ ghost use Rattle.std.specs.Prelude.{◌≡◌, ◌≢◌, ℕ, ◌<◌, ◌≤�
 ghost use lib.Bits.{bit_and};
 ghost use Rattle.xdg_store.specs.States.{Known};
 ghost use Rattle.xdg_propcore.specs.Fixed.{AreStill, Settles};
-ghost use Rattle.xdg_propcore.specs.Flags.{IsOn, on_count};
+ghost use Rattle.xdg_propcore.specs.Flags.{IsOn};
+ghost use Rattle.xdg_facts.specs.Flags.{count_set};
 ghost use Rattle.xdg_propcore.specs.Losses.{lost_count, woken_count};
 ghost use Rattle.xdg_propcore.specs.Standing.{AreHeld, HeldIf, SleepersStill};
 ghost use Rattle.xdg_propcore.specs.Steps.{Extends, Keeps, Moves};
@@ -87,7 +88,7 @@ pub(crate) fn run<P: Propagator>(
     ensures still { AreStill result P.still props.now store.new }
     ensures turns { store.new.turns
         ≤ store.old.turns
-        + (on_count awake.old + (lost_count store.old.now store.new.now + woken_count store.old.parts (map P.kinds props.now) store.old.now store.new.now)) }
+        + (count_set awake.old + (lost_count store.old.now store.new.now + woken_count store.old.parts (map P.kinds props.now) store.old.now store.new.now)) }
     ensures known { Known store.new }
     ensures length { length awake.new ≡ length awake.old }
     ensures rest_count { length rests.new ≡ length rests.old }

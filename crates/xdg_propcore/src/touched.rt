@@ -4,7 +4,8 @@ ghost use Rattle.std.specs.Prelude.{◌≡◌, ℕ, ◌<◌, true, length};
 ghost use Rattle.xdg_facts.specs.Rises.{has};
 ghost use Rattle.xdg_store.specs.States.{Known};
 ghost use Rattle.xdg_propcore.specs.Standing.{box_at};
-ghost use Rattle.xdg_propcore.specs.Touching.{Grows, HasAll, HasTouched, InTable, IsSmall, Marks};
+ghost use Rattle.xdg_propcore.specs.Touching.{Grows, HasAll, HasTouched, IsSmall, Marks};
+ghost use Rattle.xdg_nodeset.specs.Tables.{InTable};
 
 use xdg_base::{DimId, LabelId, NodeId};
 use xdg_nodeset::NodeSet;

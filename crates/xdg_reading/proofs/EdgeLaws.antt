@@ -18,8 +18,7 @@ use Rattle.xdg_reading.specs.Fitted.{lead, or_at, may_join, follows, said_edge, 
 use Rattle.xdg_reading.specs.Fits.{SaysEdge, Follows, NextEdge, SayEdges, EdgeOffends, this_edge, later_edge}
 use Rattle.xdg_reading.specs.Names.{dim_number, label_number}
 use Rattle.xdg_reading.proofs.Turns.{precedes_is, precedes_from}
-use Rattle.xdg_facts.proofs.Options.{none_some, cond_found}
-use Rattle.xdg_facts.proofs.Options.{some_same}
+use Rattle.xdg_facts.proofs.Options.{none_some, cond_found, some_same}
 use Rattle.xdg_facts.specs.Onward.{onward}
 use Rattle.xdg_facts.proofs.Lists.{position_of}
 

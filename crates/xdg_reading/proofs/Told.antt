@@ -16,12 +16,9 @@ use Rattle.xdg_reading.specs.Fits.{SaysValue, SayValues, WordOffends, this_word,
 use Rattle.xdg_reading.specs.Names.{same_texts, same_shown, value_number}
 use Rattle.xdg_reading.specs.Slots.{Asked}
 use Rattle.xdg_facts.proofs.Options.{some_same, nothing_if}
-use Rattle.xdg_facts.proofs.Lists.{position_of}
+use Rattle.xdg_facts.proofs.Lists.{contains_more, position_of}
 
 -- entries
-contains_more : (c : EntryNo) (cs : List EntryNo) (e : EntryNo) → Contains cs e → Contains (c ∷ cs) e
-contains_more c cs e (k, within, is) = (suc k, omega (arith, within), is)
-
 pub entry_found : (cs : List EntryNo) (e : EntryNo) → has_entry cs e ≡ true → Contains cs e
 entry_found [] e has = cc
 entry_found (c ∷ cs) e has = elim (or_cases (c.0 == e.0) (has_entry cs e) has) [

@@ -1,6 +1,5 @@
--- How the lines of a text are judged one after the other: what they say, or the place of the first that offends.
-use Rattle.std.specs.Prelude.{◌≡◌, ℕ, ◌==◌, ◌&&◌, ◌||◌, not, nat_lt, Bool, true, cond, Option, Some, None, Result, Ok, Err, List, [], ◌∷◌}
-use Rattle.std.specs.Prelude.{bytes_eq, slice_index_or}
+-- How the lines of a text are judged one after the other, as the code goes: what they say, or the place of the first that offends.
+use Rattle.std.specs.Prelude.{◌≡◌, ℕ, ◌==◌, ◌&&◌, ◌||◌, not, nat_lt, Bool, true, cond, Option, Some, None, Result, Ok, Err, List, [], ◌∷◌, bytes_eq, slice_index_or}
 use Rattle.std.specs.List.{list_any}
 use Rattle.xdg_base.specs.declared.ids.EntryNo.{EntryNo}
 use Rattle.xdg_problem.specs.declared.analysis.Analysis.{Analysis}

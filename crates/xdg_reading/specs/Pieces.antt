@@ -1,7 +1,6 @@
 -- The pieces of a line, and how they are read: a value and the bytes after it, or nothing.
 use denote.Ref.{Bor}
-use Rattle.std.specs.Prelude.{◌≡◌, ℕ, zero, suc, length, ◌+◌, ◌*◌, ◌-◌, ◌==◌, ◌&&◌, min, nat_le, Bool, true, false, cond, not, Option, Some, None, Result, Ok}
-use Rattle.std.specs.Prelude.{Err, List, [], ◌∷◌, ◌++◌, decimal, bytes_eq}
+use Rattle.std.specs.Prelude.{◌≡◌, ℕ, zero, suc, length, ◌+◌, ◌*◌, ◌-◌, ◌==◌, ◌&&◌, min, nat_le, Bool, true, false, cond, not, Option, Some, None, Result, Ok, Err, List, [], ◌∷◌, ◌++◌, decimal, bytes_eq}
 use Rattle.std.specs.Bool.{MatchBool}
 use Rattle.std.specs.List.{list_all}
 use Rattle.xdg_problem.specs.declared.parts.Shown.{Shown}

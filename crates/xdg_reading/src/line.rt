@@ -31,7 +31,9 @@ pub enum Line {
     Counts(u64, u64, u64),
     /// A node, its word, which has the place of the line, and its entry.
     Word(NodeId, SentenceWord, EntryNo),
+    /// What a node has for an attribute.
     Attr(AttrLine),
+    /// An edge.
     Edge(EdgeLine),
     /// The last line.
     End,

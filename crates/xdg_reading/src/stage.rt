@@ -8,6 +8,7 @@ use crate::line::Line;
 /// How far a text has been read, of which the contracts speak.
 #[derive(Clone, Copy, Debug)]
 pub enum Stage {
+    /// Nothing has been read.
     Start,
     /// Behind the first line of text 2.
     Second,

@@ -1,6 +1,5 @@
 -- What is printed of verdicts.
-use Rattle.std.specs.Prelude.{ℕ, ◌+◌, ◌-◌, ◌==◌, ◌&&◌, Bool, true, false, cond, List, [], ◌∷◌, ◌++◌, length, nat_lt, slice_get, slice_index_or, Option, None}
-use Rattle.std.specs.Prelude.{Some, codes, decimal}
+use Rattle.std.specs.Prelude.{ℕ, ◌+◌, ◌-◌, ◌==◌, ◌&&◌, Bool, true, false, cond, List, [], ◌∷◌, ◌++◌, length, nat_lt, slice_get, slice_index_or, Option, None, Some, codes, decimal}
 use Rattle.std.specs.List.{flat_map}
 use Rattle.xdg_base.specs.declared.ids.DimId.{DimId}
 use Rattle.xdg_formula.specs.declared.tree.Rule.{Rule}

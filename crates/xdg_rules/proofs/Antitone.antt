@@ -18,8 +18,7 @@ use Rattle.xdg_problem.specs.Vectors.{shape}
 use Rattle.xdg_problem.proofs.AttrPlaces.{attr_within, attr_dim_within}
 use Rattle.xdg_problem.proofs.PlaceOrder.{is_place}
 use Rattle.xdg_problem.specs.Boxes.{Has, IsBox, LiesIn, entry_decision, edge_decision}
-use Rattle.xdg_rules.specs.Rules.{may_edges, must_edges, HasNoneWithin, ValencyEntry, OneMother, NoCycle, OneLabel, attr_of_node, AgrValues, AgreementValues, GovernmentValues, DaughterOrder, AboutHead, OfHead}
-use Rattle.xdg_rules.specs.Rules.{ProjectivityReach, ClimbingReach, BarriersReach, LinkingReach, LinkingNotDaughter, HasNoRoot, HasTwoRoots, TakesBy, TakesLinked}
+use Rattle.xdg_rules.specs.Rules.{may_edges, must_edges, HasNoneWithin, ValencyEntry, OneMother, NoCycle, OneLabel, attr_of_node, AgrValues, AgreementValues, GovernmentValues, DaughterOrder, AboutHead, OfHead, ProjectivityReach, ClimbingReach, BarriersReach, LinkingReach, LinkingNotDaughter, HasNoRoot, HasTwoRoots, TakesBy, TakesLinked}
 use Rattle.xdg_rules.proofs.Among.{Among, above_among, linked_among, roots_less, roots_length, is_root}
 use Rattle.xdg_facts.proofs.Keeping.{Less, filter_none, less_count}
 use Rattle.xdg_rules.proofs.Shrinking.{EdgesLie, may_be, must_be, among_may, among_must, barrier_within}

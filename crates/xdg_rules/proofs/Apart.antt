@@ -7,11 +7,11 @@ use Rattle.xdg_problem.specs.Paths.{Above}
 use Rattle.xdg_problem.specs.Places.{edge, nodes}
 use Rattle.xdg_problem.specs.Problems.{IsProblem}
 use Rattle.xdg_problem.specs.Vectors.{shape}
-use Rattle.xdg_facts.proofs.Decided.{Decided, decided_both, decided_equal, decided_less, decided_below, decided_either, decided_true, decided_not, decided_some_below}
+use Rattle.xdg_facts.proofs.Decided.{Decided, decided_both, decided_equal, decided_less, decided_below, decided_either, decided_true, decided_not, decided_some_below, decided_among}
 use Rattle.xdg_problem.proofs.DecidingPaths.{decided_above}
 use Rattle.xdg_rules.specs.Rules.{may_edges, must_edges}
 use Rattle.xdg_rules.proofs.Among.{Among, above_among}
-use Rattle.xdg_rules.proofs.DecidingBoxes.{decided_remaining, decided_among}
+use Rattle.xdg_rules.proofs.DecidingBoxes.{decided_remaining, decided_edges}
 use Rattle.xdg_rules.proofs.Shrinking.{may_of, must_is}
 use Rattle.xdg_rules.proofs.Sizes.{node_within}
 use Rattle.xdg_problem.specs.Claims.{Claim, negation, conjunction, disjunction, every, some, joined, above, left, same, valued, fitting, Claims, none, claim_then, IsOf, EachIsOf}
@@ -74,8 +74,8 @@ module _ (parts : Parts) (box : List (List Bool)) where
     decided_makes (every name c) false b = decided_some_below (λ node. Makes parts box c false (bound b name node)) (nodes parts) (λ node. decided_makes c false (bound b name node))
     decided_makes (some name c) true b = decided_some_below (λ node. Makes parts box c true (bound b name node)) (nodes parts) (λ node. decided_makes c true (bound b name node))
     decided_makes (some name c) false b = decided_below (λ node. Makes parts box c false (bound b name node)) (nodes parts) (λ node. decided_makes c false (bound b name node))
-    decided_makes (joined dim mother label daughter) true b = decided_among (must_edges parts box dim) (edge dim (b mother) label (b daughter))
-    decided_makes (joined dim mother label daughter) false b = decided_not (Contains (may_edges parts box dim) (edge dim (b mother) label (b daughter))) (decided_among (may_edges parts box dim) (edge dim (b mother) label (b daughter)))
+    decided_makes (joined dim mother label daughter) true b = decided_among decided_edges (must_edges parts box dim) (edge dim (b mother) label (b daughter))
+    decided_makes (joined dim mother label daughter) false b = decided_not (Contains (may_edges parts box dim) (edge dim (b mother) label (b daughter))) (decided_among decided_edges (may_edges parts box dim) (edge dim (b mother) label (b daughter)))
     decided_makes (above dim upper lower) true b = decided_above (must_edges parts box dim) (b upper) (b lower)
     decided_makes (above dim upper lower) false b = decided_not (Above (may_edges parts box dim) (b upper) (b lower)) (decided_above (may_edges parts box dim) (b upper) (b lower))
     decided_makes (left first second) truth b = decided_truth truth (b first < b second) (decided_less (b first) (b second))

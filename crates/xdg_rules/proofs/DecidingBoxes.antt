@@ -1,12 +1,10 @@
 -- What can be decided of the values that remain in a box, of its edges and of its entries.
-use Rattle.std.proofs.Common.{◌≡◌, ℕ, ◌<◌, ◌≤◌, inl, inr, Bool, true, false, List, [], ◌∷◌, length, refl, subst}
+use Rattle.std.proofs.Common.{◌≡◌, ℕ, ◌<◌, ◌≤◌, inl, inr, Bool, true, false, List, [], ◌∷◌, length, subst}
 use Rattle.std.specs.Prelude.{All, Contains, slice_index_or}
-use Rattle.std.specs.List.{Any}
 use Rattle.std.proofs.lemmas.Bool.{cases_Bool, both_ways}
 use Rattle.std.proofs.lemmas.List.Elements.{All-contains, All-contains_itself, All-weaker}
 use Rattle.xdg_problem.specs.declared.analysis.Edge.{Edge}
-use Rattle.xdg_facts.proofs.Decided.{Decided, decided_like, decided_both, decided_from, decided_equal, decided_most, decided_below, decided_all, decided_contains, decided_either, decided_true, decided_not, decided_any, decided_some_below, decided_as}
-use Rattle.xdg_facts.proofs.Contained.{contained, any_of}
+use Rattle.xdg_facts.proofs.Decided.{Decided, decided_like, decided_both, decided_from, decided_equal, decided_most, decided_below, decided_all, decided_contains, decided_either, decided_true, decided_not, decided_some_below, decided_as}
 use Rattle.xdg_problem.proofs.Edges.{same_edge_itself, same_edge_equal}
 use Rattle.xdg_problem.specs.Places.{same_edge}
 use Rattle.xdg_problem.specs.Boxes.{Has, IsOnly, entry_decision}
@@ -47,12 +45,6 @@ decided_edges a b = elim (cases_Bool (same_edge a b)) [
   | inl same ↦ inl (same_edge_equal a b same)
   | inr other ↦ inr (λ e. both_ways (same_edge a b) other (subst (λ x. same_edge a x ≡ true) e (same_edge_itself a)))
 ]
-
-pub decided_among : (edges : List Edge) (e : Edge) → Decided (Contains edges e)
-decided_among edges e = decided_like (Any (λ x. x ≡ e) edges) (Contains edges e)
-    (λ some. (let found = contained (λ x. x ≡ e) edges some in subst (Contains edges) found.2 found.1))
-    (λ c. any_of (λ x. x ≡ e) edges e c refl)
-    (decided_any (λ x. x ≡ e) edges (λ x. decided_edges x e))
 
 -- cardinalities
 

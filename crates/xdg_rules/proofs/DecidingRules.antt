@@ -14,18 +14,15 @@ use Rattle.xdg_problem.specs.Features.{in_row, out_row, set_row, map_row}
 use Rattle.xdg_problem.specs.Paths.{edges_into, edges_out_of, mothers, roots, Above}
 use Rattle.xdg_problem.specs.Places.{nodes, places}
 use Rattle.xdg_problem.specs.Truths.{unbound}
-use Rattle.xdg_facts.proofs.Decided.{Decided, decided_both, decided_equal, decided_less, decided_most, decided_contains, decided_either, decided_true, decided_not, triple_decided, decided_as, decided_lists, decided_some_below, decided_in}
+use Rattle.xdg_facts.proofs.Decided.{Decided, decided_both, decided_equal, decided_less, decided_most, decided_contains, decided_either, decided_true, decided_not, triple_decided, decided_as, decided_lists, decided_some_below, decided_in, decided_among}
 use Rattle.xdg_problem.proofs.DecidingAsks.{decided_between, decided_linked}
 use Rattle.xdg_problem.proofs.DecidingPaths.{starts, decided_above}
 use Rattle.xdg_problem.specs.Boxes.{entry_decision, edge_decision}
 use Rattle.xdg_problem.specs.Principles.{linking_of}
-use Rattle.xdg_rules.specs.Rules.{may_edges, must_edges, IsPlaceOn, SaysPresent, SaysAbsent, EachEntry, HasNoneWithin, ValencyEntry, ValencyFull, ValencyNeeded, OneMother, RootFound, OnlyMother, NoCycle, OneLabel, attr_of_node}
-use Rattle.xdg_rules.specs.Rules.{AgrValues, AgreementValues, GovernmentValues, DaughterOrder, HeadOffends, AboutHead, OfHead, ProjectivityReach, ClimbingReach, BarriersReach, LinkingReach, LinkingNotDaughter, TakesForRoot}
-use Rattle.xdg_rules.specs.Rules.{TakesBy, TakesLinked}
+use Rattle.xdg_rules.specs.Rules.{may_edges, must_edges, IsPlaceOn, SaysPresent, SaysAbsent, EachEntry, HasNoneWithin, ValencyEntry, ValencyFull, ValencyNeeded, OneMother, RootFound, OnlyMother, NoCycle, OneLabel, attr_of_node, AgrValues, AgreementValues, GovernmentValues, DaughterOrder, HeadOffends, AboutHead, OfHead, ProjectivityReach, ClimbingReach, BarriersReach, LinkingReach, LinkingNotDaughter, TakesForRoot, TakesBy, TakesLinked}
 use Rattle.xdg_rules.specs.Bounds.{edge_cost, least_cost, BoundPlace}
 use Rattle.xdg_rules.proofs.Apart.{decided_makes}
-use Rattle.xdg_rules.proofs.DecidingBoxes.{decided_has, decided_remaining, decided_some, decided_only, decided_each_entry, decided_edges, decided_among, decided_none_within, decided_greatest}
-use Rattle.xdg_rules.proofs.DecidingBoxes.{decided_least, decided_comes}
+use Rattle.xdg_rules.proofs.DecidingBoxes.{decided_has, decided_remaining, decided_some, decided_only, decided_each_entry, decided_edges, decided_none_within, decided_greatest, decided_least, decided_comes}
 
 -- some place of a dimension
 decided_placed : (parts : Parts) (dim : ℕ) (P : Edge → Type 0) → ((e : Edge) → Decided (P e)) → Decided ((e : Edge) × IsPlaceOn parts dim e × P e)
@@ -70,7 +67,7 @@ module _ (parts : Parts) (group : Group) (box : List (List Bool)) (d v : ℕ) wh
 
   valency_full : Decided (ValencyFull parts group box d v)
   valency_full = decided_as _ _
-      (placed one _ (λ e. decided_both _ _ (decided_not _ (decided_among (must one) e)) (decided_either _ _
+      (placed one _ (λ e. decided_both _ _ (decided_not _ (decided_among decided_edges (must one) e)) (decided_either _ _
       (decided_greatest box e.mother.0 (λ c. out_row group e.mother.0 c e.label.0) (edges_out_of (must one) e.mother.0 e.label.0))
       (decided_greatest box e.daughter.0 (λ c. in_row group e.daughter.0 c e.label.0) (edges_into (must one) e.daughter.0 e.label.0)))))
       (λ s. record { place = s.0; is = s.1; says = s.2.0; free = s.2.1.0; full = s.2.1.1 })
@@ -136,7 +133,7 @@ module _ (parts : Parts) (group : Group) (box : List (List Bool)) (d v : ℕ) wh
   agreement_values = decided_as _ _
       (decided_placed parts one _ (λ e. decided_both _ _ (named e e.mother.0) (decided_either _ _
       (decided_both _ _ (says_present e) (decided_remaining box (attr 0 e.mother.0) _ (λ x. decided_not _ (decided_has box (attr 1 e.daughter.0) x))))
-      (decided_both _ _ (decided_among (must one) e) (decided_either _ _
+      (decided_both _ _ (decided_among decided_edges (must one) e) (decided_either _ _
       (decided_both _ _ (decided_equal d (attr 0 e.mother.0)) (decided_not _ (decided_has box (attr 1 e.daughter.0) v)))
       (decided_both _ _ (decided_equal d (attr 1 e.daughter.0)) (decided_not _ (decided_has box (attr 0 e.mother.0) v))))))))
       (λ s. record { place = s.0; is = s.1; asks = s.2.0; lacks = s.2.1 })
@@ -150,7 +147,7 @@ module _ (parts : Parts) (group : Group) (box : List (List Bool)) (d v : ℕ) wh
   government_values = decided_as _ _
       (decided_placed parts one _ (λ e. decided_both _ _ (mapped e) (decided_either _ _
       (decided_both _ _ (says_present e) (decided_each_entry box e.mother.0 _ (λ c. decided_remaining box (attr 0 e.daughter.0) _ (λ x. decided_not _ (decided_contains (map_row group e.mother.0 c e.label.0) x)))))
-      (triple_decided _ _ _ (decided_among (must one) e) (decided_equal d (attr 0 e.daughter.0)) (decided_each_entry box e.mother.0 _ (λ c. decided_not _ (decided_contains (map_row group e.mother.0 c e.label.0) v)))))))
+      (triple_decided _ _ _ (decided_among decided_edges (must one) e) (decided_equal d (attr 0 e.daughter.0)) (decided_each_entry box e.mother.0 _ (λ c. decided_not _ (decided_contains (map_row group e.mother.0 c e.label.0) v)))))))
       (λ s. record { place = s.0; is = s.1; governs = s.2.0; lacks = s.2.1 })
       (λ r. (r.place, r.is, (r.governs, r.lacks)))
 
@@ -228,8 +225,8 @@ module _ (parts : Parts) (group : Group) (box : List (List Bool)) (d v : ℕ) wh
   linking_not_daughter = decided_as _ _
       (decided_placed parts one _ (λ e. decided_both _ _ (named e e.mother.0)
       (decided_placed parts two _ (λ o. decided_both _ _ (decided_equal e.mother.0 o.mother.0) (decided_both _ _ (decided_equal e.daughter.0 o.daughter.0) (decided_either _ _
-      (decided_both _ _ (says_present e) (decided_among (must two) o))
-      (decided_both _ _ (says_present o) (decided_among (must one) e))))))))
+      (decided_both _ _ (says_present e) (decided_among decided_edges (must two) o))
+      (decided_both _ _ (says_present o) (decided_among decided_edges (must one) e))))))))
       (λ s. record { place = s.0; is = s.1; other = s.2.1.0; other_is = s.2.1.1; mother = s.2.1.2.0; daughter = s.2.1.2.1.0; keeps = s.2.0; one = s.2.1.2.1.1 })
       (λ r. (r.place, r.is, (r.keeps, (r.other, r.other_is, (r.mother, (r.daughter, r.one))))))
 

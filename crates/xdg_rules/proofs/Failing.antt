@@ -1,10 +1,11 @@
 -- A test that is decided in a box and fails is decided in each box that has no more where it looks, and fails there.
 use Rattle.xdg_facts.proofs.Each.{map_alike}
 use Rattle.xdg_facts.proofs.Keeping.{filter_on}
+use Rattle.xdg_facts.proofs.Lists.{all_one}
 use Rattle.std.proofs.Common.{◌≡◌, ℕ, ◌+◌, ◌<◌, suc, inl, inr, Bool, true, false, ◌&&◌, List, [], ◌∷◌, length, refl, sym, ap, ◌∙◌, arith, rules, subst, Option, Some, None}
 use Rattle.std.specs.Prelude.{Contains, All, slice_index_or, ◌==◌}
 use Rattle.std.proofs.lemmas.Bool.{false≢true, cases_Bool, eqb-true, or_cases}
-use Rattle.std.proofs.lemmas.List.Elements.{All-nil, All-cons, All-weaker, All-contains, All-contains_itself}
+use Rattle.std.proofs.lemmas.List.Elements.{All-cons, All-weaker, All-contains, All-contains_itself}
 use Rattle.xdg_problem.specs.declared.analysis.Edge.{Edge}
 use Rattle.xdg_problem.specs.declared.parts.Group.{Group}
 use Rattle.xdg_problem.specs.declared.parts.Parts.{Parts}
@@ -71,14 +72,11 @@ module _ (parts : Parts) (group : Group) where
     abbrev AreAll : Test → Type 0
     AreAll test = All P (test_attrs parts group test)
 
-    one : (place : ℕ) → P place → All P (place ∷ [])
-    one place here = All-cons P place [] here (All-nil P)
-
     each_attrs : (p : Principle) → ((argument node : ℕ) → argument < attr_arguments p → node < nodes parts → P (attr_place parts (first_dim group) node (attr_of group argument))) → EachOf AreAll p
-    each_attrs principles.Order given = (λ e u a. one _ (given 0 u (omega arith) a), λ e u a. one _ (given 0 u (omega arith) a))
-    each_attrs principles.Agr given = λ v a. one _ (given 0 v (omega arith) a)
-    each_attrs principles.Agreement given = λ u a l b v c. All-cons P _ (attr_place parts (first_dim group) v (attr_of group 1) ∷ []) (given 0 u (omega arith) a) (one _ (given 1 v (omega arith) c))
-    each_attrs principles.Government given = λ u a l b v c. one _ (given 0 v (omega arith) c)
+    each_attrs principles.Order given = (λ e u a. all_one P _ (given 0 u (omega arith) a), λ e u a. all_one P _ (given 0 u (omega arith) a))
+    each_attrs principles.Agr given = λ v a. all_one P _ (given 0 v (omega arith) a)
+    each_attrs principles.Agreement given = λ u a l b v c. All-cons P _ (attr_place parts (first_dim group) v (attr_of group 1) ∷ []) (given 0 u (omega arith) a) (all_one P _ (given 1 v (omega arith) c))
+    each_attrs principles.Government given = λ u a l b v c. all_one P _ (given 0 v (omega arith) c)
     each_attrs p given = search rules
 
   test_within : IsGroup parts group → (test : Test) → IsTest parts group test → All (λ place. place < length (attr_sizes (nodes parts) parts.dims)) (test_attrs parts group test)

@@ -6,11 +6,10 @@ use Rattle.xdg_problem.specs.Boxes.{Has, IsBox, IsSingle, attr_decision, entry_d
 use Rattle.xdg_problem.specs.Places.{edge, nodes}
 use Rattle.xdg_problem.specs.Problems.{IsProblem}
 use Rattle.xdg_problem.specs.Vectors.{shape}
-use Rattle.xdg_facts.proofs.Decided.{Decided, decided_equal, decided_less, decided_true, each_or_some}
+use Rattle.xdg_facts.proofs.Decided.{Decided, decided_equal, decided_less, decided_true, each_or_some, decided_among}
 use Rattle.xdg_problem.proofs.DecidingPaths.{decided_above}
 use Rattle.xdg_rules.specs.Rules.{has, may_edges, must_edges}
 use Rattle.xdg_rules.proofs.Among.{Among, above_among}
-use Rattle.xdg_rules.proofs.DecidingBoxes.{decided_among}
 use Rattle.xdg_rules.proofs.Shrinking.{may_is, must_of}
 use Rattle.xdg_rules.proofs.Sizes.{node_within}
 use Rattle.xdg_problem.specs.Claims.{Claim, negation, conjunction, disjunction, every, some, joined, above, left, same, valued, fitting, Claims, none, claim_then, IsOf, EachIsOf}
@@ -18,6 +17,7 @@ use Rattle.xdg_problem.specs.Truths.{bound, says, HasTruth, AreNodes}
 use Rattle.xdg_rules.specs.Worths.{EachValue, Makes, MakesEach, MakesSome}
 use Rattle.xdg_problem.proofs.Bindings.{bound_nodes}
 use Rattle.xdg_rules.proofs.NodeValues.{attr_decided}
+use Rattle.xdg_rules.proofs.DecidingBoxes.{decided_edges}
 
 -- where one value of a decision remains, it makes true or false what is asked of it
 one_value_settles : (box : List (List Bool)) (d : ℕ) (P : ℕ → Type 0) → IsSingle box → ((v : ℕ) × Has box d v) → ((v : ℕ) → Decided (P v)) → EachValue box d (λ v. HasTruth true (P v)) ⊎ EachValue box d (λ v. HasTruth false (P v))
@@ -49,7 +49,7 @@ module _ (parts : Parts) (box : List (List Bool)) (problem : IsProblem parts) (i
           | inl all ↦ inr all
           | inr found ↦ inl found
         ]
-    settled (joined dim mother label daughter) b suits nodes_are = elim (decided_among (may_edges parts box dim) (edge dim (b mother) label (b daughter))) [
+    settled (joined dim mother label daughter) b suits nodes_are = elim (decided_among decided_edges (may_edges parts box dim) (edge dim (b mother) label (b daughter))) [
       | inl may ↦ inl (may_must dim (edge dim (b mother) label (b daughter)) may)
       | inr apart ↦ inr apart
     ]

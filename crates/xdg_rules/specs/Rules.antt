@@ -1,7 +1,6 @@
 -- Rules on boxes: which values a principle use takes away from a box. What they take stands in no analysis of the box that
 -- satisfies the principle use.
-use Rattle.std.specs.Prelude.{◌≡◌, ◌≢◌, ℕ, suc, ◌+◌, ◌<◌, ◌≤◌, ◌⊎◌, ◌&&◌, Bool, true, false, List, [], ◌∷◌, length, map, filter, Option, Some, None}
-use Rattle.std.specs.Prelude.{Contains, All, slice_index_or}
+use Rattle.std.specs.Prelude.{◌≡◌, ◌≢◌, ℕ, suc, ◌+◌, ◌<◌, ◌≤◌, ◌⊎◌, ◌&&◌, Bool, true, false, List, [], ◌∷◌, length, map, filter, Option, Some, None, Contains, All, slice_index_or}
 use Rattle.xdg_problem.specs.declared.analysis.Edge.{Edge}
 use Rattle.xdg_problem.specs.declared.parts.Group.{Group}
 use Rattle.xdg_problem.specs.declared.parts.Linking.{Linking}

@@ -6,8 +6,7 @@ use Rattle.xdg_problem.specs.Paths.{Above}
 use Rattle.xdg_problem.specs.Places.{edge, nodes}
 use Rattle.xdg_rules.specs.Remaining.{may_edges, must_edges, EachEntry}
 use Rattle.xdg_problem.specs.declared.formula.Formula.{Formula}
-use Rattle.xdg_problem.specs.Claims.{Claim, negation, conjunction, disjunction, every, some, joined, above, left, same, valued, fitting, Claims, none}
-use Rattle.xdg_problem.specs.Claims.{claim_then, claim}
+use Rattle.xdg_problem.specs.Claims.{Claim, negation, conjunction, disjunction, every, some, joined, above, left, same, valued, fitting, Claims, none, claim_then, claim}
 use Rattle.xdg_problem.specs.Truths.{bound, unbound, says, HasTruth}
 
 -- each value of a decision that remains

@@ -1,4 +1,4 @@
--- Answers on the way to their jobs.
+-- Answers on the way to their jobs, as the code keeps them: a slot each.
 use Rattle.std.specs.Prelude.{◌≡◌, List, Option, None, Some, slice_get}
 use Rattle.xdg_split.specs.Answers.{IsAnswer}
 use Rattle.xdg_split.specs.Asked.{Asked}

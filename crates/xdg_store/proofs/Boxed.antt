@@ -15,7 +15,8 @@ use Rattle.xdg_problem.specs.Places.{below, nodes, places}
 use Rattle.xdg_problem.specs.Problems.{AreCandidates, IsAttr, IsDim, IsProblem}
 use Rattle.xdg_problem.specs.Vectors.{attr_sizes, shape}
 use Rattle.xdg_problem.proofs.Ordered.{each_flat_map}
-use Rattle.xdg_store.specs.States.{values_in, remaining}
+use Rattle.xdg_store.specs.States.{remaining}
+use Rattle.xdg_facts.specs.Flags.{count_set}
 use Rattle.xdg_store.proofs.Counting.{Filled}
 use Rattle.xdg_problem.proofs.BoxWithout.{without_has}
 use Rattle.xdg_facts.proofs.Each.{each_append, each_map, each_of_all, each_weaker}
@@ -53,7 +54,7 @@ sizes_fit parts p = each_append IsSize (map length parts.candidates) (attr_sizes
 
 -- ---- the full box
 
-values_full : (size : ℕ) → values_in (replicate size true) ≡ size
+values_full : (size : ℕ) → count_set (replicate size true) ≡ size
 values_full zero = refl
 values_full (suc size) = let e = values_full size in omega (arith, e)
 

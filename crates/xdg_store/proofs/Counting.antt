@@ -1,7 +1,8 @@
 -- How many values remain in a box, and what that tells.
 use Rattle.std.proofs.Common.{◌≡◌, ℕ, ◌<◌, ◌≤◌, ◌+◌, Bool, true, false, List, [], ◌∷◌, length, get_or, set, arith, zero, suc, refl}
 use Rattle.xdg_problem.specs.Boxes.{Has, LiesIn, without}
-use Rattle.xdg_store.specs.States.{values_in, remaining}
+use Rattle.xdg_store.specs.States.{remaining}
+use Rattle.xdg_facts.specs.Flags.{count_set}
 
 -- each decision has a value
 abbrev pub Filled : List (List Bool) → Type 0
@@ -9,7 +10,7 @@ Filled box = (d : ℕ) → d < length box → (v : ℕ) × Has box d v
 
 -- ---- one value less
 
-values_taken : (row : List Bool) (v : ℕ) → get_or row v false ≡ true → values_in (set row v false) + 1 ≡ values_in row
+values_taken : (row : List Bool) (v : ℕ) → get_or row v false ≡ true → count_set (set row v false) + 1 ≡ count_set row
 values_taken [] v h = cc
 values_taken (true ∷ row) zero h = omega arith
 values_taken (false ∷ row) zero h = cc
@@ -23,7 +24,7 @@ remaining_taken (row ∷ box) (suc d) v h = let e = remaining_taken box d v h in
 
 -- ---- no more than another box
 
-values_inside : (new old : List Bool) → ((v : ℕ) → get_or new v false ≡ true → get_or old v false ≡ true) → values_in new ≤ values_in old
+values_inside : (new old : List Bool) → ((v : ℕ) → get_or new v false ≡ true → get_or old v false ≡ true) → count_set new ≤ count_set old
 values_inside [] old i = omega arith
 values_inside (true ∷ new) [] i = absurd (let q : false ≡ true = i 0 refl in cc)
 values_inside (false ∷ new) [] i = values_inside new [] (λ v h. i (suc v) h)
@@ -35,7 +36,7 @@ values_inside (false ∷ new) (false ∷ old) i = values_inside new old (λ v h.
 pub remaining_inside : (new old : List (List Bool)) → LiesIn new old → remaining new ≤ remaining old
 remaining_inside [] old i = omega arith
 remaining_inside (row ∷ new) [] i =
-    let a : values_in row ≤ 0 = values_inside row [] (λ v h. i 0 v h) in
+    let a : count_set row ≤ 0 = values_inside row [] (λ v h. i 0 v h) in
     let b : remaining new ≤ 0 = remaining_inside new [] (λ d v h. i (suc d) v h) in
     omega (arith, a, b)
 remaining_inside (row ∷ new) (other ∷ old) i =
@@ -45,7 +46,7 @@ remaining_inside (row ∷ new) (other ∷ old) i =
 
 -- ---- a whole box
 
-some_left : (row : List Bool) (v : ℕ) → get_or row v false ≡ true → 1 ≤ values_in row
+some_left : (row : List Bool) (v : ℕ) → get_or row v false ≡ true → 1 ≤ count_set row
 some_left [] v h = cc
 some_left (true ∷ row) v h = omega arith
 some_left (false ∷ row) zero h = cc

@@ -1,11 +1,10 @@
 -- What a store keeps of the labels of edges into daughters, over its calls.
-use Rattle.std.proofs.Common.{◌≡◌, ◌≢◌, ◌⊎◌, ℕ, ◌<◌, ◌≤◌, ◌+◌, ◌*◌, ◌/◌, ◌↔◌, inl, inr, Bool, true, false, List, length, get_or, set, drop, take, replicate, refl, ap, ap₂, sym, ◌∙◌, arith, subst, zero, suc}
+use Rattle.std.proofs.Common.{◌≡◌, ◌≢◌, ◌⊎◌, ℕ, ◌<◌, ◌≤◌, ◌+◌, ◌*◌, ◌/◌, ◌↔◌, inl, inr, Bool, true, false, List, length, get_or, set, drop, take, replicate, refl, ap, ap₂, sym, ◌∙◌, arith, subst}
 use Rattle.std.specs.Prelude.{IsTrue, slice_get}
 use Rattle.std.specs.Int.{bit_at}
 use Rattle.std.proofs.lemmas.Bool.{cases_eq, cases_lt, false≢true}
 use Rattle.std.proofs.lemmas.List.{get_or_default, get_or-drop, get_or-take, get_or_past, length-drop, length-replicate, length-take-le}
 use Rattle.std.proofs.lemmas.Nat.{div_below, div-mul-add, row_fits}
-use Rattle.std.proofs.lemmas.Nat.Bits.{bit_at-zero}
 use Rattle.std.proofs.lemmas.Option.{slice_get-get_or}
 use Rattle.xdg_problem.specs.declared.analysis.Edge.{Edge}
 use Rattle.xdg_problem.specs.declared.parts.DimPlan.{DimPlan}
@@ -31,7 +30,8 @@ use Rattle.xdg_store.proofs.Kept.{full_at, may_says, must_says, place_has}
 use Rattle.xdg_store.proofs.Labelled.{labelled_like, relabels_row, renews_row, side_stays, was_row}
 use Rattle.xdg_store.proofs.Renewed.{daughter_is, others_stay}
 use Rattle.xdg_facts.proofs.Lists.{one_set}
-use Rattle.xdg_facts.proofs.Numbers.{row_and_column}
+use Rattle.xdg_facts.proofs.Numbers.{row_and_column, some_after}
+use Rattle.xdg_facts.proofs.Bits.{no_bit}
 
 -- ---- after an edge was made anew
 
@@ -164,19 +164,15 @@ module _ (n : ℕ) (e : Edge) (rows : List Mothers) (into : List LabelsInto) (ro
 
 -- ---- at the start
 
-positive : (n d l : ℕ) → l < d * n → 0 < n
-positive zero d l m = absurd (let e : d * 0 ≡ 0 = grind arith in omega (arith, m, e))
-positive (suc n) d l m = omega arith
-
 -- one daughter more
 pub first_more : (n : ℕ) (dims : List DimPlan) (old into : List LabelsInto) (k : ℕ) (plan : DimPlan) (labels : LabelsInto) → length old ≡ length dims * n → length into ≡ length old → k < length old → plan ≡ get_or dims (k / n) plan → AreFirst n plan labels → ((i : ℕ) → i < k → AreFirst n (get_or dims (i / n) no_plan) (at_place into i)) → (length (set into k labels) ≡ length old) × ((i : ℕ) → i < k + 1 → AreFirst n (get_or dims (i / n) no_plan) (at_place (set into k labels) i))
 first_more n dims old into k plan labels count same l plan_is here before =
-    let there : k / n < length dims = div_below k n (length dims) (positive n (length dims) k (omega (arith, l, count))) (omega (arith, l, count)) in
+    let there : k / n < length dims = div_below k n (length dims) (some_after (length dims) n k (omega (arith, l, count))) (omega (arith, l, count)) in
     one_set (λ i. AreFirst n (get_or dims (i / n) no_plan)) into k labels no_labels same l (subst (λ q. AreFirst n q labels) (plan_is ∙ get_or_default dims (k / n) plan no_plan there) here) before
 
 -- the code's room for them
 pub some_nodes : (rows : List Mothers) (row : Mothers) (d n : ℕ) → rows ≡ replicate (d * n * 32) row → 0 < length rows → 0 < n
-some_nodes rows row d n is l = positive n d 0 (let e = ap length is ∙ length-replicate (d * n * 32) row in omega (arith, l, e))
+some_nodes rows row d n is l = some_after d n 0 (let e = ap length is ∙ length-replicate (d * n * 32) row in omega (arith, l, e))
 
 module _ (parts : Parts) (p : IsProblem parts) (rows : List Mothers) (full : AreFull rows (nodes parts)) (long : row_count parts ≤ length rows) (into : List LabelsInto) (n : ℕ) (n_is : n ≡ nodes parts) (dims : List DimPlan) (dims_are : dims ≡ parts.dims) (first : (k : ℕ) → k < length into → AreFirst n (get_or dims (k / n) no_plan) (at_place into k)) (count : length parts.dims * nodes parts ≤ length into) where
   module _ (dim daughter label : ℕ) (d : dim < length parts.dims) (within : daughter < nodes parts) where
@@ -255,13 +251,10 @@ module _ (parts : Parts) (p : IsProblem parts) (rows : List Mothers) (full : Are
     none_must : (m : ℕ) → LeadsInto parts (InRows in_must (nodes parts) rows) dim daughter label m → ⊥
     none_must m (is, h) = false≢true (sym (ap (λ z. has z m) (row_full (has_edges m is)).must) ∙ h)
 
-    no_bit : (word : ℕ) → word ≡ 0 → bit_at word label ≡ 1 → ⊥
-    no_bit word e h = (let z = ap (λ w. bit_at w label) e ∙ bit_at-zero label in omega (arith, z, h))
-
     pub must_first : IsLabelled (LeadsInto parts (InRows in_must (nodes parts) rows) dim daughter label) (at_place into place).must label
     must_first = record {
-      some = (λ h. absurd (no_bit (at_place into place).must.some here.must_some h), λ (m, x). absurd (none_must m x));
-      more = (λ h. absurd (no_bit (at_place into place).must.more here.must_more h), λ (m, k, apart, x, y). absurd (none_must m x));
+      some = (λ h. absurd (no_bit (at_place into place).must.some label here.must_some h), λ (m, x). absurd (none_must m x));
+      more = (λ h. absurd (no_bit (at_place into place).must.more label here.must_more h), λ (m, k, apart, x, y). absurd (none_must m x));
     }
 
   only : (has_mother : List Mothers → ℕ → ℕ → Bool) → ((place m : ℕ) → length rows ≤ place → has_mother rows place m ≡ false) → ((place m : ℕ) → place < length rows → IsTrue (has_mother rows place m) → (m < nodes parts) × (m ≢ daughter_at (nodes parts) place)) → OnlyOthers has_mother (nodes parts) rows

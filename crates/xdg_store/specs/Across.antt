@@ -1,4 +1,4 @@
--- Edges by their daughters.
+-- Edges by their daughters: the rows of words in which the code keeps them, and what they mean.
 use Rattle.std.specs.Prelude.{◌≡◌, ◌≢◌, ◌⊎◌, ◌↔◌, ℕ, ◌<◌, ◌≤◌, ◌+◌, ◌*◌, ◌/◌, ◌%◌, Bool, true, false, not, IsTrue, List, [], length, slice_index_or, Contains}
 use Rattle.xdg_problem.specs.declared.analysis.Edge.{Edge}
 use Rattle.xdg_problem.specs.declared.parts.Parts.{Parts}

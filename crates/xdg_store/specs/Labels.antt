@@ -1,4 +1,4 @@
--- The labels of edges into daughters.
+-- The labels of edges into daughters: the masks by which the code keeps them, and what they mean.
 use Rattle.std.specs.Prelude.{◌≡◌, ◌≢◌, ◌⊎◌, ◌↔◌, ℕ, ◌<◌, ◌≤◌, ◌+◌, ◌*◌, Bool, true, IsTrue, List, length, slice_index_or}
 use Rattle.std.specs.Int.{bit_at}
 use Rattle.xdg_facts.specs.Rises.{has}

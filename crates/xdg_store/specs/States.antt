@@ -1,11 +1,12 @@
 -- What a store is seen as.
-use Rattle.std.specs.Prelude.{◌≡◌, ℕ, ◌<◌, ◌≤◌, ◌+◌, ◌-◌, ◌*◌, Bool, true, false, List, [], ◌∷◌, ◌++◌, length, sum, slice_index_or}
+use Rattle.std.specs.Prelude.{◌≡◌, ℕ, ◌<◌, ◌≤◌, ◌+◌, ◌-◌, ◌*◌, Bool, List, [], ◌∷◌, ◌++◌, length, sum, slice_index_or}
 use Rattle.xdg_problem.specs.declared.parts.Parts.{Parts}
 use Rattle.xdg_problem.specs.Boxes.{IsBox}
 use Rattle.xdg_problem.specs.Problems.{IsProblem}
 use Rattle.xdg_problem.specs.Vectors.{shape}
 use Rattle.xdg_trail.specs.Trailed.{Trailed, past}
 use Rattle.xdg_store.specs.Layout.{bit_count, bits_of, box_in}
+use Rattle.xdg_facts.specs.Flags.{count_set}
 
 -- the parts of the problem, the present box, all boxes up to it, the oldest first, and the number of turns
 pub record State : Type 0 where
@@ -21,16 +22,10 @@ pub record Known (s : State) : Type 0 where
   pub some : 0 < length s.history
   pub last : slice_index_or s.history (length s.history - 1) [] ≡ s.now
 
--- how many values of a decision remain
-abbrev pub values_in : List Bool → ℕ
-values_in [] = 0
-values_in (true ∷ row) = 1 + values_in row
-values_in (false ∷ row) = values_in row
-
 -- how many values remain
 abbrev pub remaining : List (List Bool) → ℕ
 remaining [] = 0
-remaining (row ∷ box) = values_in row + remaining box
+remaining (row ∷ box) = count_set row + remaining box
 
 -- the boxes of the words that stood, the oldest first; the words come newest first
 abbrev pub oldest : List (List ℕ) → List (List ℕ) → List (List (List Bool))

@@ -1,7 +1,6 @@
 -- Runs of edges that are absent: places that follow one another in a row in which no edge may be.
-use Rattle.std.proofs.Common.{◌≡◌, ℕ, zero, suc, ◌<◌, ◌≤◌, ◌+◌, ◌-◌, ◌⊎◌, inl, inr, Bool, List, [], ◌∷◌, ◌++◌, AllPairs, length, get_or, replicate, refl, ap, sym, ◌∙◌, arith, subst, length-append}
-use Rattle.std.specs.Prelude.{IsTrue}
-use Rattle.std.proofs.lemmas.Bool.{cases_eq, false≢true}
+use Rattle.std.proofs.Common.{◌≡◌, ℕ, zero, suc, ◌<◌, ◌≤◌, ◌+◌, ◌-◌, ◌⊎◌, inl, inr, Bool, List, ◌++◌, AllPairs, length, get_or, replicate, refl, ap, sym, ◌∙◌, arith, subst, length-append}
+use Rattle.std.proofs.lemmas.Bool.{cases_eq}
 use Rattle.std.proofs.lemmas.List.{length-replicate}
 use Rattle.xdg_problem.specs.declared.analysis.Edge.{Edge}
 use Rattle.xdg_problem.specs.declared.parts.Parts.{Parts}
@@ -15,7 +14,6 @@ use Rattle.xdg_stream.specs.declared.row.Row.{Row}
 use Rattle.xdg_stream.proofs.Finding.{adds_both}
 use Rattle.xdg_stream.proofs.Named.{place_decision, place_there}
 use Rattle.xdg_stream.proofs.Reading.{says_alone}
-use Rattle.xdg_facts.specs.Rises.{has}
 use Rattle.xdg_facts.proofs.Lists.{each_mark}
 
 -- ---- what stands between two edges of a row is in it

@@ -7,13 +7,12 @@ use Rattle.xdg_problem.specs.declared.parts.Parts.{Parts}
 use Rattle.xdg_problem.specs.Boxes.{Has, IsBox, IsOnly, LiesIn, Agrees, full}
 use Rattle.xdg_problem.specs.Vectors.{shape}
 use Rattle.xdg_propcore.specs.Fixed.{IsClosedByAll, IsGreatest}
-use Rattle.xdg_propcore.specs.Uses.{IsClosedBy, no_use}
+use Rattle.xdg_propcore.specs.Uses.{IsClosedBy, no_use, AllStandIn}
 use Rattle.xdg_rules.specs.Boxed.{Boxed}
 use Rattle.xdg_rules.specs.Rules.{IsClosed, IsClosedFor}
 use Rattle.xdg_rules.proofs.Agreeing.{agrees_at, agrees_front}
 use Rattle.xdg_rules.proofs.Sizes.{within_sizes}
 use Rattle.xdg_store.proofs.Boxed.{length_box}
-use Rattle.xdg_propcore.specs.Uses.{AllStandIn}
 use Rattle.xdg_stream.specs.Levels.{IsLevel, IsRestricted}
 use Rattle.xdg_facts.proofs.Lists.{last_at, all_true, front_of, within_of}
 

@@ -1,4 +1,4 @@
--- The other values of a decision.
+-- The other values of a decision, as the code takes them: 64 at a time.
 use Rattle.std.specs.Prelude.{◌≢◌, ℕ, ◌<◌, ◌≤◌, ◌+◌, ◌*◌}
 
 -- of the 64 values from that numbered block * 64 on, one that isn't v

@@ -26,7 +26,8 @@ use Rattle.xdg_domain.specs.Shapes.{Shape, domain, tuple, truth, integer, text, 
 use Rattle.xdg_names.specs.First.{Tells, first}
 use Rattle.xdg_names.proofs.Listing.{lists_unknown, lists_known, lists_tell}
 use Rattle.xdg_terms.specs.Forms.{Term, Card, Look, all_of, bracketed_elem, braces_in, generator_in, constant_of, number_of, card_of, generator_of, bracket_of, constants_of, brackets_of, counts_of, pairs_of}
-use Rattle.xdg_terms.specs.Offences.{has_form, has_set_form, asked_in_set, is_some, one_told, all_told, Asked, asked_in, asked_in_turn, asked, keys, field_keys, known_fields, cards, keys_of, gen_names, IsWrongKind, IsNotMember, IsOutOfRange, CardOffends, OffendsHere, OfSeen, OffendsIn, OffendsUnder, OffendsBy}
+use Rattle.xdg_terms.specs.Offences.{has_form, has_set_form, asked_in_set, is_some, all_told, Asked, asked_in, asked_in_turn, asked, keys, field_keys, known_fields, cards, keys_of, gen_names, IsWrongKind, IsNotMember, IsOutOfRange, CardOffends, OffendsHere, OfSeen, OffendsIn, OffendsUnder, OffendsBy}
+use Rattle.xdg_facts.specs.Onward.{optional}
 use Rattle.xdg_terms.specs.Faults as spec
 use Rattle.xdg_terms.proofs.Right.{HoldsNone}
 use Rattle.xdg_facts.proofs.Texts.{same_text, is_same}
@@ -136,7 +137,7 @@ nothing_asked (texts ∷ all) = refl
 in_one : (texts : List (List ℕ)) (names : List Name) → spec.all_missing causes.NotMember texts names ≡ asked_faults (asked_in texts names)
 in_one texts names = sym (flat_map-map (λ (one : Asked). spec.missing causes.NotMember one.0 one.1) (λ (name : Name). (texts, name)) names)
 
-constant_by : (texts : List (List ℕ)) (t : Term) (o : Option Name) → spec.formed o (spec.missing causes.NotMember texts) t ≡ rows (is_some o) t (asked_in texts (one_told o)) [] [] [] []
+constant_by : (texts : List (List ℕ)) (t : Term) (o : Option Name) → spec.formed o (spec.missing causes.NotMember texts) t ≡ rows (is_some o) t (asked_in texts (optional o)) [] [] [] []
 constant_by texts t None = refl
 constant_by texts t (Some name) = sym (append-nil (spec.missing causes.NotMember texts name ++ []) ∙ append-nil (spec.missing causes.NotMember texts name))
 
@@ -148,7 +149,7 @@ anything_by : {A : Type 0} (t : Term) (o : Option A) → spec.formed o (λ x. []
 anything_by t None = refl
 anything_by t (Some x) = refl
 
-card_by : (t : Term) (o : Option Card) → spec.formed o spec.card_faults t ≡ rows (is_some o) t [] [] [] [] (one_told o)
+card_by : (t : Term) (o : Option Card) → spec.formed o spec.card_faults t ≡ rows (is_some o) t [] [] [] [] (optional o)
 card_by t None = refl
 card_by t (Some written) = sym (append-nil (spec.card_faults written))
 
@@ -158,7 +159,7 @@ constants_by texts t (Some names) = in_one texts names ∙ sym (append-nil (aske
 
 -- sets of tuples, by the layer of the term
 abbrev asked_of_tuples : Shapes → Option (List (List Name)) → Option (Spanned GenKind) → List Asked
-asked_of_tuples ss rows gen = flat_map (asked_in_turn (d.constants_of ss)) (all_told rows) ++ flat_map (λ (one : Spanned GenKind). asked_in (in_a_row (d.constants_of ss)) (gen_names one.kind)) (one_told gen)
+asked_of_tuples ss rows gen = flat_map (asked_in_turn (d.constants_of ss)) (all_told rows) ++ flat_map (λ (one : Spanned GenKind). asked_in (in_a_row (d.constants_of ss)) (gen_names one.kind)) (optional gen)
 
 all_in_turn : (all : List (List (List ℕ))) (lines : List (List Name)) → flat_map (spec.missing_in_turn all) lines ≡ asked_faults (flat_map (asked_in_turn all) lines)
 all_in_turn all [] = refl

@@ -14,7 +14,8 @@ use Rattle.xdg_domain.specs.Shapes.{Shape, domain, tuple, Shapes, sizes, product
 use Rattle.xdg_domain.specs.Values.{AllBelow}
 use Rattle.xdg_terms.specs.Forms.{Term, Gen, all_of, plain_elem, bracketed_elem, keyed_elem, counted_elem, braces_in, generator_in, brackets_of, generator_of, counts_of, pairs_of}
 use Rattle.xdg_terms.specs.Forms as forms
-use Rattle.xdg_terms.specs.Offences.{is_some, one_told, all_told, gen_names, asked_in, asked_in_turn, asked_in_set, has_set_form}
+use Rattle.xdg_terms.specs.Offences.{is_some, all_told, gen_names, asked_in, asked_in_turn, asked_in_set, has_set_form}
+use Rattle.xdg_facts.specs.Onward.{optional}
 use Rattle.xdg_terms.specs.Means.{fulfils, tuple_texts, IsSetOf}
 use Rattle.xdg_terms.specs.Built.{listed, generated, set_in, set_of, elems_of}
 use Rattle.xdg_terms.proofs.SameMembers.{as_set_has, as_set_rises}
@@ -64,7 +65,7 @@ generated_rises ss gen = numbers_increase (product (sizes ss)) (λ m. fulfils (t
 
 tuple_set_in : (ss : Shapes) (k : TermKind-F ElemKind TermKind) → IsTuple ss → (is_some (braces_in (bracketed_elem (length (sizes ss))) k) || is_some (generator_in k)) ≡ true
     → ((texts : List (List ℕ)) (name : Name) → In (flat_map (asked_in_turn (constants_of ss)) (all_told (braces_in (bracketed_elem (length (sizes ss))) k))
-    ++ flat_map (λ gen. asked_in (in_a_row (constants_of ss)) (gen_names gen.kind)) (one_told (generator_in k))) (texts, name) → Stands texts name)
+    ++ flat_map (λ gen. asked_in (in_a_row (constants_of ss)) (gen_names gen.kind)) (optional (generator_in k))) (texts, name) → Stands texts name)
     → IsStrictlyIncreasing (set_in (tuple ss) k) × ((n : ℕ) → (has (set_in (tuple ss) k) n ≡ true) ↔ ((n < product (sizes ss)) × Named ss k n))
 tuple_set_in ss (TermKind-F.Braces elems) type formed stand =
     let form = bracketed_elem (length (sizes ss)) in

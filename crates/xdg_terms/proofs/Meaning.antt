@@ -16,7 +16,8 @@ use Rattle.xdg_domain.specs.declared.values.Value.TheVariants as v
 use Rattle.xdg_domain.specs.declared.values.Value.TheOpen.{Value-F}
 use Rattle.xdg_domain.proofs.DefaultLaws.{each_wider}
 use Rattle.xdg_terms.specs.Forms.{Term, Card, Bindings, bound, constant_of, number_of, card_of, bracket_of, counts_of, pairs_of, counted_elem, keyed_elem}
-use Rattle.xdg_terms.specs.Offences.{one_told, all_told, asked_in, asked_in_turn, Offends, OffendsField}
+use Rattle.xdg_terms.specs.Offences.{all_told, asked_in, asked_in_turn, Offends, OffendsField}
+use Rattle.xdg_facts.specs.Onward.{optional}
 use Rattle.xdg_terms.specs.Means.{IsAt, truth_text, AllowedBy, written_for, Said, MeansIn, MeansField, Means}
 use Rattle.xdg_terms.specs.Answers.{IsRight}
 use Rattle.xdg_terms.specs.Fitting.{FitsIn, FitsField, Fits}
@@ -43,7 +44,7 @@ as_out bs s t w x e g = subst (GoodIn bs s t) (sym e) g
 domain_good : (bs : Bindings) (cs : List (List ℕ)) (t : Term) → RightHere (domain cs) t → GoodIn bs (domain cs) t (Value-F.Const (number_named cs (constant_of t)))
 domain_good bs cs t h =
     let r = told (constant_of t) (formed (domain cs) t h) in
-    let s = stands (domain cs) t cs r.0 h (subst (λ o. In (asked_in cs (one_told o)) (cs, r.0)) (sym r.1) (inl refl)) in
+    let s = stands (domain cs) t cs r.0 h (subst (λ o. In (asked_in cs (optional o)) (cs, r.0)) (sym r.1) (inl refl)) in
     let e : number_named cs (constant_of t) ≡ s.0 = ap (number_named cs) r.1 ∙ ap (λ o. unwrap_or o 0) s.1 in
     let p : IsAt cs (number_named cs (constant_of t)) (r.0).text = subst (λ n. IsAt cs n (r.0).text) (sym e) (place_of-Some cs (r.0).text s.0 s.1) in
     ((r.0, (r.1, p)), λ _. p.0)
@@ -65,7 +66,7 @@ truth_good : (bs : Bindings) (t : Term) → RightHere truth t → GoodIn bs trut
 truth_good bs t h =
     let texts = codes "true" ∷ codes "false" ∷ [] in
     let r = told (constant_of t) (formed truth t h) in
-    let s = stands truth t texts r.0 h (subst (λ o. In (asked_in texts (one_told o)) (texts, r.0)) (sym r.1) (inl refl)) in
+    let s = stands truth t texts r.0 h (subst (λ o. In (asked_in texts (optional o)) (texts, r.0)) (sym r.1) (inl refl)) in
     let p = place_of-Some texts (r.0).text s.0 s.1 in
     let e : bytes_eq (r.0).text (codes "true") ≡ bytes_eq (text_named (constant_of t)) (codes "true") = sym (ap (λ o. bytes_eq (text_named o) (codes "true")) r.1) in
     ((r.0, (r.1, truth_told (r.0).text (bytes_eq (text_named (constant_of t)) (codes "true")) e (among_at texts s.0 (r.0).text p.0 p.1))), λ _. tt)
@@ -79,7 +80,7 @@ text_good bs t h = let r = told (constant_of t) (formed text t h) in ((r.0, (r.1
 card_good : (bs : Bindings) (t : Term) → RightHere card t → GoodIn bs card t (Value-F.Card (numbers_of_card (card_of t)))
 card_good bs t h =
     let r = told (card_of t) (formed card t h) in
-    let a : AllowedBy r.0 (numbers_of_card (card_of t)) = subst (AllowedBy r.0) (sym (ap numbers_of_card r.1)) (allowed r.0 (card_right card t r.0 h (subst (λ o. In (one_told o) r.0) (sym r.1) (inl refl)))) in
+    let a : AllowedBy r.0 (numbers_of_card (card_of t)) = subst (AllowedBy r.0) (sym (ap numbers_of_card r.1)) (allowed r.0 (card_right card t r.0 h (subst (λ o. In (optional o) r.0) (sym r.1) (inl refl)))) in
     ((r.0, (r.1, a)), λ _. a.0)
 
 set_good : (bs : Bindings) (s : Shape) (t : Term) → IsSmall s → RightHere (set s) t → GoodIn bs (set s) t (Value-F.Set (set_of s t))

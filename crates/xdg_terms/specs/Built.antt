@@ -1,4 +1,4 @@
--- The value of a term, as a function of it. Of a term with an offence it is some value.
+-- The value of a term, as the code makes it. Of a term with an offence it is some value.
 use Rattle.std.specs.Prelude.{ℕ, ◌+◌, true, List, [], ◌∷◌, ◌++◌, map, Option, Some, None, if◌then◌else◌, unwrap_or, bytes_eq, codes}
 use Rattle.xdg_ast.specs.declared.names.Name.{Name}
 use Rattle.xdg_ast.specs.declared.names.Spanned.{Spanned}
@@ -9,8 +9,7 @@ use Rattle.xdg_ast.specs.declared.terms.ElemKind.TheOpen.{TermKind-F, ElemKind-F
 use Rattle.xdg_domain.specs.Cards.{cards}
 use Rattle.xdg_domain.specs.Joined.{above}
 use Rattle.xdg_domain.specs.Shapes as d
-use Rattle.xdg_domain.specs.Shapes.{Shape, domain, tuple, truth, integer, text, set, iset, card, valency, mapping, fields, Shapes, Fields, no_field, field_then}
-use Rattle.xdg_domain.specs.Shapes.{sizes}
+use Rattle.xdg_domain.specs.Shapes.{Shape, domain, tuple, truth, integer, text, set, iset, card, valency, mapping, fields, Shapes, Fields, no_field, field_then, sizes}
 use Rattle.xdg_domain.specs.Tuples.{index, places}
 use Rattle.xdg_domain.specs.declared.types.Ty.{Ty}
 use Rattle.xdg_domain.specs.declared.values.Value.{Value}

@@ -12,11 +12,10 @@ use Rattle.xdg_ast.specs.declared.terms.GenKind.{GenKind}
 use Rattle.xdg_ast.specs.declared.terms.GenKind.TheOpen.{GenKind-F}
 use Rattle.xdg_ast.specs.declared.terms.GenKind.TheFolds.{fold-GenKind}
 use Rattle.xdg_domain.specs.Shapes as d
-use Rattle.xdg_domain.specs.Shapes.{Shape, domain, tuple, truth, integer, text, set, iset, card, valency, mapping, fields, Fields, no_field, field_then, sizes}
-use Rattle.xdg_domain.specs.Shapes.{in_a_row, names_of}
-use Rattle.xdg_terms.specs.Forms.{Term, Card, Bindings, Look, with_bound, with_open, constant_of, number_of, card_of, generator_of, bracket_of, constants_of}
-use Rattle.xdg_terms.specs.Forms.{brackets_of, counts_of, pairs_of}
+use Rattle.xdg_domain.specs.Shapes.{Shape, domain, tuple, truth, integer, text, set, iset, card, valency, mapping, fields, Fields, no_field, field_then, sizes, in_a_row, names_of}
+use Rattle.xdg_terms.specs.Forms.{Term, Card, Bindings, Look, with_bound, with_open, constant_of, number_of, card_of, generator_of, bracket_of, constants_of, brackets_of, counts_of, pairs_of}
 use Rattle.xdg_facts.specs.Membership.{In}
+use Rattle.xdg_facts.specs.Onward.{optional}
 
 -- ---- forms
 
@@ -43,10 +42,6 @@ has_form (mapping k u) t = is_some (pairs_of t)
 has_form (fields fs) t = is_some (pairs_of t)
 
 -- ---- what a term of the right form names
-
-abbrev pub one_told : {A : Type 0} → Option A → List A
-one_told None = []
-one_told (Some x) = x ∷ []
 
 abbrev pub all_told : {A : Type 0} → Option (List A) → List A
 all_told None = []
@@ -76,7 +71,7 @@ gen_names = fold-GenKind (List Name) gen_step
 abbrev pub asked_in_set : Shape → Term → List Asked
 asked_in_set (tuple ss) t =
     flat_map (asked_in_turn (d.constants_of ss)) (all_told (brackets_of (length (sizes ss)) t))
-    ++ flat_map (λ gen. asked_in (in_a_row (d.constants_of ss)) (gen_names gen.kind)) (one_told (generator_of t))
+    ++ flat_map (λ gen. asked_in (in_a_row (d.constants_of ss)) (gen_names gen.kind)) (optional (generator_of t))
 asked_in_set s t = asked_in (d.constants s) (all_told (constants_of t))
 
 abbrev pub keys_of : {A : Type 0} → Option (List (Name × A)) → List Name
@@ -84,9 +79,9 @@ keys_of pairs = map (λ pair. pair.0) (all_told pairs)
 
 -- the constants, each with those among which it has to stand
 abbrev pub asked : Shape → Term → List Asked
-asked (domain cs) t = asked_in cs (one_told (constant_of t))
+asked (domain cs) t = asked_in cs (optional (constant_of t))
 asked (tuple ss) t = asked_in_turn (d.constants_of ss) (all_told (bracket_of (length (sizes ss)) t))
-asked truth t = asked_in (codes "true" ∷ codes "false" ∷ []) (one_told (constant_of t))
+asked truth t = asked_in (codes "true" ∷ codes "false" ∷ []) (optional (constant_of t))
 asked (set s) t = asked_in_set s t
 asked (iset s) t = asked_in_set s t
 asked (valency k) t = asked_in (d.constants k) (keys_of (counts_of t))
@@ -111,7 +106,7 @@ known_fields _ = []
 
 -- the cardinalities
 abbrev pub cards : Shape → Term → List Card
-cards card t = one_told (card_of t)
+cards card t = optional (card_of t)
 cards (valency k) t = map (λ pair. pair.1) (all_told (counts_of t))
 cards _ t = []
 

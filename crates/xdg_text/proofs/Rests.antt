@@ -9,7 +9,7 @@ use Rattle.xdg_problem.specs.declared.parts.SentenceWord.{SentenceWord}
 use Rattle.xdg_text.specs.Blocks.{word_lines, node_lines, dim_lines, attr_lines, value_at}
 use Rattle.xdg_text.specs.Lines.{word_line, attr_line}
 use Rattle.xdg_text.specs.Ranges.{HasValues, NodesHaveValues, DimsHaveValues}
-use Rattle.xdg_problem.proofs.FitSteps.{plan_drop}
+use Rattle.xdg_facts.proofs.Lists.{from_place}
 
 -- the lines of the nodes from a place on begin with the line of the node there
 pub words_from : (words : List SentenceWord) (entries : List EntryNo) (i : ℕ) (word : SentenceWord) (entry : EntryNo) → i < length words → i < length entries → word ≡ get_or words i word → entry ≡ get_or entries i entry → word_lines i (drop i words) (drop i entries) ≡ word_line i word.text entry.0 ++ word_lines (i + 1) (drop (i + 1) words) (drop (i + 1) entries)
@@ -61,13 +61,13 @@ nodes_values plan n node values attrs later same rest within has =
 pub dims_from : (n : ℕ) (plans : List DimPlan) (i : ℕ) (plan : DimPlan) (values : List ℕ) (count : ℕ) (later : List ℕ) → i < length plans → plan ≡ get_or plans i plan → count ≡ length plan.attrs → later ≡ drop (n * count) values → attr_lines n (drop i plans) values ≡ dim_lines plan 0 n values ++ attr_lines n (drop (i + 1) plans) later
 dims_from n plans i plan values count later within is size rest =
     let ends : later ≡ drop (n * length plan.attrs) values = rest ∙ ap (λ z. drop (n * z) values) size in
-    ap (λ z. attr_lines n z values) (plan_drop plans i plan within is) ∙ ap (λ z. dim_lines plan 0 n values ++ attr_lines n (drop (i + 1) plans) z) (sym ends)
+    ap (λ z. attr_lines n z values) (from_place plans i plan within is) ∙ ap (λ z. dim_lines plan 0 n values ++ attr_lines n (drop (i + 1) plans) z) (sym ends)
 
 -- the values of the dimensions that are left begin with those of the next one
 pub dims_values : (n : ℕ) (plans : List DimPlan) (i : ℕ) (plan : DimPlan) (values : List ℕ) (count : ℕ) (later : List ℕ) → i < length plans → plan ≡ get_or plans i plan → count ≡ length plan.attrs → later ≡ drop (n * count) values → DimsHaveValues n (drop i plans) values → NodesHaveValues plan.attrs n values × DimsHaveValues n (drop (i + 1) plans) later
 dims_values n plans i plan values count later within is size rest has =
     let ends : later ≡ drop (n * length plan.attrs) values = rest ∙ ap (λ z. drop (n * z) values) size in
-    let both : NodesHaveValues plan.attrs n values × DimsHaveValues n (drop (i + 1) plans) (drop (n * length plan.attrs) values) = subst (λ z. DimsHaveValues n z values) (plan_drop plans i plan within is) has in
+    let both : NodesHaveValues plan.attrs n values × DimsHaveValues n (drop (i + 1) plans) (drop (n * length plan.attrs) values) = subst (λ z. DimsHaveValues n z values) (from_place plans i plan within is) has in
     (both.0, subst (λ z. DimsHaveValues n (drop (i + 1) plans) z) (sym ends) both.1)
 
 sizes : List AttrPlan → List ℕ

@@ -120,11 +120,4 @@ impl Trail {
             }
         }
     }
-
-    /// For how many more records there is room.
-    pub fn spare(&self) -> usize
-        ensures { result ≡ self.now.spare }
-    {
-        self.records.capacity() - self.records.len()
-    }
 }

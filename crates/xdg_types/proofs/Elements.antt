@@ -2,8 +2,8 @@
 use Rattle.std.proofs.Common.{◌≡◌, ◌⊎◌, inl, inr, ℕ, List, [], ◌∷◌, ◌++◌, ap, sym, refl}
 use Rattle.std.proofs.lemmas.Bool.{cases_Bool}
 use Rattle.xdg_ast.specs.declared.names.Name.{Name}
-use Rattle.xdg_names.specs.Texts.{has_text, AllDiffer}
-use Rattle.xdg_names.proofs.Texts.{has_among, not_among, no_text}
+use Rattle.xdg_names.specs.Texts.{has_text}
+use Rattle.xdg_names.proofs.Texts.{has_among, not_among}
 use Rattle.xdg_facts.specs.Membership.{In, Differ}
 use Rattle.xdg_ast.specs.Texts.{texts}
 use Rattle.xdg_facts.proofs.In.{in_map, map_in}
@@ -38,8 +38,3 @@ differ_unless (n ∷ ns) h = (
   λ a. let r = among_part ns n.text a in h (n ∷ r.1.0.before) r.0 r.1.0.after (ap (λ ys. n ∷ ys) r.1.0.parts) (inl (sym r.1.1)),
   differ_unless ns (λ before name after e a. h (n ∷ before) name after (ap (λ ys. n ∷ ys) e) (inr a)),
 )
-
--- texts that differ are found each at its own place
-pub all_differ : (xs : List (List ℕ)) → Differ xs → AllDiffer xs
-all_differ [] h = tt
-all_differ (x ∷ xs) h = (no_text xs x h.0, all_differ xs h.1)

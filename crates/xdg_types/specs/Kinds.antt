@@ -1,16 +1,13 @@
 -- What is wrong with the kinds and the sizes of types.
 use Rattle.std.specs.Prelude.{◌≡◌, ◌⊎◌, ℕ, ◌<◌, ◌+◌, ◌-◌, ◌^◌, min, Bool, true, false, ◌||◌, ◌&&◌, not, List, [], ◌∷◌, ◌++◌, length, flat_map}
-use Rattle.xdg_base.specs.Faults.{fault_at}
-use Rattle.xdg_base.specs.declared.faults.Cause.{Cause}
+use Rattle.xdg_base.specs.Faults.{fault_at, fault_reaching}
 use Rattle.xdg_base.specs.declared.faults.Cause.TheVariants as causes
 use Rattle.xdg_base.specs.declared.faults.Fault.{Fault}
 use Rattle.xdg_ast.specs.declared.names.Name.{Name}
 use Rattle.xdg_ast.specs.declared.grammar.DimPartKind.{DimPartKind}
 use Rattle.xdg_ast.specs.declared.grammar.DimPartKind.TheVariants as p
-use Rattle.xdg_domain.specs.Shapes.{Shape, domain, tuple, set, iset, card, valency, mapping, fields, Shapes, no_shape, shape_then, Fields, no_field, field_then}
-use Rattle.xdg_domain.specs.Shapes.{constants, constants_of, in_a_row, sizes, product}
-use Rattle.xdg_types.specs.Written.{Tree, listed, recorded, tupled, set_of, iset_of, valency_of, map_of, named, Trees, no_tree, tree_then, Members, no_member}
-use Rattle.xdg_types.specs.Written.{member_then, member_names, tree}
+use Rattle.xdg_domain.specs.Shapes.{Shape, domain, tuple, set, iset, card, valency, mapping, fields, Shapes, no_shape, shape_then, Fields, no_field, field_then, constants, constants_of, in_a_row, sizes, product}
+use Rattle.xdg_types.specs.Written.{Tree, listed, recorded, tupled, set_of, iset_of, valency_of, map_of, named, Trees, no_tree, tree_then, Members, no_member, member_then, member_names, tree}
 use Rattle.xdg_types.specs.Parts.{Statement, dimensions, used_places}
 use Rattle.xdg_types.specs.Meaning.{meaning, domains_meaning, as_domain}
 use Rattle.xdg_facts.specs.Membership.{In}
@@ -141,28 +138,25 @@ pub record IsWrongKind (names : List ℕ → Shape) (site : Site) (f : Fault) : 
   pub kind : (is_of_kind site.wanted (meaning names site.written) ≡ false) ⊎ (has_no_field site.written ≡ true)
   pub fault : f ≡ fault_at causes.WrongKind site.at
 
-abbrev pub reaching : Cause → ℕ → ℕ → Fault
-reaching cause place reached = record { cause = cause; at = place; reached = reached }
-
 -- a domain that is written out has more than 64 constants
 pub record IsTooBig (site : Site) (f : Fault) : Type 0 where
   pub constants : List Name
   pub is : site.written ≡ listed constants
   pub many : 64 < length constants
-  pub fault : f ≡ reaching causes.DomainTooBig site.at (length constants)
+  pub fault : f ≡ fault_reaching causes.DomainTooBig site.at (length constants)
 
 -- there are more than 32 labels
 pub record HasManyLabels (names : List ℕ → Shape) (site : Site) (f : Fault) : Type 0 where
   pub wanted : site.wanted ≡ the_labels
   pub many : 32 < length (constants (as_domain (meaning names site.written)))
-  pub fault : f ≡ reaching causes.TooWide site.at (length (constants (as_domain (meaning names site.written))))
+  pub fault : f ≡ fault_reaching causes.TooWide site.at (length (constants (as_domain (meaning names site.written))))
 
 -- a tuple type has more than 1,024 tuples; the number reached stops at the greatest of 64 bits
 pub record HasManyTuples (names : List ℕ → Shape) (site : Site) (f : Fault) : Type 0 where
   pub members : Trees
   pub is : site.written ≡ tupled members
   pub many : 1024 < product (sizes (domains_meaning names members))
-  pub fault : f ≡ reaching causes.TooWide site.at (min (product (sizes (domains_meaning names members))) (2 ^ 64 - 1))
+  pub fault : f ≡ fault_reaching causes.TooWide site.at (min (product (sizes (domains_meaning names members))) (2 ^ 64 - 1))
 
 -- the constants of the fields up to one, and that field
 abbrev pub Split : Trees → Trees → ℕ → Tree → Trees → Type 0
@@ -198,7 +192,7 @@ HasOther (field_then name u fs) = (is_attribute (as_domain u) ≡ false) ⊎ Has
 
 -- the same of a record that is given by name
 abbrev pub NamedOffends : ℕ → Shape → Fault → Type 0
-NamedOffends at (fields fs) f = ((8 < field_count fs) × (f ≡ reaching causes.TooWide at 9)) ⊎ (HasOther fs × (f ≡ fault_at causes.WrongKind at))
+NamedOffends at (fields fs) f = ((8 < field_count fs) × (f ≡ fault_reaching causes.TooWide at 9)) ⊎ (HasOther fs × (f ≡ fault_at causes.WrongKind at))
 NamedOffends at _ f = ⊥
 
 -- The record of the attributes has more than eight fields, or, given by name, a field that is no type of an attribute.
@@ -207,7 +201,7 @@ abbrev pub AttributesOffend : (List ℕ → Shape) → ℕ → Tree → Fault �
 AttributesOffend names at (recorded ms) f =
     (before : List Name)
     × ((ninth : Name)
-    × ((after : List Name) × ((member_names ms ≡ before ++ ninth ∷ after) × ((length before ≡ 8) × (f ≡ reaching causes.TooWide ninth.span.start 9)))))
+    × ((after : List Name) × ((member_names ms ≡ before ++ ninth ∷ after) × ((length before ≡ 8) × (f ≡ fault_reaching causes.TooWide ninth.span.start 9)))))
 AttributesOffend names at (named name) f = NamedOffends at (names name.text) f
 AttributesOffend names at _ f = ⊥
 
@@ -222,7 +216,7 @@ pub record IsNinthDimension (statements : List Statement) (f : Fault) : Type 0 w
   pub after : List ℕ
   pub parts : used_places statements ≡ before ++ ninth ∷ after
   pub eight : length before ≡ 8
-  pub fault : f ≡ reaching causes.TooWide ninth 9
+  pub fault : f ≡ fault_reaching causes.TooWide ninth 9
 
 abbrev pub SiteOffends : (List ℕ → Shape) → Site → Fault → Type 0
 SiteOffends names site f =

@@ -1,9 +1,7 @@
 -- What written types mean.
 use Rattle.std.specs.Prelude.{◌≡◌, ℕ, List, []}
-use Rattle.xdg_domain.specs.Shapes.{Shape, domain, tuple, truth, integer, text, set, iset, card, valency, mapping, fields, Shapes, no_shape, shape_then, Fields}
-use Rattle.xdg_domain.specs.Shapes.{no_field, field_then}
-use Rattle.xdg_types.specs.Written.{Tree, nothing, listed, recorded, tupled, set_of, iset_of, valency_of, map_of, a_card, a_bool, an_int, a_string, named}
-use Rattle.xdg_types.specs.Written.{Trees, no_tree, tree_then, Members, no_member, member_then, tree}
+use Rattle.xdg_domain.specs.Shapes.{Shape, domain, tuple, truth, integer, text, set, iset, card, valency, mapping, fields, Shapes, no_shape, shape_then, Fields, no_field, field_then}
+use Rattle.xdg_types.specs.Written.{Tree, nothing, listed, recorded, tupled, set_of, iset_of, valency_of, map_of, a_card, a_bool, an_int, a_string, named, Trees, no_tree, tree_then, Members, no_member, member_then, tree}
 use Rattle.xdg_types.specs.Parts.{Statement, Definition, definitions, defined_names}
 use Rattle.xdg_facts.specs.Membership.{In}
 use Rattle.xdg_ast.specs.Texts.{texts}

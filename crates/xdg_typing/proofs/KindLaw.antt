@@ -7,7 +7,8 @@ use Rattle.xdg_domain.specs.Shapes.{Shape}
 use Rattle.xdg_names.specs.First.{Tells, first, earlier}
 use Rattle.xdg_names.proofs.Listing.{lists_tell}
 use Rattle.xdg_types.specs.Parts.{Statement, used_places}
-use Rattle.xdg_types.specs.Kinds.{sites, reaching, IsNinthDimension, SiteOffends, KindOffends}
+use Rattle.xdg_types.specs.Kinds.{sites, IsNinthDimension, SiteOffends, KindOffends}
+use Rattle.xdg_base.specs.Faults.{fault_reaching}
 use Rattle.xdg_typing.specs.KindFaults.{site_faults, faults_in, ninth_use_faults, all_faults}
 use Rattle.xdg_typing.proofs.KindRows.{all_site}
 use Rattle.xdg_typing.proofs.Walked.{joined}
@@ -15,7 +16,7 @@ use Rattle.xdg_facts.specs.Membership.{In}
 use Rattle.xdg_facts.proofs.Parts.{Lists, lists_both, lists_each}
 use Rattle.xdg_facts.proofs.Fronts.{place_between, parts_between}
 
-ninth_use : (found : Option ℕ) (f : Fault) → In (ninth_use_faults found) f → (place : ℕ) × ((found ≡ Some place) × (f ≡ reaching causes.TooWide place 9))
+ninth_use : (found : Option ℕ) (f : Fault) → In (ninth_use_faults found) f → (place : ℕ) × ((found ≡ Some place) × (f ≡ fault_reaching causes.TooWide place 9))
 ninth_use None f h = absurd h
 ninth_use (Some place) f h = elim h [ inl e ↦ (place, (refl, sym e)) | inr k ↦ absurd k ]
 

@@ -1,13 +1,13 @@
 -- The faults of one type are those of the rules.
 use Rattle.std.proofs.Common.{◌≡◌, ◌⊎◌, inl, inr, ℕ, ◌<◌, ◌-◌, ◌^◌, List, ◌++◌, length, refl, sym, subst, append_assoc}
 use Rattle.std.specs.Prelude.{min, not, ◌&&◌}
-use Rattle.xdg_base.specs.Faults.{fault_at}
+use Rattle.xdg_base.specs.Faults.{fault_at, fault_reaching}
 use Rattle.xdg_base.specs.declared.faults.Cause.TheVariants as causes
 use Rattle.xdg_base.specs.declared.faults.Fault.{Fault}
 use Rattle.xdg_domain.specs.Shapes.{Shape, constants, sizes, product}
 use Rattle.xdg_types.specs.Written.{Tree, listed, tupled, Trees}
 use Rattle.xdg_types.specs.Meaning.{meaning, domains_meaning, as_domain}
-use Rattle.xdg_types.specs.Kinds.{Wanted, the_labels, Site, is_of_kind, has_no_field, reaching, IsWrongKind, IsTooBig, HasManyLabels, HasManyTuples, SharesConstant, HasWrongAttributes, SiteOffends}
+use Rattle.xdg_types.specs.Kinds.{Wanted, the_labels, Site, is_of_kind, has_no_field, IsWrongKind, IsTooBig, HasManyLabels, HasManyTuples, SharesConstant, HasWrongAttributes, SiteOffends}
 use Rattle.xdg_typing.specs.KindFaults.{kind_faults, big_faults, label_faults, wide_faults, attributes_faults, shared_faults, site_faults}
 use Rattle.xdg_facts.proofs.Parts.{Lists, lists_as, lists_both, lists_unless}
 use Rattle.xdg_typing.proofs.RecordRows.{above_limit, all_attributes}
@@ -27,29 +27,29 @@ module _ (names : List ℕ → Shape) (site : Site) where
       (λ f. (λ r. record { kind = either_off right fieldless r.0; fault = sym r.1 }, λ h. (off_either right fieldless h.kind, sym h.fault)))
 
   big_sound : (t : Tree) → site.written ≡ t → (f : Fault) → In (big_faults site.at t) f → IsTooBig site f
-  big_sound (listed cs) is f h = let r = (above_limit 64 (length cs) (reaching causes.DomainTooBig site.at (length cs))).sound f h in record { constants = cs; is = is; many = r.0; fault = r.1 }
+  big_sound (listed cs) is f h = let r = (above_limit 64 (length cs) (fault_reaching causes.DomainTooBig site.at (length cs))).sound f h in record { constants = cs; is = is; many = r.0; fault = r.1 }
   big_sound t is f h = absurd h
 
   all_big : Lists (big_faults site.at site.written) (IsTooBig site)
   all_big = record {
     sound = big_sound site.written refl;
-    complete = λ f h. subst (λ t. In (big_faults site.at t) f) (sym h.is) ((above_limit 64 (length h.constants) (reaching causes.DomainTooBig site.at (length h.constants))).complete f (h.many, h.fault));
+    complete = λ f h. subst (λ t. In (big_faults site.at t) f) (sym h.is) ((above_limit 64 (length h.constants) (fault_reaching causes.DomainTooBig site.at (length h.constants))).complete f (h.many, h.fault));
   }
 
   labels_sound : (wanted : Wanted) → site.wanted ≡ wanted → (f : Fault) → In (label_faults wanted site.at count) f → HasManyLabels names site f
-  labels_sound the_labels is f h = let r = (above_limit 32 count (reaching causes.TooWide site.at count)).sound f h in record { wanted = is; many = r.0; fault = r.1 }
+  labels_sound the_labels is f h = let r = (above_limit 32 count (fault_reaching causes.TooWide site.at count)).sound f h in record { wanted = is; many = r.0; fault = r.1 }
   labels_sound wanted is f h = absurd h
 
   all_labels : Lists (label_faults site.wanted site.at count) (HasManyLabels names site)
   all_labels = record {
     sound = labels_sound site.wanted refl;
-    complete = λ f h. subst (λ w. In (label_faults w site.at count) f) (sym h.wanted) ((above_limit 32 count (reaching causes.TooWide site.at count)).complete f (h.many, h.fault));
+    complete = λ f h. subst (λ w. In (label_faults w site.at count) f) (sym h.wanted) ((above_limit 32 count (fault_reaching causes.TooWide site.at count)).complete f (h.many, h.fault));
   }
 
   -- of so many tuples
   too_wide : (ts : Trees)
-      → Lists (wide_faults names site.at (tupled ts)) (λ f. (1024 < product (sizes (domains_meaning names ts))) × (f ≡ reaching causes.TooWide site.at (min (product (sizes (domains_meaning names ts))) (2 ^ 64 - 1))))
-  too_wide ts = let n = product (sizes (domains_meaning names ts)) in above_limit 1024 n (reaching causes.TooWide site.at (min n (2 ^ 64 - 1)))
+      → Lists (wide_faults names site.at (tupled ts)) (λ f. (1024 < product (sizes (domains_meaning names ts))) × (f ≡ fault_reaching causes.TooWide site.at (min (product (sizes (domains_meaning names ts))) (2 ^ 64 - 1))))
+  too_wide ts = let n = product (sizes (domains_meaning names ts)) in above_limit 1024 n (fault_reaching causes.TooWide site.at (min n (2 ^ 64 - 1)))
 
   wide_sound : (t : Tree) → site.written ≡ t → (f : Fault) → In (wide_faults names site.at t) f → HasManyTuples names site f
   wide_sound (tupled ts) is f h = let r = (too_wide ts).sound f h in record { members = ts; is = is; many = r.0; fault = r.1 }

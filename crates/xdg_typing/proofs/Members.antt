@@ -14,7 +14,8 @@ use Rattle.xdg_domain.specs.Shapes.{Shape}
 use Rattle.xdg_types.specs.Written.{member_names, tree}
 use Rattle.xdg_types.specs.Parts.{TypeTerm, keys}
 use Rattle.xdg_types.specs.Meaning.{meaning, fields_meaning}
-use Rattle.xdg_types.specs.Kinds.{reaching, field_count}
+use Rattle.xdg_types.specs.Kinds.{field_count}
+use Rattle.xdg_base.specs.Faults.{fault_reaching}
 use Rattle.xdg_typing.specs.KindFaults.{members, ninth_name_faults, has_other, wide_record_faults, other_faults, named_faults}
 use Rattle.xdg_typing.proofs.Layers.{tree_rec}
 
@@ -32,7 +33,7 @@ name_at : (fields : Fields) (k : ℕ) → slice_get (member_names (members field
 name_at fields k = ap (λ names. slice_get names k) (members_named fields) ∙ slice_get-map key_of fields k
 
 pub ninth_found : (fields : Fields) (field : Pair TypeTerm) → 8 < length fields → field ≡ get_or fields 8 field
-    → Some (reaching causes.TooWide field.key.span.start 9) ≡ first (ninth_name_faults (slice_get (member_names (members fields)) 8))
+    → Some (fault_reaching causes.TooWide field.key.span.start 9) ≡ first (ninth_name_faults (slice_get (member_names (members fields)) 8))
 ninth_found fields field within is =
     let e : slice_get (member_names (members fields)) 8 ≡ Some field.key = name_at fields 8 ∙ ap (option_map key_of) (slice_get_read fields (length fields) 8 field refl within is) in
     sym (ap (λ name. first (ninth_name_faults name)) e)

@@ -1,5 +1,5 @@
 -- A grammar has one table or one first fault.
-use Rattle.std.proofs.Common.{◌≡◌, inl, inr, ℕ, List, [], ◌∷◌, length, Option, Some, Ok, Err, refl, sym, ap, ap₂, ◌∙◌, subst, arith}
+use Rattle.std.proofs.Common.{◌≡◌, inl, inr, ℕ, List, [], ◌∷◌, length, Some, Ok, Err, refl, sym, ap, ap₂, ◌∙◌, subst, arith}
 use Rattle.std.proofs.Math.Path.{fun_ext}
 use Rattle.std.proofs.lemmas.List.{length-map}
 use Rattle.std.proofs.lemmas.Option.{slice_get_within}
@@ -11,22 +11,19 @@ use Rattle.xdg_base.specs.declared.faults.Stop.TheVariants as stops
 use Rattle.xdg_domain.specs.Shapes.{Shape}
 use Rattle.xdg_names.specs.First.{Tells as TellsFault}
 use Rattle.xdg_names.proofs.One.{one_first}
-use Rattle.xdg_names.specs.Texts.{place_of, AllDiffer}
+use Rattle.xdg_names.specs.Texts.{place_of}
 use Rattle.xdg_names.proofs.Texts.{place_of-at}
 use Rattle.xdg_types.specs.declared.table.DimType.{DimType}
 use Rattle.xdg_types.specs.Parts.{Statement, Dimension, dimensions, dim_names, used_names}
 use Rattle.xdg_types.specs.Names.{NameOffends, once}
 use Rattle.xdg_types.specs.Kinds.{KindOffends}
 use Rattle.xdg_types.specs.Table.{Table, IsDim, AreDims, AreUsed, IsTableOf}
-use Rattle.xdg_types.specs.Answers.{CycleOffends, HasTable, Refuses, Tells}
-use Rattle.xdg_types.specs.Answers.{IsAnswer}
+use Rattle.xdg_types.specs.Answers.{CycleOffends, HasTable, Refuses, Tells, IsAnswer}
 use Rattle.xdg_base.specs.Told.{Gives}
-use Rattle.xdg_types.proofs.Made.{names_in}
+use Rattle.xdg_types.proofs.Made.{names_in, names_made}
 use Rattle.xdg_types.proofs.NamesAgain.{once_differ}
 use Rattle.xdg_typing.proofs.OneShape.{one_typed}
 use Rattle.xdg_typing.proofs.RightTable.{named_at}
-use Rattle.xdg_types.proofs.Elements.{all_differ}
-use Rattle.xdg_types.proofs.Made.{names_made}
 use Rattle.xdg_facts.specs.Membership.{Differ}
 use Rattle.xdg_ast.specs.Texts.{texts}
 use Rattle.xdg_facts.proofs.Options.{one_value}
@@ -50,13 +47,13 @@ one_list names _ _ _ h k = absurd k
 -- ---- the places of the used ones
 
 -- the dimension of that name stands at this place alone
-placed : (dims : List DimType) → AllDiffer (names_in dims) → (text : List ℕ) (k : ℕ) (dim : DimType) → slice_get dims k ≡ Some dim → dim.name ≡ text → place_of (names_in dims) text ≡ Some k
+placed : (dims : List DimType) → Differ (names_in dims) → (text : List ℕ) (k : ℕ) (dim : DimType) → slice_get dims k ≡ Some dim → dim.name ≡ text → place_of (names_in dims) text ≡ Some k
 placed dims apart text k dim there named =
     let within = slice_get_within dims k dim there in
     let len : length (names_in dims) ≡ length dims = length-map dims (λ d. d.name) in
     ap (place_of (names_in dims)) (sym (named_at dims k dim there ∙ named)) ∙ place_of-at (names_in dims) k apart (omega (arith, within, len))
 
-one_used : (dims : List DimType) → AllDiffer (names_in dims) → (names : List Name) (js ks : List ℕ) → AreUsed dims names js → AreUsed dims names ks → js ≡ ks
+one_used : (dims : List DimType) → Differ (names_in dims) → (names : List Name) (js ks : List ℕ) → AreUsed dims names js → AreUsed dims names ks → js ≡ ks
 one_used dims apart [] [] [] h u = refl
 one_used dims apart [] (j ∷ js) ks h u = absurd h
 one_used dims apart (name ∷ names) [] ks h u = absurd h
@@ -74,7 +71,7 @@ module _ (statements : List Statement) where
   one_made : (names : List ℕ → Shape) (a b : Table) → Differ (texts (dim_names statements)) → IsTableOf names statements a → IsTableOf names statements b → a ≡ b
   one_made names a b differ h k =
       let dims : a.dims ≡ b.dims = one_list names (dimensions statements) a.dims b.dims h.dims k.dims in
-      let apart : AllDiffer (names_in b.dims) = all_differ (names_in b.dims) (subst Differ (sym (names_made names (dimensions statements) b.dims k.dims)) differ) in
+      let apart : Differ (names_in b.dims) = subst Differ (sym (names_made names (dimensions statements) b.dims k.dims)) differ in
       let used : a.used ≡ b.used = one_used b.dims apart (used_names statements) a.used b.used (subst (λ ds. AreUsed ds (used_names statements) a.used) dims h.used) k.used in
       ap (λ z. record { dims = z; used = a.used }) dims ∙ ap (λ z. record { dims = b.dims; used = z }) used
 

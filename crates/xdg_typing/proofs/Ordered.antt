@@ -18,7 +18,6 @@ use Rattle.xdg_types.specs.Meaning.{Resolves, meaning, IsHead}
 use Rattle.xdg_typing.specs.Heads.{Agrees, NamesFirst, Knows, RightBefore}
 use Rattle.xdg_typing.specs.Answers.{IsRanked}
 use Rattle.xdg_typing.specs.Weights.{Weighs, UsesFirst, WeighedBefore, looked, weight_of, leaf}
-use Rattle.xdg_types.proofs.Elements.{all_differ}
 use Rattle.xdg_facts.specs.Membership.{In, Differ}
 use Rattle.xdg_facts.proofs.Lists.{some_at, fused}
 use Rattle.xdg_facts.proofs.In.{in_get, in_index, in_flat_map, flat_map_in}
@@ -91,7 +90,7 @@ module _ (statements : List Statement) where
 
     module _ (apart : Differ known) where
       place_at : (a : ℕ) → a < length ds → (d : Definition) → place_of known (get_or ds a d).name.text ≡ Some a
-      place_at a h d = subst (λ t. place_of known t ≡ Some a) (known_at a h d) (place_of-at known a (all_differ known apart) (omega (arith, h, known_len)))
+      place_at a h d = subst (λ t. place_of known t ≡ Some a) (known_at a h d) (place_of-at known a apart (omega (arith, h, known_len)))
 
       pub ranks : IsRanked statements rank
       unfolding rank

@@ -2,7 +2,7 @@
 use Rattle.std.proofs.Common.{◌≡◌, ◌<◌, inl, inr, ℕ, ltb, true, List, [], ◌∷◌, ◌++◌, Option, None, Some, refl, sym, ap, subst, ◌∙◌}
 use Rattle.std.specs.Prelude.{slice_get, not, if◌then◌else◌}
 use Rattle.std.proofs.lemmas.Bool.{or_cases, or_left, or_right, lt-ltb, ltb-true, true≢false}
-use Rattle.xdg_base.specs.Faults.{fault_at}
+use Rattle.xdg_base.specs.Faults.{fault_at, fault_reaching}
 use Rattle.xdg_base.specs.declared.faults.Cause.TheVariants as causes
 use Rattle.xdg_base.specs.declared.faults.Fault.{Fault}
 use Rattle.xdg_ast.specs.declared.names.Name.{Name}
@@ -10,7 +10,7 @@ use Rattle.xdg_domain.specs.Shapes.{Shape, fields, Fields, no_field, field_then}
 use Rattle.xdg_facts.proofs.Parts.{Lists, lists_none, lists_as, lists_both, lists_when}
 use Rattle.xdg_types.specs.Written.{Tree, recorded, named, member_names}
 use Rattle.xdg_types.specs.Meaning.{as_domain}
-use Rattle.xdg_types.specs.Kinds.{Wanted, the_attributes, Site, is_attribute, reaching, field_count, HasOther, NamedOffends, AttributesOffend, HasWrongAttributes}
+use Rattle.xdg_types.specs.Kinds.{Wanted, the_attributes, Site, is_attribute, field_count, HasOther, NamedOffends, AttributesOffend, HasWrongAttributes}
 use Rattle.xdg_typing.specs.KindFaults.{ninth_name_faults, has_other, named_faults, record_faults, attributes_faults}
 use Rattle.xdg_facts.proofs.Truths.{from_not}
 use Rattle.xdg_facts.specs.Membership.{In}
@@ -34,11 +34,11 @@ module _ (names : List ℕ → Shape) where
 
   all_named : (at : ℕ) (s : Shape) → Lists (named_faults at s) (NamedOffends at s)
   all_named at (fields fs) =
-      lists_both (above_limit 8 (field_count fs) (reaching causes.TooWide at 9))
+      lists_both (above_limit 8 (field_count fs) (fault_reaching causes.TooWide at 9))
       (lists_as (lists_when (has_other fs) (fault_at causes.WrongKind at)) (λ f. (λ k. (other_sound fs k.0, sym k.1), λ k. (other_complete fs k.0, sym k.1))))
   all_named at s = lists_none
 
-  ninth_name : (found : Option Name) (f : Fault) → In (ninth_name_faults found) f → (name : Name) × ((found ≡ Some name) × (f ≡ reaching causes.TooWide name.span.start 9))
+  ninth_name : (found : Option Name) (f : Fault) → In (ninth_name_faults found) f → (name : Name) × ((found ≡ Some name) × (f ≡ fault_reaching causes.TooWide name.span.start 9))
   ninth_name None f h = absurd h
   ninth_name (Some name) f h = elim h [ inl e ↦ (name, (refl, sym e)) | inr k ↦ absurd k ]
 

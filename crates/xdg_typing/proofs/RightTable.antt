@@ -4,7 +4,7 @@ use Rattle.std.proofs.lemmas.Bool.{cases_Bool, false≢true}
 use Rattle.std.proofs.lemmas.List.{get_or-map, length-map, length-append}
 use Rattle.std.proofs.lemmas.Option.{get_or_from_slice_get, slice_get_within}
 use Rattle.std.specs.Prelude.{Some, slice_get}
-use Rattle.xdg_base.specs.Faults.{fault_at}
+use Rattle.xdg_base.specs.Faults.{fault_at, fault_reaching}
 use Rattle.xdg_base.specs.declared.faults.Cause.TheVariants as causes
 use Rattle.xdg_ast.specs.declared.names.Name.{Name}
 use Rattle.xdg_ast.specs.declared.grammar.DimPartKind.{DimPartKind}
@@ -17,7 +17,7 @@ use Rattle.xdg_types.specs.declared.table.DimType.{DimType}
 use Rattle.xdg_types.specs.Written.{Tree, nothing, recorded, named, Members, no_member, member_then, member_names, tree, uses, lists}
 use Rattle.xdg_types.specs.Parts.{TypeTerm, DimPart, Statement, Dimension, dimensions, dim_names, type_in, used_name, used_names, used_places, label_type, attrs_type, entry_type, in_parts}
 use Rattle.xdg_types.specs.Meaning.{meaning, fields_meaning, as_domain}
-use Rattle.xdg_types.specs.Kinds.{an_attribute, the_labels, the_attributes, the_features, inside, inside_members, inside_attributes, part_sites, is_record, is_attribute, field_count, HasOther, reaching}
+use Rattle.xdg_types.specs.Kinds.{an_attribute, the_labels, the_attributes, the_features, inside, inside_members, inside_attributes, part_sites, is_record, is_attribute, field_count, HasOther}
 use Rattle.xdg_types.specs.Table.{Typed, typed, typed_fields, fields_in, first_meaning, IsDim, AreDims, AreUsed, firsts, AreAttributes, AreFeatures, KeepsDim, KeepDims, ArePlaces, IsTable}
 use Rattle.xdg_typing.specs.Used.{found, places}
 use Rattle.xdg_typing.specs.Branches.{Naming}
@@ -163,7 +163,7 @@ module _ (names : Naming) where
   few_members : (at : ℕ) (ms : Members) → IsFine names (record { wanted = the_attributes; at = at; written = recorded ms }) → length (member_names ms) ≤ 8
   few_members at ms fine = not_more 8 (length (member_names ms)) (λ h.
       let w = part_at (member_names ms) 8 h in
-      fine (reaching causes.TooWide w.one.span.start 9) (inr (inr (inr (inr (inr (record { wanted = refl; offends = (w.before, (w.one, (w.after, (w.parts, (w.len, refl))))) })))))))
+      fine (fault_reaching causes.TooWide w.one.span.start 9) (inr (inr (inr (inr (inr (record { wanted = refl; offends = (w.before, (w.one, (w.after, (w.parts, (w.len, refl))))) })))))))
 
   -- an equation between records is one between their fields
   same_fields : (fs gs : Fields) → fields fs ≡ fields gs → fs ≡ gs
@@ -171,7 +171,7 @@ module _ (names : Naming) where
 
   few_named : (at : ℕ) (name : Name) → IsFine names (record { wanted = the_attributes; at = at; written = named name }) → FewAttributes (names name.text)
   few_named at name fine fs e = (
-    not_more 8 (field_count fs) (λ h. fine (reaching causes.TooWide at 9) (inr (inr (inr (inr (inr (record { wanted = refl; offends = rw e (inl (h, refl)) }))))))),
+    not_more 8 (field_count fs) (λ h. fine (fault_reaching causes.TooWide at 9) (inr (inr (inr (inr (inr (record { wanted = refl; offends = rw e (inl (h, refl)) }))))))),
     all_unless fs (λ o. fine (fault_at causes.WrongKind at) (inr (inr (inr (inr (inr (record { wanted = refl; offends = rw e (inr (o, refl)) }))))))),
   )
 
@@ -305,7 +305,7 @@ module _ (statements : List Statement) (names : Naming) (right : AreRight statem
   few_used = not_more 8 (length (used_names statements)) (λ h.
       let c = places_count statements in
       let w = part_at (used_places statements) 8 (omega (arith, h, c)) in
-      right.kinds (reaching causes.TooWide w.one 9) (inl (record { before = w.before; ninth = w.one; after = w.after; parts = w.parts; eight = w.len; fault = refl })))
+      right.kinds (fault_reaching causes.TooWide w.one 9) (inl (record { before = w.before; ninth = w.one; after = w.after; parts = w.parts; eight = w.len; fault = refl })))
 
   pub used_are : (dims : List DimType) → AreDims names (dimensions statements) dims → AreUsed dims (used_names statements) (places (names_in dims) (used_names statements))
   used_are dims are = found_are_used dims (used_names statements) (λ name i. subst (λ ts. In ts name.text) (sym (names_made names (dimensions statements) dims are)) (used_is_defined name i))

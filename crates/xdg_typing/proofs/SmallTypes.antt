@@ -6,7 +6,8 @@ use Rattle.std.proofs.lemmas.List.{take_all, append-nil}
 use Rattle.xdg_types.specs.Written.{tree}
 use Rattle.xdg_types.specs.Parts.{TypeTerm}
 use Rattle.xdg_types.specs.Meaning.{meaning}
-use Rattle.xdg_typing.specs.Weights.{capped, weight_of, beside}
+use Rattle.xdg_typing.specs.Weights.{weight_of, beside}
+use Rattle.xdg_facts.specs.Capped.{capped}
 use Rattle.xdg_typing.proofs.WeightLaws.{beside_capped}
 use Rattle.xdg_typing.specs.Branches.{Naming}
 use Rattle.xdg_typing.specs.Small.{all_parts, weight_of_all}

@@ -5,7 +5,8 @@ use Rattle.xdg_ast.specs.declared.names.Name.{Name}
 use Rattle.xdg_domain.specs.Shapes.{Shape, text, fields, no_field, field_then}
 use Rattle.xdg_types.specs.Written.{Tree, listed, recorded, tupled, set_of, iset_of, valency_of, map_of, named, Trees, no_tree, tree_then, Members, no_member, member_then, uses, uses_in_trees, uses_in_members}
 use Rattle.xdg_types.specs.Meaning.{meaning, domains_meaning, fields_meaning, as_domain}
-use Rattle.xdg_typing.specs.Weights.{parts, parts_of, parts_in, capped, weight_of, beside, held, weighed, beside_trees, beside_members, named_weight, Weighs}
+use Rattle.xdg_typing.specs.Weights.{parts, parts_of, parts_in, weight_of, beside, held, weighed, beside_trees, beside_members, named_weight, Weighs}
+use Rattle.xdg_facts.specs.Capped.{capped}
 use Rattle.xdg_facts.proofs.Numbers.{below_one}
 use Rattle.xdg_facts.specs.Membership.{In}
 use Rattle.xdg_facts.proofs.In.{in_left, in_right}

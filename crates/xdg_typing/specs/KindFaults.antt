@@ -1,7 +1,6 @@
--- What is wrong with the kinds and the sizes of types, as lists of faults.
-use Rattle.std.specs.Prelude.{ℕ, ◌-◌, ◌^◌, min, Bool, true, false, ◌&&◌, ◌||◌, not, ltb, if◌then◌else◌, List, [], ◌∷◌, ◌++◌, length, flat_map, slice_get}
-use Rattle.std.specs.Prelude.{Option, None, Some}
-use Rattle.xdg_base.specs.Faults.{fault_at}
+-- What is wrong with the kinds and the sizes of types, as lists of faults in the order in which the code comes to them.
+use Rattle.std.specs.Prelude.{ℕ, ◌-◌, ◌^◌, min, Bool, true, false, ◌&&◌, ◌||◌, not, ltb, if◌then◌else◌, List, [], ◌∷◌, ◌++◌, length, flat_map, slice_get, Option, None, Some}
+use Rattle.xdg_base.specs.Faults.{fault_at, fault_reaching}
 use Rattle.xdg_base.specs.declared.faults.Cause.TheVariants as causes
 use Rattle.xdg_base.specs.declared.faults.Fault.{Fault}
 use Rattle.xdg_ast.specs.declared.names.Name.{Name}
@@ -11,12 +10,10 @@ use Rattle.xdg_domain.specs.Shapes.{Shape, fields, Fields, no_field, field_then,
 use Rattle.xdg_names.specs.Texts.{has_text}
 use Rattle.xdg_typing.specs.declared.wanted.Wanted.{Wanted as Asked}
 use Rattle.xdg_typing.specs.declared.wanted.Wanted.TheVariants as w
-use Rattle.xdg_types.specs.Written.{Tree, nothing, listed, recorded, tupled, set_of, iset_of, valency_of, map_of, a_card, a_bool, an_int, a_string, named}
-use Rattle.xdg_types.specs.Written.{Trees, no_tree, tree_then, member_names, tree}
+use Rattle.xdg_types.specs.Written.{Tree, nothing, listed, recorded, tupled, set_of, iset_of, valency_of, map_of, a_card, a_bool, an_int, a_string, named, Trees, no_tree, tree_then, member_names, tree}
 use Rattle.xdg_types.specs.Parts.{Statement, used_places}
 use Rattle.xdg_types.specs.Meaning.{meaning, domains_meaning, as_domain}
-use Rattle.xdg_types.specs.Kinds.{Wanted, anything, a_domain, a_small, a_mapped, an_attribute, the_labels, the_attributes, the_features, Site, sites}
-use Rattle.xdg_types.specs.Kinds.{is_of_kind, is_attribute, has_no_field, reaching, field_count}
+use Rattle.xdg_types.specs.Kinds.{Wanted, anything, a_domain, a_small, a_mapped, an_attribute, the_labels, the_attributes, the_features, Site, sites, is_of_kind, is_attribute, has_no_field, field_count}
 use Rattle.xdg_types.specs.NameFaults.{repeated, with_text}
 pub use Rattle.xdg_types.proofs.Treed.{trees, members}
 
@@ -103,17 +100,17 @@ abbrev pub kind_faults : (List ℕ → Shape) → Wanted → ℕ → Tree → Li
 kind_faults names wanted at t = wrong_faults at (is_of_kind wanted (meaning names t)) (has_no_field t)
 
 abbrev pub big_faults : ℕ → Tree → List Fault
-big_faults at (listed constants) = if ltb 64 (length constants) then reaching causes.DomainTooBig at (length constants) ∷ [] else []
+big_faults at (listed constants) = if ltb 64 (length constants) then fault_reaching causes.DomainTooBig at (length constants) ∷ [] else []
 big_faults at _ = []
 
 -- of so many labels
 abbrev pub label_faults : Wanted → ℕ → ℕ → List Fault
-label_faults the_labels at count = if ltb 32 count then reaching causes.TooWide at count ∷ [] else []
+label_faults the_labels at count = if ltb 32 count then fault_reaching causes.TooWide at count ∷ [] else []
 label_faults _ at count = []
 
 -- of so many tuples
 abbrev pub tuple_faults : ℕ → ℕ → List Fault
-tuple_faults at count = if ltb 1024 count then reaching causes.TooWide at (min count (2 ^ 64 - 1)) ∷ [] else []
+tuple_faults at count = if ltb 1024 count then fault_reaching causes.TooWide at (min count (2 ^ 64 - 1)) ∷ [] else []
 
 abbrev pub wide_faults : (List ℕ → Shape) → ℕ → Tree → List Fault
 wide_faults names at (tupled ts) = tuple_faults at (product (sizes (domains_meaning names ts)))
@@ -152,7 +149,7 @@ shared_faults names _ = []
 -- more than eight of them
 abbrev pub ninth_name_faults : Option Name → List Fault
 ninth_name_faults None = []
-ninth_name_faults (Some name) = reaching causes.TooWide name.span.start 9 ∷ []
+ninth_name_faults (Some name) = fault_reaching causes.TooWide name.span.start 9 ∷ []
 
 abbrev pub has_other : Fields → Bool
 has_other no_field = false
@@ -160,7 +157,7 @@ has_other (field_then name u fs) = not (is_attribute (as_domain u)) || has_other
 
 -- of so many fields
 abbrev pub wide_record_faults : ℕ → ℕ → List Fault
-wide_record_faults at count = if ltb 8 count then reaching causes.TooWide at 9 ∷ [] else []
+wide_record_faults at count = if ltb 8 count then fault_reaching causes.TooWide at 9 ∷ [] else []
 
 abbrev pub other_faults : ℕ → Bool → List Fault
 other_faults at others = if others then fault_at causes.WrongKind at ∷ [] else []
@@ -196,7 +193,7 @@ faults_in names = flat_map (site_faults names)
 -- a ninth dimension is used
 abbrev pub ninth_use_faults : Option ℕ → List Fault
 ninth_use_faults None = []
-ninth_use_faults (Some place) = reaching causes.TooWide place 9 ∷ []
+ninth_use_faults (Some place) = fault_reaching causes.TooWide place 9 ∷ []
 
 abbrev pub all_faults : (List ℕ → Shape) → List Statement → List Fault
 all_faults names statements = ninth_use_faults (slice_get (used_places statements) 8) ++ faults_in names (sites statements)

@@ -8,8 +8,7 @@ use Rattle.xdg_ast.specs.declared.grammar.StatementKind.{StatementKind}
 use Rattle.xdg_ast.specs.declared.grammar.DimPartKind.{DimPartKind}
 use Rattle.xdg_typing.specs.declared.singles.Stood.{Stood}
 use Rattle.xdg_types.specs.Written.{tree, uses, lists}
-use Rattle.xdg_types.specs.Parts.{TypeTerm, DimPart, Statement, Dimension, dimension, dimensions, definition, definitions_in, dim_names, used_names}
-use Rattle.xdg_types.specs.Parts.{defined_names, in_parts, type_in}
+use Rattle.xdg_types.specs.Parts.{TypeTerm, DimPart, Statement, Dimension, dimension, dimensions, definition, definitions_in, dim_names, used_names, defined_names, in_parts, type_in}
 use Rattle.xdg_types.specs.Names.{Single, the_labels, the_attributes, the_features, single}
 use Rattle.xdg_types.specs.NameFaults.{unknown, repeats, different}
 

@@ -7,7 +7,8 @@ use Rattle.xdg_ast.specs.declared.grammar.StatementKind.TheVariants as s
 use Rattle.xdg_types.specs.Written.{tree}
 use Rattle.xdg_types.specs.Parts.{TypeTerm, DimPart, Statement}
 use Rattle.xdg_types.specs.Meaning.{meaning}
-use Rattle.xdg_typing.specs.Weights.{parts, capped}
+use Rattle.xdg_typing.specs.Weights.{parts}
+use Rattle.xdg_facts.specs.Capped.{capped}
 use Rattle.xdg_typing.specs.Branches.{Naming}
 
 -- the type of labels, attributes or features that a part of a dimension gives

@@ -1,12 +1,12 @@
 -- How many parts types have, names followed, and how they are counted.
-use Rattle.std.specs.Prelude.{◌≡◌, ℕ, ◌<◌, ◌+◌, ◌-◌, ◌^◌, min, List, [], length, get_or, slice_index_or, Option, None, Some}
+use Rattle.std.specs.Prelude.{◌≡◌, ℕ, ◌<◌, ◌+◌, List, [], length, get_or, slice_index_or, Option, None, Some}
 use Rattle.xdg_ast.specs.declared.names.Name.{Name}
 use Rattle.xdg_domain.specs.Shapes.{Shape, domain, tuple, set, iset, valency, mapping, fields, Shapes, no_shape, shape_then, Fields, no_field, field_then}
 use Rattle.xdg_names.specs.Texts.{place_of}
-use Rattle.xdg_types.specs.Written.{Tree, listed, recorded, tupled, set_of, iset_of, valency_of, map_of, named, Trees, no_tree, tree_then, Members, no_member}
-use Rattle.xdg_types.specs.Written.{member_then, uses, tree}
+use Rattle.xdg_types.specs.Written.{Tree, listed, recorded, tupled, set_of, iset_of, valency_of, map_of, named, Trees, no_tree, tree_then, Members, no_member, member_then, uses, tree}
 use Rattle.xdg_types.specs.Parts.{TypeTerm}
 use Rattle.xdg_facts.specs.Membership.{In}
+use Rattle.xdg_facts.specs.Capped.{capped}
 
 -- ---- types without names
 
@@ -31,10 +31,6 @@ abbrev mutual
   parts_in (field_then name u fs) = parts u + parts_in fs
 
 -- ---- as they are counted
-
--- A count stops at the greatest number of its width.
-abbrev pub capped : ℕ → ℕ
-capped n = min n (2 ^ 64 - 1)
 
 -- the weight of a type: its parts, as they are counted
 abbrev pub weight_of : Shape → ℕ

@@ -1,6 +1,5 @@
-use Rattle.std.proofs.Common.{◌∙◌, ap₂}
+use Rattle.std.proofs.Common.{◌∙◌, ap₂, List, ℕ}
 use Rattle.xdg_types.specs.declared.table.DimType.{DimType}
-use Rattle.std.proofs.Common.{List, ℕ}
 use Rattle.xdg_best.specs.Naming.{place_named}
 use Rattle.xdg_best.proofs.Named.{small_dim}
 use Rattle.xdg_best.proofs.naming.dim_number.Goals as goal

@@ -1,7 +1,6 @@
 use Rattle.xdg_best.proofs.Searched.{found_round, end_round, spent_round}
 use Rattle.xdg_best.proofs.searching.first_of.Goals as goal
-use Rattle.std.proofs.Common.{subst, sym}
-use Rattle.std.proofs.Common.{ℕ}
+use Rattle.std.proofs.Common.{subst, sym, ℕ}
 use Rattle.xdg_best.specs.Rounds.{Finds}
 
 pub returns-in_ok-analysis-in-Found : goal.returns-in_ok-analysis-in-Found

@@ -2,13 +2,14 @@ use Rattle.std.proofs.Common.{◌≡◌, ◌≤◌, ◌+◌, ◌*◌, ◌-◌, �
 use Rattle.xdg_classes.proofs.Bodied.{trees}
 use Rattle.xdg_check.specs.Counts as spec
 use Rattle.xdg_check.proofs.counting.+combos_in.Given as goal
+use Rattle.xdg_facts.specs.Capped.{capped}
 
 abbrev pub invariant-loop-member : goal.invariant-loop-member
 invariant-loop-member l =
     let names = spec.looked_up (λ c. c.combos) l.names l.classes in
-    (l.sum ≤ 2 ^ 64 - 1) × (spec.capped (l.sum + spec.sum_of_combos names (trees (drop l.member-index l.member-items))) ≡ spec.capped (spec.sum_of_combos names (trees l.member-items)))
+    (l.sum ≤ 2 ^ 64 - 1) × (capped (l.sum + spec.sum_of_combos names (trees (drop l.member-index l.member-items))) ≡ capped (spec.sum_of_combos names (trees l.member-items)))
 
 abbrev pub invariant-loop-member-2 : goal.invariant-loop-member-2
 invariant-loop-member-2 l =
     let names = spec.looked_up (λ c. c.combos) l.names l.classes in
-    (l.product ≤ 2 ^ 64 - 1) × (spec.capped (l.product * spec.product_of_combos names (trees (drop l.member-index l.member-items))) ≡ spec.capped (spec.product_of_combos names (trees l.member-items)))
+    (l.product ≤ 2 ^ 64 - 1) × (capped (l.product * spec.product_of_combos names (trees (drop l.member-index l.member-items))) ≡ capped (spec.product_of_combos names (trees l.member-items)))

@@ -1,10 +1,9 @@
 use Rattle.std.proofs.Common.{◌≡◌, ℕ, ◌<◌, get_or, length, slice_set, Some, arith, sym, ap, ◌∙◌, subst}
-use Rattle.std.specs.Prelude.{slice_get}
+use Rattle.std.specs.Prelude.{slice_get, ◌↔◌, List}
 use Rattle.std.specs.Option.{IfSome}
 use Rattle.std.proofs.lemmas.List.{length-map}
 use Rattle.xdg_classes.specs.Lent.{class_def}
 use Rattle.std.proofs.lemmas.Option.{slice_get-get_or}
-use Rattle.std.specs.Prelude.{◌↔◌, List}
 use Rattle.xdg_domain.specs.Shapes.{Shape}
 use Rattle.xdg_classes.specs.Bodies.{body}
 use Rattle.xdg_classes.specs.Definitions.{classes, param_names}

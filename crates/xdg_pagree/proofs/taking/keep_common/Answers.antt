@@ -1,5 +1,4 @@
-use Rattle.std.proofs.Common.{refl, arith}
-use Rattle.std.proofs.Common.{true, false}
+use Rattle.std.proofs.Common.{refl, arith, true, false}
 use Rattle.xdg_pagree.specs.Places.{LacksOther}
 use Rattle.xdg_graph.specs.Slots.{decision_of}
 use Rattle.xdg_graph.proofs.SlotValues.{slot_below, slot_stays}

@@ -1,5 +1,4 @@
-use Rattle.std.proofs.Common.{refl, arith}
-use Rattle.std.proofs.Common.{true, false}
+use Rattle.std.proofs.Common.{refl, arith, true, false}
 use Rattle.xdg_problem.specs.Boxes.{entry_decision}
 use Rattle.xdg_pagree.specs.Places.{LacksValue}
 use Rattle.xdg_graph.specs.Slots.{decision_of}

@@ -1,6 +1,5 @@
-use Rattle.std.proofs.Common.{ap, ◌∙◌}
+use Rattle.std.proofs.Common.{ap, ◌∙◌, arith}
 use Rattle.xdg_domain.proofs.Masks.{members_are_cards}
-use Rattle.std.proofs.Common.{arith}
 use Rattle.xdg_domain.proofs.cards.CardSet.contains.Goals as goal
 use Rattle.xdg_facts.specs.Rises.{has}
 use Rattle.xdg_facts.proofs.BitMembers.{contains_bits, none_beyond}

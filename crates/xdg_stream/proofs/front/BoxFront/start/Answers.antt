@@ -3,9 +3,8 @@ use Rattle.std.specs.Prelude.{All}
 use Rattle.std.specs.Vec.{vec_capacity}
 use Rattle.xdg_problem.specs.declared.parts.Parts.{Parts}
 use Rattle.xdg_problem.specs.Vectors.{shape}
-use Rattle.xdg_propcore.specs.Uses.{StandsIn}
+use Rattle.xdg_propcore.specs.Uses.{StandsIn, AllStandIn}
 use Rattle.xdg_stream.specs.Fronted.{HasFront}
-use Rattle.xdg_propcore.specs.Uses.{AllStandIn}
 use Rattle.xdg_stream.proofs.Opening.{open_settled, open_dead}
 use Rattle.xdg_stream.specs.Levels.{AllStill, AreAll}
 use Rattle.xdg_stream.proofs.Calming.{calm_none, calm_with}
